@@ -1,0 +1,22 @@
+-- Document 01, "Refused": the number of each word of the table.
+use Prim.Native.Nat.{ℕ}
+use Rattle.refusals.specs.declared.Refusal.{Refusal}
+use Rattle.refusals.specs.declared.Refusal.the-variants.{Short, Tail, Processors, Resources, Entries, Kind, Set, Length, Verb, Tick, Processor, Entry, Busy, Idle, Unheld, Room}
+
+abbrev pub numberOf : Refusal → ℕ
+numberOf Short = 1
+numberOf Tail = 2
+numberOf Processors = 3
+numberOf Resources = 4
+numberOf Entries = 5
+numberOf Kind = 6
+numberOf Set = 7
+numberOf Length = 8
+numberOf Verb = 9
+numberOf Tick = 10
+numberOf Processor = 11
+numberOf Entry = 12
+numberOf Busy = 13
+numberOf Idle = 14
+numberOf Unheld = 15
+numberOf Room = 16
