@@ -1,0 +1,12 @@
+pub mod Flags
+pub mod Verdicts
+pub mod Counted
+pub mod Entries
+pub mod Longest
+pub mod Fits
+pub mod Numbers
+pub mod EntryBytes
+pub mod Faults
+pub mod PlanBytes
+pub mod Accepted
+pub mod RoundTrip

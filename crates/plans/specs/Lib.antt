@@ -1,0 +1,4 @@
+pub mod Acceptance
+pub mod Figures
+pub mod Reading
+pub mod Writing

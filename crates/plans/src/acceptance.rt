@@ -1,0 +1,83 @@
+// Document 01, "Refused", 3 to 8: which plan values are taken.
+use crate::Entry;
+use crate::Plan;
+use crate::Verdict;
+use masks::below64;
+use refusals::Refusal;
+ghost use mathlib.Core.Path.{_≡_};
+ghost use Prim.Native.Nat.{_≤_};
+ghost use lib.ListN.{take};
+ghost use Rattle.plans.specs.Acceptance.{within, countsFault, entryFault, entriesFault, planFault};
+
+// Whether the number is from low to high.
+fn is_within(low: u8, high: u8, number: u8) -> bool
+    ensures { λ r. ⌜ r ≡ within low high number ⌝ }
+{
+    (low <= number) & (number <= high)
+}
+
+// The three counts: 3, 4, 5.
+pub fn check_counts(processors: u8, resources: u8, count: u8) -> Verdict
+    ensures { λ r. ⌜ r ≡ countsFault processors resources count ⌝ }
+{
+    if !is_within(1, 16, processors) {
+        return Verdict::Refused(Refusal::Processors);
+    }
+    if !is_within(1, 64, resources) {
+        return Verdict::Refused(Refusal::Resources);
+    }
+    if !is_within(1, 64, count) {
+        return Verdict::Refused(Refusal::Entries);
+    }
+    Verdict::Accepted
+}
+
+// An entry of a plan with so many resources: 6, 7, 8.
+pub fn check_entry(entry: Entry, resources: u8) -> Verdict
+    ensures { λ r. ⌜ r ≡ entryFault resources entry ⌝ }
+{
+    if 1 < entry.kind {
+        return Verdict::Refused(Refusal::Kind);
+    }
+    if entry.set == 0 {
+        return Verdict::Refused(Refusal::Set);
+    }
+    if !below64(entry.set, resources as u32) {
+        return Verdict::Refused(Refusal::Set);
+    }
+    if entry.length == 0 {
+        return Verdict::Refused(Refusal::Length);
+    }
+    Verdict::Accepted
+}
+
+// The first fault of the counted entries, in their order.
+fn check_entries(entries: [Entry; 64], count: u8, resources: u8) -> Verdict
+    requires { ⌜ count ≤ 64 ⌝ }
+    ensures { λ r. ⌜ r ≡ entriesFault resources (take count entries) ⌝ }
+{
+    let mut i: u8 = 0;
+    loop {
+        if count <= i {
+            break Verdict::Accepted;
+        }
+        let verdict = check_entry(entries[i as usize], resources);
+        match verdict {
+            Verdict::Accepted => {}
+            Verdict::Refused(refusal) => break Verdict::Refused(refusal),
+        }
+        i += 1;
+    }
+}
+
+// Any plan value: "refused there by the same number, 3 to 8". A count above 64 is refused before an entry is looked at.
+pub fn check(plan: Plan) -> Verdict
+    ensures { λ r. ⌜ r ≡ planFault plan ⌝ }
+{
+    let entries = plan.entries;
+    let verdict = check_counts(plan.processors, plan.resources, plan.count);
+    match verdict {
+        Verdict::Accepted => check_entries(entries, plan.count, plan.resources),
+        Verdict::Refused(refusal) => Verdict::Refused(refusal),
+    }
+}
