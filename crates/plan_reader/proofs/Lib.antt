@@ -1,0 +1,4 @@
+pub mod Entries
+pub mod Head
+pub mod Numbers
+pub mod Section
