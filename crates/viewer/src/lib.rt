@@ -1,0 +1,59 @@
+// What a viewer in C calls: plan bytes in, a number out. include/bittmelon.h declares these functions.
+// A refused plan has figures 0, and an accepted one can too: ask for the refusal number first.
+use plans::Outcome;
+ghost use mathlib.Core.Path.{_≡_};
+ghost use Rattle.viewer.specs.Viewer.{numberBy, figureBy, planRefusal, planReadFigure, planWriteFigure};
+
+// 0 where the plan was read, else the refusal's number.
+fn number_of(outcome: Outcome) -> u32
+    ensures { λ r. ⌜ r ≡ numberBy outcome ⌝ }
+{
+    match outcome {
+        Outcome::Bytes(_) => 0,
+        Outcome::Refused(refusal) => refusals::number(refusal) as u32,
+    }
+}
+
+// The figure where the plan was read, else 0.
+fn figure_or_zero(outcome: Outcome, figure: u32) -> u32
+    ensures { λ r. ⌜ r ≡ figureBy outcome figure ⌝ }
+{
+    match outcome {
+        Outcome::Bytes(_) => figure,
+        Outcome::Refused(_) => 0,
+    }
+}
+
+// The refusal number of the plan in the bytes, 0 if it is accepted.
+#[no_mangle]
+pub extern "C" fn bittmelon_plan_refusal(bytes: &[u8]) -> u32
+    ensures { λ r. ⌜ r ≡ planRefusal (now (bytes .entry)) ⌝ }
+{
+    let read = plan_reader::read(bytes);
+    let outcome = read.outcome;
+    number_of(outcome)
+}
+
+// The longest that a read waits, in ticks.
+#[no_mangle]
+pub extern "C" fn bittmelon_read_figure(bytes: &[u8]) -> u32
+    ensures { λ r. ⌜ r ≡ planReadFigure (now (bytes .entry)) ⌝ }
+{
+    let read = plan_reader::read(bytes);
+    let outcome = read.outcome;
+    let plan = read.plan;
+    let figures = plans::figures_of(plan);
+    figure_or_zero(outcome, figures.read)
+}
+
+// The longest that a write waits, in ticks.
+#[no_mangle]
+pub extern "C" fn bittmelon_write_figure(bytes: &[u8]) -> u32
+    ensures { λ r. ⌜ r ≡ planWriteFigure (now (bytes .entry)) ⌝ }
+{
+    let read = plan_reader::read(bytes);
+    let outcome = read.outcome;
+    let plan = read.plan;
+    let figures = plans::figures_of(plan);
+    figure_or_zero(outcome, figures.write)
+}
