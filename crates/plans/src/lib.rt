@@ -8,6 +8,8 @@ mod waits;
 pub use acceptance::check;
 pub use acceptance::check_counts;
 pub use acceptance::check_entry;
+// How many entries of a plan value count: for loops over them.
+pub use waits::counted_of;
 pub use waits::figures_of;
 
 // The most entries that a plan has.

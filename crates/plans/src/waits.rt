@@ -10,7 +10,7 @@ ghost use lib.ListN.{take};
 ghost use Rattle.plans.specs.Figures.{longest, figuresOf};
 
 // How many entries count: a plan has no more than 64.
-fn counted_of(count: u8) -> u8
+pub fn counted_of(count: u8) -> u8
     ensures { λ r. ⌜ r ≡ min count 64 ⌝ }
 {
     if count < 64 { count } else { 64 }

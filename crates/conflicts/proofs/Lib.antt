@@ -1,0 +1,6 @@
+pub mod Tabulate
+pub mod Widening
+pub mod Pairs
+pub mod Rows
+pub mod Accepted
+pub mod Conflict
