@@ -1,0 +1,12 @@
+pub mod Fields
+pub mod Walks
+pub mod EntrySets
+pub mod Steps
+pub mod Stamps
+pub mod PhaseMasks
+pub mod Newcomers
+pub mod Answers
+pub mod Verdicts
+pub mod Bounds
+pub mod CallParts
+pub mod PlanEntries

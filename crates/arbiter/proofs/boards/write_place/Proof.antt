@@ -1,0 +1,12 @@
+-- `write_place` meets its contract. Assumes nothing.
+use Rattle.arbiter.proofs.boards.write_place.Statement.{statement}
+use Rattle.arbiter.proofs.boards.write_place.Tie as tie
+
+returns : tie.Need-returns
+returns c = rw (c .if1 .taken)
+
+returns-2 : tie.Need-returns-2
+returns-2 c = rw (c .if1 .left)
+
+pub write-place-spec : {M : Type 1} → statement M
+write-place-spec = tie.close (tie.spec returns returns-2)

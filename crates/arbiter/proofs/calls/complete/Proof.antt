@@ -1,0 +1,115 @@
+-- `complete` meets its contract, put together from its parts. Assumes nothing.
+use mathlib.Core.Path.{_≡_, sym, _∙_}
+use lib.ListN.{length}
+use Rattle.arbiter.proofs.Verdicts.{complete-counted}
+use Rattle.arbiter.proofs.Bounds.{Small, cleaned-small, taken-small, settled-small}
+use Rattle.arbiter.proofs.CallParts.{complete-refused, complete-accepted}
+use borrow.Author.Needs.{needs}
+use Rattle.arbiter.proofs.calls.complete.Statement.{statement}
+use Rattle.arbiter.proofs.calls.complete.Tie as tie
+
+entry-full : (c : tie.Start) → length (c .args .state .entry) ≡ 16
+entry-full c = search needs
+
+earlier-full : (c : tie.Start) → length (c .args .state .earlier) ≡ 16
+earlier-full c = search needs
+
+-- The phases that count are masks of 16 places.
+small : (c : tie.After-clean) → Small (c .clean .result)
+small c = cleaned-small _ _ _ _ _ (c .clean .ensures)
+
+slice-aggregate-clean : tie.Need-slice-aggregate-clean
+slice-aggregate-clean c = search needs
+
+clean-requires : tie.Need-clean-requires
+clean-requires c κs = search needs
+
+complete-fault-requires : tie.Need-complete-fault-requires
+complete-fault-requires c κs = search needs
+
+enum-told : tie.Need-enum-told
+enum-told c = search needs
+
+enum-known-verdict : tie.Need-enum-known-verdict
+enum-known-verdict c = search needs
+
+refuse-requires : tie.Need-refuse-requires
+refuse-requires c κs = search needs
+
+returns : tie.Need-returns
+returns c =
+    let found = c .before .before .before .before in
+    c .refuse .ensures
+    ∙ complete-refused _ _ _ (found .before .before .before .clean .ensures) _ _ _ (found .complete-fault .ensures) _ (c .before .before .verdict .given .1)
+
+slice-aggregate-entry-at : tie.Need-slice-aggregate-entry-at
+slice-aggregate-entry-at c = sym (entry-full (c .before .before .before .before .before .before .before .before .before .before .before .before .before .before))
+
+entry-at-requires : tie.Need-entry-at-requires
+entry-at-requires c κs = search needs
+
+length-at-requires : tie.Need-length-at-requires
+length-at-requires c κs = search needs
+
+mul-ticks-between : tie.Need-mul-ticks-between
+mul-ticks-between c = search needs
+
+array-read-ticks-between : tie.Need-array-read-ticks-between
+array-read-ticks-between c = complete-counted _ _ _ _ _ _ _ (c .before .before .before .before .before .before .before .before .complete-fault .ensures) (c .before .before .before .before .before .before .enum-told .given .1)
+
+ticks-between-requires : tie.Need-ticks-between-requires
+ticks-between-requires c κs = search needs
+
+late-mark-requires : tie.Need-late-mark-requires
+late-mark-requires c κs = search needs
+
+take-out-requires : tie.Need-take-out-requires
+take-out-requires c κs = small (c .before .before .before .before .before .before .before .before .before .before .before .before .before) .2
+
+slice-aggregate-settle : tie.Need-slice-aggregate-settle
+slice-aggregate-settle c = sym (entry-full (c .before .before .before .before .before .before .before .before .before .before .before .before .before .before .before .before .before .before .before .before .before .before .before))
+
+slice-aggregate-settle-2 : tie.Need-slice-aggregate-settle-2
+slice-aggregate-settle-2 c = sym (earlier-full (c .before .before .before .before .before .before .before .before .before .before .before .before .before .before .before .before .before .before .before .before .before .before .before .before))
+
+settle-requires : tie.Need-settle-requires
+settle-requires c κs = taken-small _ _ _ (c .before .before .before .before .before .take-out .ensures) (small (c .before .before .before .before .before .before .before .before .before .before .before .before .before .before .before .before .before .before .before))
+
+answer-requires : tie.Need-answer-requires
+answer-requires c κs =
+    let b = small (c .before .before .before .before .before .before .before .before .before .before .before .before .before .before .before .before .before .before .before .before) in
+    let a = settled-small _ _ _ _ _ _ (c .settle .ensures) in
+    (b .1, b .2, a .1, a .2)
+
+returns-2 : tie.Need-returns-2
+returns-2 c =
+    let marked = c .before .before .before .before .before .before .before .before in
+    let told = marked .before .before .before .before .before .before .before .before in
+    complete-accepted _ _ _ (told .before .before .before .before .before .clean .ensures) _ _ _ (told .before .before .complete-fault .ensures) (told .enum-told .given .1) _ _ _ _ _ _ _
+    (marked .before .before .before .entry-at .ensures) (marked .before .before .length-at .ensures) (marked .before .ticks-between .ensures)
+    (marked .late-mark .ensures) (c .before .before .before .before .before .before .before .take-out .ensures) (c .before .settle .ensures) (c .answer .ensures)
+
+pub complete-spec : {M : Type 1} → statement M
+complete-spec =
+    tie.close
+    (tie.spec
+    slice-aggregate-clean
+    clean-requires
+    complete-fault-requires
+    enum-told
+    enum-known-verdict
+    refuse-requires
+    returns
+    slice-aggregate-entry-at
+    entry-at-requires
+    length-at-requires
+    mul-ticks-between
+    array-read-ticks-between
+    ticks-between-requires
+    late-mark-requires
+    take-out-requires
+    slice-aggregate-settle
+    slice-aggregate-settle-2
+    settle-requires
+    answer-requires
+    returns-2)

@@ -1,0 +1,19 @@
+-- `phases_of` meets its contract: cleaning reads the fields that it hands over. Assumes nothing.
+use borrow.Author.Needs.{needs}
+use Rattle.arbiter.specs.Requests.{isHolding, isEntitled, isWaiting, cleaned}
+use Rattle.arbiter.specs.Parts.{cleanedPhases}
+use Rattle.arbiter.proofs.calls.phases_of.Statement.{statement}
+use Rattle.arbiter.proofs.calls.phases_of.Tie as tie
+
+slice-aggregate-clean : tie.Need-slice-aggregate-clean
+slice-aggregate-clean c = search needs
+
+clean-requires : tie.Need-clean-requires
+clean-requires c κs = search needs
+
+returns : tie.Need-returns
+unfolding isHolding isEntitled isWaiting cleaned cleanedPhases
+returns c = c .clean .ensures
+
+pub phases-of-spec : {M : Type 1} → statement M
+phases-of-spec = tie.close (tie.spec slice-aggregate-clean clean-requires returns)

@@ -1,0 +1,6 @@
+pub mod Requests
+pub mod Settling
+pub mod Phases
+pub mod Moves
+pub mod Calls
+pub mod Parts

@@ -1,0 +1,354 @@
+// Issue and complete: document 01, "Grants" and "Refused", 10 to 15.
+use crate::Answered;
+use crate::Board;
+use crate::Phases;
+use crate::Reply;
+use crate::State;
+use crate::settling::ALL;
+use crate::settling::SLOTS;
+use crate::settling::add_if;
+use crate::settling::entries_of;
+use crate::settling::entry_at;
+use crate::settling::row_at;
+use crate::settling::settle;
+use masks::add32;
+use masks::has32;
+use masks::has64;
+use masks::meet64;
+use masks::remove32;
+use masks::without32;
+use plans::Verdict;
+use refusals::Refusal;
+ghost use mathlib.Core.Path.{_≡_};
+ghost use mathlib.Core.Bool.{cond, _&&_};
+ghost use Prim.Native.Nat.{_-_, _^_, _<_};
+ghost use lib.Bits.{bitAnd};
+ghost use lib.Dec.{leb, ltb};
+ghost use lib.ListN.{getD};
+ghost use Rattle.masks.specs.Sets.{maskOf};
+ghost use Rattle.conflicts.specs.Conflict.{tabulate};
+ghost use Rattle.arbiter.specs.Requests.{slots, cleaned};
+ghost use Rattle.arbiter.specs.Phases.{phasesOf};
+ghost use Rattle.arbiter.specs.Parts.{stateOf, countedBy, inPlanBy, cleanedPhases, issueFaultBy, completeFaultBy, putEarlier, admittedPhases, takenPhases, freeRead, stampedSince, refusalOf};
+ghost use Rattle.arbiter.specs.Calls.{done, issued, completed};
+
+// "Above 1,099,511,627,775."
+const LAST_TICK: u64 = 1099511627775;
+
+// ---- the requests that count
+
+// The processors whose requests count: "a request whose entry or processor is outside the plan [is] taken as none".
+fn in_plan(processors: u8, count: u8, entry: &[u8]) -> u32
+    ensures { λ r. ⌜ r ≡ maskOf slots (inPlanBy processors count (now (entry .entry))) ⌝ }
+{
+    let m = processors as u32;
+    let n = count as u32;
+    let mut out: u32 = 0;
+    let mut p: u32 = 0;
+    while p < SLOTS {
+        out = add_if(out, p, (p < m) & (entry_at(entry, p) < n));
+        p += 1;
+    }
+    out
+}
+
+// The phases of the requests that count, each in one of them at most.
+fn clean(processors: u8, count: u8, entry: &[u8], phases: Phases) -> Phases
+    ensures { λ r. ⌜ r ≡ cleanedPhases processors count (now (entry .entry)) phases ⌝ }
+{
+    let counted = in_plan(processors, count, entry);
+    Phases {
+        waiting: counted & without32(phases.waiting, phases.entitled | phases.holding),
+        entitled: counted & without32(phases.entitled, phases.holding),
+        holding: counted & phases.holding,
+    }
+}
+
+// The phases of the requests that count: who waits, who is entitled and who holds.
+pub fn phases_of(board: Board, state: State) -> Phases
+    ensures { λ r. ⌜ r ≡ phasesOf (cleaned board state) ⌝ }
+{
+    let entry = state.entry;
+    let given = Phases {
+        waiting: state.waiting,
+        entitled: state.entitled,
+        holding: state.holding,
+    };
+    clean(board.processors, board.count, &entry, given)
+}
+
+// ---- refusals
+
+// "Below the last accepted tick, or above": 10 where this fails.
+fn in_time(last: u64, tick: u64) -> bool
+    ensures { λ r. ⌜ r ≡ (leb last tick && leb tick 1099511627775) ⌝ }
+{
+    (last <= tick) & (tick <= LAST_TICK)
+}
+
+// 11 where this fails. A board from no plan can have more processors than a state holds.
+fn is_counted(processors: u8, processor: u8) -> bool
+    ensures { λ r. ⌜ r ≡ countedBy processors processor ⌝ }
+{
+    ((processor as u32) < SLOTS) & (processor < processors)
+}
+
+// "Issue: 10, 11, 12, 13."
+fn issue_fault(
+    last: u64,
+    processors: u8,
+    count: u8,
+    active: u32,
+    processor: u8,
+    entry: u8,
+    tick: u64,
+) -> Verdict
+    ensures { λ r. ⌜ r ≡ issueFaultBy last processors count active processor entry tick ⌝ }
+{
+    if !in_time(last, tick) {
+        return Verdict::Refused(Refusal::Tick);
+    }
+    if !is_counted(processors, processor) {
+        return Verdict::Refused(Refusal::Processor);
+    }
+    if count <= entry {
+        return Verdict::Refused(Refusal::Entry);
+    }
+    if has32(active, processor as u32) {
+        return Verdict::Refused(Refusal::Busy);
+    }
+    Verdict::Accepted
+}
+
+// "Complete: 10, 11, 14, 15."
+fn complete_fault(
+    last: u64,
+    processors: u8,
+    active: u32,
+    unsatisfied: u32,
+    processor: u8,
+    tick: u64,
+) -> Verdict
+    ensures { λ r. ⌜ r ≡ completeFaultBy last processors active unsatisfied processor tick ⌝ }
+{
+    if !in_time(last, tick) {
+        return Verdict::Refused(Refusal::Tick);
+    }
+    if !is_counted(processors, processor) {
+        return Verdict::Refused(Refusal::Processor);
+    }
+    if !has32(active, processor as u32) {
+        return Verdict::Refused(Refusal::Idle);
+    }
+    if has32(unsatisfied, processor as u32) {
+        return Verdict::Refused(Refusal::Unheld);
+    }
+    Verdict::Accepted
+}
+
+// ---- putting in and taking out
+
+// Each set with just the places that are kept.
+fn keep_each(sets: [u32; 16], keep: u32) -> [u32; 16]
+    ensures { λ r. ⌜ r ≡ tabulate slots (λ q. bitAnd (getD sets q 0) keep) ⌝ }
+{
+    let mut out = [0; 16];
+    let mut q: usize = 0;
+    while q < 16 {
+        out[q] = sets[q] & keep;
+        q += 1;
+    }
+    out
+}
+
+// All that are active are earlier than the processor's new request, and it is earlier than none.
+fn put_earlier(earlier: [u32; 16], processor: u8, active: u32) -> [u32; 16]
+    requires { ⌜ processor < 16 ⌝ }
+    ensures { λ r. ⌜ r ≡ putEarlier earlier processor active ⌝ }
+{
+    let mut out = keep_each(earlier, remove32(ALL, processor as u32));
+    out[processor as usize] = active;
+    out
+}
+
+// The processor's request is a read and conflicts with no write of the others.
+fn is_free_read(rows: &[u64], writes: u64, entry: &[u8], others: u32, p: u32) -> bool
+    ensures { λ r. ⌜ r ≡ freeRead (now (rows .entry)) writes (now (entry .entry)) others p ⌝ }
+{
+    if has64(writes, entry_at(entry, p)) {
+        return false;
+    }
+    !meet64(row_at(rows, entry, p) & writes, entries_of(entry, others))
+}
+
+// The new request holds at once or waits.
+fn admit(phases: Phases, processor: u8, at_once: bool) -> Phases
+    requires { ⌜ (phases .waiting < 2 ^ 16) × (phases .holding < 2 ^ 16) × (processor < 16) ⌝ }
+    ensures { λ r. ⌜ r ≡ admittedPhases phases processor «at_once» ⌝ }
+{
+    let p = processor as u32;
+    if at_once {
+        return Phases {
+            waiting: remove32(phases.waiting, p),
+            entitled: phases.entitled,
+            holding: add32(phases.holding, p),
+        };
+    }
+    Phases {
+        waiting: add32(phases.waiting, p),
+        entitled: phases.entitled,
+        holding: phases.holding,
+    }
+}
+
+fn take_out(phases: Phases, processor: u8) -> Phases
+    requires { ⌜ phases .holding < 2 ^ 16 ⌝ }
+    ensures { λ r. ⌜ r ≡ takenPhases phases processor ⌝ }
+{
+    Phases {
+        waiting: phases.waiting,
+        entitled: phases.entitled,
+        holding: remove32(phases.holding, processor as u32),
+    }
+}
+
+// ---- the answer
+
+// The ticks from one to the other: "a time that would run backwards [is] taken as 0".
+fn ticks_between(from: u64, to: u64) -> u64
+    ensures { λ r. ⌜ r ≡ to - from ⌝ }
+{
+    if from < to { to - from } else { 0 }
+}
+
+// "Late: 1 if a completed hold was longer than its length, else 0."
+fn late_mark(length: u16, held: u64) -> u8
+    ensures { λ r. ⌜ r ≡ cond (ltb length held) 1 0 ⌝ }
+{
+    if (length as u64) < held { 1 } else { 0 }
+}
+
+fn length_at(lengths: &[u16], entry: u32) -> u16
+    ensures { λ r. ⌜ r ≡ getD (now (lengths .entry)) entry 0 ⌝ }
+{
+    let i = entry as usize;
+    if i < lengths.len() { lengths[i] } else { 0 }
+}
+
+// The ticks of the grants: those that began to hold have this one.
+fn stamp(since: [u64; 16], granted: u32, tick: u64) -> [u64; 16]
+    ensures { λ r. ⌜ r ≡ stampedSince since granted tick ⌝ }
+{
+    let mut out = since;
+    let mut left = granted & ALL;
+    while left != 0 {
+        out[u32::trailing_zeros(left) as usize] = tick;
+        left = left & (left - 1);
+    }
+    out
+}
+
+// The two masks, late, and the state after with the ticks of the grants.
+fn answer(
+    before: Phases,
+    after: Phases,
+    tick: u64,
+    entry: [u8; 16],
+    since: [u64; 16],
+    earlier: [u32; 16],
+    late: u8,
+) -> Answered
+    requires { ⌜ (before .entitled < 2 ^ 16) × (before .holding < 2 ^ 16) × (after .entitled < 2 ^ 16) × (after .holding < 2 ^ 16) ⌝ }
+    ensures { λ r. ⌜ r ≡ done (stateOf tick before entry since earlier) (stateOf tick after entry since earlier) late ⌝ }
+{
+    let granted = without32(after.holding, before.holding);
+    let stamps = stamp(since, granted, tick);
+    Answered {
+        reply: Reply::Done {
+            granted: granted,
+            entitled: without32(after.entitled, before.entitled),
+            late: late,
+        },
+        state: State {
+            last: tick,
+            waiting: after.waiting,
+            entitled: after.entitled,
+            holding: after.holding,
+            entry: entry,
+            since: stamps,
+            earlier: earlier,
+        },
+    }
+}
+
+// "A refusal gives its number only", and the state is the one given.
+fn refuse(refusal: Refusal, state: State) -> Answered
+    ensures { λ r. ⌜ r ≡ refusalOf refusal state ⌝ }
+{
+    Answered {
+        reply: Reply::Refused(refusal),
+        state: state,
+    }
+}
+
+// Processor asks for an entry at a tick. Refused by 10, 11, 12, 13, in that order.
+pub fn issue(board: Board, state: State, processor: u8, entry: u8, tick: u64) -> Answered
+    ensures { λ r. ⌜ r ≡ issued board state processor entry tick ⌝ }
+{
+    let mut entries = state.entry;
+    let mut since = state.since;
+    let earlier = state.earlier;
+    let last = state.last;
+    let processors = board.processors;
+    let count = board.count;
+    let given = Phases {
+        waiting: state.waiting,
+        entitled: state.entitled,
+        holding: state.holding,
+    };
+    let before = clean(processors, count, &entries, given);
+    let ahead = before.entitled | before.holding;
+    let active = before.waiting | ahead;
+    let verdict = issue_fault(last, processors, count, active, processor, entry, tick);
+    match verdict {
+        Verdict::Accepted => {}
+        Verdict::Refused(fault) => return refuse(fault, state),
+    }
+    entries[processor as usize] = entry;
+    since[processor as usize] = tick;
+    let line = put_earlier(earlier, processor, active);
+    let p = processor as u32;
+    let at_once = is_free_read(&board.rows, board.writes, &entries, ahead, p);
+    let ready = admit(before, processor, at_once);
+    let after = settle(&board.rows, board.writes, &entries, &line, ready);
+    answer(before, after, tick, entries, since, line, 0)
+}
+
+// Processor gives its request back at a tick. Refused by 10, 11, 14, 15, in that order.
+pub fn complete(board: Board, state: State, processor: u8, tick: u64) -> Answered
+    ensures { λ r. ⌜ r ≡ completed board state processor tick ⌝ }
+{
+    let entry = state.entry;
+    let since = state.since;
+    let earlier = state.earlier;
+    let last = state.last;
+    let processors = board.processors;
+    let given = Phases {
+        waiting: state.waiting,
+        entitled: state.entitled,
+        holding: state.holding,
+    };
+    let before = clean(processors, board.count, &entry, given);
+    let unsatisfied = before.waiting | before.entitled;
+    let active = unsatisfied | before.holding;
+    let verdict = complete_fault(last, processors, active, unsatisfied, processor, tick);
+    match verdict {
+        Verdict::Accepted => {}
+        Verdict::Refused(refusal) => return refuse(refusal, state),
+    }
+    let length = length_at(&board.lengths, entry_at(&entry, processor as u32));
+    let late = late_mark(length, ticks_between(since[processor as usize], tick));
+    let ready = take_out(before, processor);
+    let after = settle(&board.rows, board.writes, &entry, &earlier, ready);
+    answer(before, after, tick, entry, since, earlier, late)
+}

@@ -1,0 +1,12 @@
+pub mod Columns
+pub mod Phases
+pub mod Moves
+pub mod Order
+pub mod Safe
+pub mod Exclusive
+pub mod Lengths
+pub mod ReadWait
+pub mod Counting
+pub mod Rank
+pub mod RankMoves
+pub mod WriteWait

@@ -1,0 +1,57 @@
+-- Demand 3, said of whole lists of calls. A reader needs this page and the definitions that it names.
+use Prim.Native.Nat.{ℕ, _-_, _*_, _≤_, _<_}
+use mathlib.Core.Path.{_≡_}
+use mathlib.Core.Bool.{Bool, true, false, cond}
+use mathlib.Core.List.{List}
+use lib.ListN.{length, getD}
+use Rattle.plans.specs.declared.Plan.{Plan}
+use Rattle.plans.specs.Figures.{longestRead, readFigure, writeFigure}
+use Rattle.conflicts.specs.Conflict.{inConflict, isWrite, entryAt}
+use Rattle.arbiter.specs.Calls.{boardOf, freshState}
+use Rattle.runs.specs.Calls.{Call, events}
+use Rattle.runs.specs.History.{Request, History, nothing, never, countedIn, holds, holdOf, waitOf}
+
+-- The history of a list of calls, from the fresh arbiter of the plan.
+unfoldable pub historyOf : Plan → List Call → History
+historyOf p calls = countedIn nothing (events (boardOf p) freshState calls)
+
+-- Request i of a history, in order of issue.
+abbrev pub request : History → ℕ → Request
+request h i = getD (h .requests) i (record { processor = 0; entry = 0; issued = 0; grant = never; end = never })
+
+-- "No two conflicting requests hold together."
+abbrev pub Exclusive : Plan → History → Type 0
+Exclusive p h =
+    (i j : ℕ) → i < length (h .requests) → j < length (h .requests) → (i ≡ j → ⊥) → holds (request h i) ≡ true
+    → holds (request h j) ≡ true → inConflict p (request h i .entry) (request h j .entry) ≡ false
+
+-- "Each holder keeps to its declared length up to the last accepted tick", of the holders whose entries are in the group.
+abbrev pub KeepToLengths : Plan → (ℕ → Bool) → History → Type 0
+KeepToLengths p group h =
+    (i : ℕ) → i < length (h .requests) → group (request h i .entry) ≡ true
+    → holdOf (h .last) (request h i) ≤ entryAt p (request h i .entry) .length
+
+-- No read of the group has waited longer than the one figure, and no write longer than the other.
+abbrev pub WaitAtMost : Plan → (ℕ → Bool) → ℕ → ℕ → History → Type 0
+WaitAtMost p group read write h =
+    (i : ℕ) → i < length (h .requests) → group (request h i .entry) ≡ true
+    → waitOf (h .last) (request h i) ≤ cond (isWrite (entryAt p (request h i .entry))) write read
+
+-- A group of entries that no entry outside it conflicts with.
+abbrev pub Closed : Plan → (ℕ → Bool) → Type 0
+Closed p group = (i j : ℕ) → group i ≡ true → inConflict p i j ≡ true → group j ≡ true
+
+-- The lengths of the group's reads are at most Lr, and those of its writes at most Lw.
+abbrev pub LengthsAtMost : Plan → (ℕ → Bool) → ℕ → ℕ → Type 0
+LengthsAtMost p group Lr Lw =
+    (i : ℕ) → i < p .count → group i ≡ true → entryAt p i .length ≤ cond (isWrite (entryAt p i)) Lw Lr
+
+-- Every entry: demand 3 is the claim for this group.
+abbrev pub everyEntry : ℕ → Bool
+everyEntry i = true
+
+-- Demand 3. "After it no two conflicting requests hold together. If each holder keeps to its declared length up to the
+-- last accepted tick, no read has waited more than Lr + Lw, and no write more than (m − 1) × (Lr + Lw)."
+pub record Demand3 (p : Plan) (calls : List Call) : Type 0 where
+  pub exclusive : Exclusive p (historyOf p calls)
+  pub waits : KeepToLengths p everyEntry (historyOf p calls) → WaitAtMost p everyEntry (readFigure p) (writeFigure p) (historyOf p calls)

@@ -1,0 +1,1 @@
+// Whole runs: the claim over every list of calls, and its proof. No code: definitions in specs/, theorems in proofs/.
