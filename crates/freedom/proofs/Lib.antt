@@ -1,0 +1,4 @@
+pub mod Reached
+pub mod Falling
+pub mod Holders
+pub mod Freedom

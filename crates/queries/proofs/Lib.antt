@@ -1,0 +1,8 @@
+pub mod Cases
+pub mod Growing
+pub mod Waits
+pub mod Chains
+pub mod Rows
+pub mod Facing
+pub mod Joining
+pub mod Answers

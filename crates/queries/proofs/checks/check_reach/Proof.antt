@@ -1,0 +1,20 @@
+-- `check_reach` meets its contract. Assumes nothing.
+use borrow.Author.Needs.{needs}
+use Rattle.queries.proofs.checks.check_reach.Statement.{statement}
+use Rattle.queries.proofs.checks.check_reach.Tie as tie
+
+check-processor-requires : tie.Need-check-processor-requires
+check-processor-requires c κs = search needs
+
+check-room-requires : tie.Need-check-room-requires
+check-room-requires c κs = search needs
+
+first-of-requires : tie.Need-first-of-requires
+first-of-requires c κs = search needs
+
+returns : tie.Need-returns
+returns c = rw (← c .before .before .check-processor .ensures, ← c .before .check-room .ensures) (c .first-of .ensures)
+
+pub check-reach-spec : {M : Type 1} → statement M
+check-reach-spec =
+    tie.close (tie.spec check-processor-requires check-room-requires first-of-requires returns)

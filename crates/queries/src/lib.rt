@@ -1,0 +1,78 @@
+// Who holds, who waits, and for whom: what a viewer asks of a state. Nothing is changed.
+mod checks;
+mod direct;
+mod reaching;
+
+use arbiter::Board;
+use arbiter::Phases;
+use arbiter::State;
+use arbiter::phases_of;
+use checks::check_processor;
+pub use direct::direct_waits;
+use masks::has32;
+use plans::Verdict;
+pub use reaching::reach;
+use refusals::Refusal;
+ghost use mathlib.Core.Path.{_≡_};
+ghost use Rattle.queries.specs.Queries.{phaseNumber, phaseQuery};
+ghost use Rattle.queries.specs.Parts.{phaseAt};
+
+// The state of a processor.
+pub enum Phase {
+    Idle,
+    Waiting,
+    Entitled,
+    Holding,
+}
+
+// The state of a processor, or the refusal.
+pub enum PhaseAnswer {
+    Is(Phase),
+    Refused(Refusal),
+}
+
+// A set of processors, bit p for processor p, or the refusal.
+pub enum MaskAnswer {
+    Mask(u32),
+    Refused(Refusal),
+}
+
+// "State of a processor: 0 idle, 1 waiting, 2 entitled, 3 holding."
+pub fn phase_number(phase: Phase) -> u8
+    ensures { λ r. ⌜ r ≡ phaseNumber phase ⌝ }
+{
+    match phase {
+        Phase::Idle => 0,
+        Phase::Waiting => 1,
+        Phase::Entitled => 2,
+        Phase::Holding => 3,
+    }
+}
+
+// The phase of processor p, by the masks of phases.
+fn phase_at(phases: Phases, p: u32) -> Phase
+    ensures { λ r. ⌜ r ≡ phaseAt phases p ⌝ }
+{
+    if has32(phases.holding, p) {
+        return Phase::Holding;
+    }
+    if has32(phases.entitled, p) {
+        return Phase::Entitled;
+    }
+    if has32(phases.waiting, p) {
+        Phase::Waiting
+    } else {
+        Phase::Idle
+    }
+}
+
+// The state of a processor. Refuses by 11.
+pub fn phase_of(board: Board, state: State, processor: u8) -> PhaseAnswer
+    ensures { λ r. ⌜ r ≡ phaseQuery board state processor ⌝ }
+{
+    let verdict = check_processor(board.processors, processor);
+    match verdict {
+        Verdict::Accepted => PhaseAnswer::Is(phase_at(phases_of(board, state), processor as u32)),
+        Verdict::Refused(refusal) => PhaseAnswer::Refused(refusal),
+    }
+}
