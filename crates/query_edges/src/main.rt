@@ -48,12 +48,36 @@ fn print_all(board: Board, state: State, processor: u8, scratch: &mut [u8]) {
 
 // Plan F: writes {2}, {1,2}, {0}, reads {0,1}, {2}.
 fn plan() -> Plan {
-    let mut entries = [Entry { kind: 0, set: 0, length: 0 }; 64];
-    entries[0] = Entry { kind: 1, set: 4, length: 30 };
-    entries[1] = Entry { kind: 1, set: 6, length: 20 };
-    entries[2] = Entry { kind: 1, set: 1, length: 40 };
-    entries[3] = Entry { kind: 0, set: 3, length: 10 };
-    entries[4] = Entry { kind: 0, set: 4, length: 5 };
+    let mut entries = [Entry {
+        kind: 0,
+        set: 0,
+        length: 0,
+    }; 64];
+    entries[0] = Entry {
+        kind: 1,
+        set: 4,
+        length: 30,
+    };
+    entries[1] = Entry {
+        kind: 1,
+        set: 6,
+        length: 20,
+    };
+    entries[2] = Entry {
+        kind: 1,
+        set: 1,
+        length: 40,
+    };
+    entries[3] = Entry {
+        kind: 0,
+        set: 3,
+        length: 10,
+    };
+    entries[4] = Entry {
+        kind: 0,
+        set: 4,
+        length: 5,
+    };
     Plan {
         processors: 4,
         resources: 3,

@@ -1,0 +1,121 @@
+-- The loop over a block's records: what holds before each, that a turn keeps it, and what it gives at the end. Assumes nothing.
+use Prim.Native.Nat.{ℕ, zero, suc, _+_, _-_, _*_, _≤_, _<_}
+use mathlib.Core.Path.{_≡_, refl, ap, sym, _∙_}
+use mathlib.Core.Bool.{Bool, true, false}
+use mathlib.Core.List.{List, [], _++_}
+use native.Mathlib.Nat.{add-zero, le-refl}
+use native.Mathlib.Omega.{arith}
+use lib.ListN.{length, take, drop, length-append, length-drop, take-append-drop}
+use lib.Seq.{drop-drop, take-all}
+use Rattle.arbiter.specs.declared.Board.{Board}
+use Rattle.arbiter.specs.declared.State.{State}
+use Rattle.plans.specs.Writing.{put}
+use Rattle.replay.specs.declared.Carried.{Carried}
+use Rattle.replay.specs.declared.RanBlock.{RanBlock}
+use Rattle.replay.specs.Blocks.{Ran, ran, lineRoom}
+use Rattle.replay.specs.Carried.{carried, ranBlock}
+use Rattle.replay.proofs.Turns.{put-put, front, one-then-more, one-ends, one-line-room}
+
+-- Before a record: what is left from the state st and the bytes from a position on still gives the whole block.
+pub record Leaves (whole : Ran) (b : Board) (due : ℕ) (s out₀ : List ℕ) (st : State) (calls from at : ℕ) (out : List ℕ) : Type 0 where
+  pub some : calls ≤ due
+  pub place : from ≡ 8 * calls
+  pub room : at ≤ lineRoom * calls
+  pub long : length out ≡ length out₀
+  pub stands : put out at (ran b st (due - calls) (drop from s) .lines) ≡ put out₀ 0 (whole .lines)
+  pub size : at + length (ran b st (due - calls) (drop from s) .lines) ≡ length (whole .lines)
+  pub after : ran b st (due - calls) (drop from s) .state ≡ whole .state
+  pub counts : calls + ran b st (due - calls) (drop from s) .calls ≡ whole .calls
+  pub ends : ran b st (due - calls) (drop from s) .ended ≡ whole .ended
+
+-- A record's line has room.
+pub one-fits : (b : Board) (st : State) (s : List ℕ) (r : Carried) → r ≡ carried (ran b st 1 s) → r .written ≤ lineRoom
+one-fits b st s r e = omega (arith, ap (λ (x : Carried). x .written) e, one-line-room b st s)
+
+pub first-turn : (b : Board) (st : State) (due : ℕ) (s out : List ℕ) → Leaves (ran b st due s) b due s out st 0 0 0 out
+first-turn b st due s out =
+    let all : due - 0 ≡ due = omega arith in
+    record {
+      some = omega arith;
+      place = refl;
+      room = omega arith;
+      long = refl;
+      stands = rw all refl;
+      size = rw all (omega arith);
+      after = rw all refl;
+      counts = rw all (omega arith);
+      ends = rw all refl;
+    }
+
+module _ (whole : Ran) (b : Board) (due : ℕ) (s out₀ : List ℕ) (st : State) (calls from at : ℕ) (out : List ℕ)
+    (h : Leaves whole b due s out₀ st calls from at out) where
+  -- After the last record.
+  pub last-turn : due ≤ calls
+      → (_≡_ {A = RanBlock} (record { state = st; calls = calls; written = at; ended = false }) (ranBlock whole)) × (out ≡ put out₀ 0 (whole .lines))
+  unfolding ran
+  last-turn e =
+      let none : due - calls ≡ 0 = omega arith in
+      let size : at + 0 ≡ length (whole .lines) = rw none at (h .size) in
+      let counts : calls + 0 ≡ whole .calls = rw none at (h .counts) in
+      let after : st ≡ whole .state = rw none at (h .after) in
+      let ends : false ≡ whole .ended = rw none at (h .ends) in
+      let stands : put out at [] ≡ put out₀ 0 (whole .lines) = rw none at (h .stands) in
+      let w : at ≡ length (whole .lines) = omega arith in
+      let n : calls ≡ whole .calls = omega arith in (
+        λ i. record { state = after i; calls = n i; written = w i; ended = ends i },
+        rw (add-zero, take-append-drop) at stands,
+      )
+
+  module _ (more : calls < due) (fits : lineRoom * due ≤ length out₀) (r : Carried) (out′ : List ℕ)
+      (answered : r ≡ carried (ran b st 1 (take (length s - from) (drop from s))))
+      (written : out′ ≡ put out at (ran b st 1 (take (length s - from) (drop from s)) .lines)) where
+    -- The bytes from the position on are lent whole.
+    lent : take (length s - from) (drop from s) ≡ drop from s
+    lent = take-all (length s - from) (drop from s) (rw length-drop (le-refl _))
+
+    e : r ≡ carried (ran b st 1 (drop from s))
+    e = rw lent at answered
+
+    eo : out′ ≡ put out at (ran b st 1 (drop from s) .lines)
+    eo = rw lent at written
+
+    one-written : r .written ≡ length (ran b st 1 (drop from s) .lines)
+    one-written = ap (λ (x : Carried). x .written) e
+
+    left-over : due - calls ≡ suc (due - (calls + 1))
+    left-over = omega arith
+
+    -- After a record that ended the replay.
+    pub ended-turn : r .ended ≡ true
+        → (_≡_ {A = RanBlock} (record { state = r .state; calls = calls; written = at + r .written; ended = true }) (ranBlock whole)) × (out′ ≡ put out₀ 0 (whole .lines))
+    ended-turn t =
+        let split = one-ends b st (due - (calls + 1)) (drop from s) (sym (ap (λ (x : Carried). x .ended) e) ∙ t) in
+        let counts : calls + 0 ≡ whole .calls = rw (left-over, split) at (h .counts) in
+        let n : calls ≡ whole .calls = omega arith in
+        let size : at + length (ran b st 1 (drop from s) .lines) ≡ length (whole .lines) = rw (left-over, split) at (h .size) in
+        let w : at + r .written ≡ length (whole .lines) = ap (λ (k : ℕ). at + k) one-written ∙ size in
+        let after : r .state ≡ whole .state = ap (λ (x : Carried). x .state) e ∙ (rw (left-over, split) at (h .after)) in
+        let ends : true ≡ whole .ended = rw (left-over, split) at (h .ends) in
+        (λ i. record { state = after i; calls = n i; written = w i; ended = ends i }, eo ∙ (rw (left-over, split) at (h .stands)))
+
+    -- After a call.
+    pub next-turn : r .ended ≡ false → length out′ ≡ length out → Leaves whole b due s out₀ (r .state) (calls + 1) (from + 8) (at + r .written) out′
+    next-turn t kept =
+        let one = ran b st 1 (drop from s) in
+        let later = ran b (r .state) (due - (calls + 1)) (drop (from + 8) s) in
+        let split : ran b st (due - calls) (drop from s) ≡ front (one .lines) 1 later =
+        rw (left-over, one-then-more b st (due - (calls + 1)) (drop from s) (sym (ap (λ (x : Carried). x .ended) e) ∙ t), ← ap (λ (x : Carried). x .state) e, drop-drop 8 from s) refl in
+        let room : length (one .lines) ≤ lineRoom = one-line-room b st (drop from s) in
+        let fit : at + length (one .lines) ≤ length out = omega (arith, h .room, h .long) in
+        let lines : ran b st (due - calls) (drop from s) .lines ≡ one .lines ++ later .lines = ap (λ (x : Ran). x .lines) split in
+        record {
+          some = omega arith;
+          place = omega (arith, h .place);
+          room = omega (arith, h .room, one-written);
+          long = kept ∙ h .long;
+          stands = rw (eo, one-written) (put-put out at (one .lines) (later .lines) fit ∙ ap (put out at) (sym lines) ∙ h .stands);
+          size = omega (arith, one-written, h .size, ap length lines ∙ length-append (one .lines) (later .lines));
+          after = sym (ap (λ (x : Ran). x .state) split) ∙ h .after;
+          counts = omega (arith, ap (λ (x : Ran). x .calls) split, h .counts);
+          ends = sym (ap (λ (x : Ran). x .ended) split) ∙ h .ends;
+        }

@@ -1,0 +1,5 @@
+pub mod Listing
+pub mod Blocks
+pub mod Carried
+pub mod Ends
+pub mod Pieces

@@ -1,0 +1,1 @@
+// Logs computed from the definitions alone: see proofs/Logs.antt. No code.
