@@ -1,0 +1,7 @@
+#!/usr/bin/env python3
+"""Write a file to standard output one byte at a time, so that a reader of the pipe gets it in pieces."""
+import os
+import sys
+
+for byte in open(sys.argv[1], "rb").read():
+    os.write(1, bytes([byte]))
