@@ -1,0 +1,70 @@
+//! A log and its listing, and the answers to all queries after each call.
+use crate::arbiter::{Arbiter, Call, Done};
+use crate::plan::{take_number, Plan, Refusal};
+use std::io::Write;
+
+pub fn take_call(bytes: &mut &[u8]) -> Result<Call, Refusal> {
+    if bytes.len() < 8 {
+        return Err(1);
+    }
+    let verb = take_number(bytes, 1)?;
+    let processor = take_number(bytes, 1)? as u8;
+    let entry = take_number(bytes, 1)? as u8;
+    let tick = take_number(bytes, 5)?;
+    match (verb, entry) {
+        (0, _) => Ok(Call::Issue { processor, entry, tick }),
+        (1, 0) => Ok(Call::Complete { processor, tick }),
+        _ => Err(9),
+    }
+}
+
+fn call_line(call: Call, answer: Result<Done, Refusal>) -> String {
+    let head = match call {
+        Call::Issue { processor, tick, .. } => format!("{tick} i {processor}"),
+        Call::Complete { processor, tick } => format!("{tick} c {processor}"),
+    };
+    match answer {
+        Ok(done) => format!("{head} {:04x} {:04x} {}\n", done.granted, done.entitled, done.late as u8),
+        Err(number) => format!("{head} refused {number}\n"),
+    }
+}
+
+/// What each processor's queries answer: state, direct waits, reach.
+fn query_lines(arbiter: &Arbiter) -> String {
+    (0..17)
+        .map(|p| match (arbiter.state(p), arbiter.direct(p), arbiter.reach(p)) {
+            (Ok(state), Ok(direct), Ok(reach)) => format!("{p} {state} {direct:04x} {reach:04x}\n"),
+            (Err(number), _, _) | (_, Err(number), _) | (_, _, Err(number)) => format!("{p} refused {number}\n"),
+        })
+        .collect()
+}
+
+fn replay(bytes: &mut &[u8], queries: bool, out: &mut impl Write) -> Result<(), Refusal> {
+    let plan = Plan::take(bytes)?;
+    let head = format!(
+        "processors {} resources {} entries {} read {} write {}\n",
+        plan.processors,
+        plan.resources,
+        plan.entries.len(),
+        plan.read_figure(),
+        plan.write_figure()
+    );
+    out.write_all(head.as_bytes()).unwrap();
+    let mut arbiter = Arbiter::new(plan);
+    for _ in 0..take_number(bytes, 2)? {
+        let call = take_call(bytes)?;
+        let answer = arbiter.call(call);
+        out.write_all(call_line(call, answer).as_bytes()).unwrap();
+        if queries {
+            out.write_all(query_lines(&arbiter).as_bytes()).unwrap();
+        }
+    }
+    if bytes.is_empty() { Ok(()) } else { Err(2) }
+}
+
+/// The whole listing of a log's bytes, with the queries after each call where they are asked for.
+pub fn listing(mut bytes: &[u8], queries: bool, out: &mut impl Write) {
+    if let Err(number) = replay(&mut bytes, queries, out) {
+        out.write_all(format!("refused {number}\n").as_bytes()).unwrap();
+    }
+}

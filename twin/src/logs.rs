@@ -1,0 +1,129 @@
+//! Logs for the comparison: random, saturated, hostile, damaged and cut, with every refusal mixed in.
+use crate::arbiter::{Arbiter, Call, Phase};
+use crate::plan::{Entry, Plan};
+use crate::random::Random;
+
+pub fn plan_bytes(plan: &Plan) -> Vec<u8> {
+    let mut bytes = vec![plan.processors, plan.resources, plan.entries.len() as u8];
+    for e in &plan.entries {
+        bytes.push(e.write as u8);
+        bytes.extend(e.names.iter().fold(0u64, |set, r| set | 1 << r).to_le_bytes());
+        bytes.extend((e.length as u16).to_le_bytes());
+    }
+    bytes
+}
+
+pub fn log_bytes(plan: &Plan, calls: &[Call]) -> Vec<u8> {
+    let mut bytes = plan_bytes(plan);
+    bytes.extend((calls.len() as u16).to_le_bytes());
+    for call in calls {
+        let (verb, processor, entry, tick) = match *call {
+            Call::Issue { processor, entry, tick } => (0, processor, entry, tick),
+            Call::Complete { processor, tick } => (1, processor, 0, tick),
+        };
+        bytes.extend([verb, processor, entry]);
+        bytes.extend(&tick.to_le_bytes()[..5]);
+    }
+    bytes
+}
+
+/// A plan with m processors. Few resources make much conflict. `reads` of ten entries read.
+pub fn plan(r: &mut Random, m: u8, reads: u64) -> Plan {
+    let resources = r.pick(&[1, 2, 3, 5, 8, 20, 64]);
+    let most = r.pick(&[1, 2, 3, 6]).min(resources as u64);
+    let longest = r.pick(&[1, 4, 30, 65535]);
+    let entries = (0..r.pick(&[1, 2, 5, 12, 64]))
+        .map(|_| Entry {
+            write: r.below(10) >= reads,
+            names: (0..r.within(1, most)).map(|_| r.below(resources as u64) as u8).collect(),
+            length: r.within(1, longest),
+        })
+        .collect();
+    Plan { processors: m, resources, entries }
+}
+
+/// Calls of any kind, most of them ones that fit what the processor does.
+pub fn mixed(r: &mut Random, plan: &Plan, count: usize) -> Vec<Call> {
+    let mut arbiter = Arbiter::new(plan.clone());
+    let (mut tick, mut calls) = (0u64, Vec::new());
+    for _ in 0..count {
+        tick += r.pick(&[0, 0, 1, 2, 9, 40]);
+        let at = if r.once_in(30) { tick.saturating_sub(r.within(1, 3)) } else { tick };
+        let processor = if r.once_in(30) { r.below(256) as u8 } else { r.below(plan.processors as u64) as u8 };
+        let entry = if r.once_in(30) { r.below(256) as u8 } else { r.below(plan.entries.len() as u64) as u8 };
+        let holds = arbiter.requests.iter().any(|q| q.processor == processor && q.phase == Phase::Holding);
+        let call = if holds != r.once_in(8) {
+            Call::Complete { processor, tick: at }
+        } else {
+            Call::Issue { processor, entry, tick: at }
+        };
+        arbiter.call(call).ok();
+        calls.push(call);
+    }
+    calls
+}
+
+/// Every holder holds exactly its length and issues again at once, so that the others wait as long as they can.
+pub fn hostile(r: &mut Random, plan: &Plan, count: usize) -> Vec<Call> {
+    let mut arbiter = Arbiter::new(plan.clone());
+    let mut calls = Vec::new();
+    let mut call = |arbiter: &mut Arbiter, call: Call| {
+        arbiter.call(call).expect("a call that fits");
+        calls.push(call);
+        calls.len()
+    };
+    for processor in 0..plan.processors {
+        let entry = r.below(plan.entries.len() as u64) as u8;
+        call(&mut arbiter, Call::Issue { processor, entry, tick: 0 });
+    }
+    loop {
+        let ends = |q: &crate::arbiter::Request| q.granted_at + plan.entries[q.entry as usize].length;
+        let next = arbiter.requests.iter().filter(|q| q.phase == Phase::Holding).min_by_key(|q| (ends(q), q.processor));
+        let Some(next) = next else { return calls };
+        let (processor, tick) = (next.processor, ends(next));
+        let entry = r.below(plan.entries.len() as u64) as u8;
+        if tick > 1_000_000_000_000 || call(&mut arbiter, Call::Complete { processor, tick }) >= count {
+            return calls;
+        }
+        if call(&mut arbiter, Call::Issue { processor, entry, tick }) >= count {
+            return calls;
+        }
+    }
+}
+
+fn damaged(r: &mut Random, mut bytes: Vec<u8>) -> Vec<u8> {
+    for _ in 0..r.within(1, 4) {
+        if bytes.is_empty() {
+            break;
+        }
+        let at = r.below(bytes.len() as u64) as usize;
+        match r.below(4) {
+            0 => bytes[at] = r.below(256) as u8,
+            1 => bytes[at] ^= 1 << r.below(8),
+            2 => bytes.truncate(at),
+            _ => bytes.insert(at, r.pick(&[0, 1, 2, 255])),
+        }
+    }
+    bytes
+}
+
+/// Log number `seed`.
+pub fn log(seed: u64) -> Vec<u8> {
+    let r = &mut Random::new(seed);
+    let m = r.within(1, 16) as u8;
+    let reads = r.pick(&[0, 5, 7, 10]);
+    let plan = plan(r, m, reads);
+    let count = r.pick(&[0, 3, 20, 60, 200]);
+    let bytes = match seed % 4 {
+        0 => log_bytes(&plan, &hostile(r, &plan, count)),
+        _ => log_bytes(&plan, &mixed(r, &plan, count)),
+    };
+    match seed % 5 {
+        0 => damaged(r, bytes),
+        1 if r.once_in(3) => {
+            let end = r.below(bytes.len() as u64 + 1) as usize;
+            bytes[..end].to_vec()
+        }
+        _ => bytes,
+    }
+}

@@ -1,0 +1,78 @@
+//! A second implementation of document 01, written from the paper alone and as plain as can be: a list of requests in
+//! order of issue, sets of resources, no conflict rows. It shares no code or table with the library.
+//!
+//! twin replay | queries | viewer            a log or a plan on standard input
+//! twin measure LOG LISTING                  the longest waits of a listing against the plan's figures
+//! twin compare PROGRAM FROM COUNT DIR       seeded logs through a program and the twin, byte for byte
+//! twin compare-queries PROGRAM FROM COUNT DIR
+//! twin waits PROGRAM COUNT                  hostile logs through a program: no wait passes its figure
+//! twin log SEED                             writes one of the seeded logs
+mod arbiter;
+mod compare;
+mod listing;
+mod logs;
+mod measure;
+mod plan;
+mod random;
+
+use std::fs;
+use std::io::{self, BufWriter, Read, Write};
+
+fn stdin_bytes() -> Vec<u8> {
+    let mut bytes = Vec::new();
+    io::stdin().read_to_end(&mut bytes).expect("standard input");
+    bytes
+}
+
+fn print_viewer(out: &mut impl Write) -> io::Result<()> {
+    match plan::Plan::take(&mut &stdin_bytes()[..]) {
+        Ok(plan) => writeln!(out, "0 {} {}", plan.read_figure(), plan.write_figure()),
+        Err(number) => writeln!(out, "{number} 0 0"),
+    }
+}
+
+fn print_measured(log: &str, listing: &str) -> bool {
+    let log = fs::read(log).expect("the log");
+    let listing = fs::read_to_string(listing).expect("the listing");
+    match measure::measure(&log, &listing) {
+        Ok((plan, m)) => {
+            println!("requests {} overran {}", m.requests, m.overran);
+            println!("longest read wait {} of {}", m.read, plan.read_figure());
+            println!("longest write wait {} of {}", m.write, plan.write_figure());
+            m.overran > 0 || (m.read <= plan.read_figure() && m.write <= plan.write_figure())
+        }
+        Err(why) => {
+            println!("{why}");
+            false
+        }
+    }
+}
+
+fn main() -> io::Result<()> {
+    let args: Vec<String> = std::env::args().skip(1).collect();
+    let words: Vec<&str> = args.iter().map(String::as_str).collect();
+    let number = |word: &str| word.parse::<u64>().expect("a number");
+    let mut out = BufWriter::new(io::stdout());
+    let fine = match words[..] {
+        ["replay"] => {
+            listing::listing(&stdin_bytes(), false, &mut out);
+            true
+        }
+        ["queries"] => {
+            listing::listing(&stdin_bytes(), true, &mut out);
+            true
+        }
+        ["viewer"] => print_viewer(&mut out).is_ok(),
+        ["log", seed] => out.write_all(&logs::log(number(seed))).is_ok(),
+        ["measure", log, listing] => print_measured(log, listing),
+        ["compare", program, from, count, dir] => compare::compare(program, false, number(from), number(count), dir),
+        ["compare-queries", program, from, count, dir] => compare::compare(program, true, number(from), number(count), dir),
+        ["waits", program, count] => compare::waits(program, number(count)),
+        _ => {
+            eprintln!("usage: see the head of twin/src/main.rs");
+            false
+        }
+    };
+    out.flush()?;
+    std::process::exit(if fine { 0 } else { 1 })
+}
