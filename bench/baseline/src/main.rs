@@ -1,5 +1,7 @@
 //! The library's own algorithm in plain Rust, on the benchmark's workload: ten million accepted calls on a saturated
 //! board of 16 processors and 64 entries, a third of them writes. Prints the same checksum as the Rattle program.
+mod replay;
+
 use std::time::Instant;
 
 #[derive(Clone, Copy)]
@@ -228,6 +230,10 @@ fn holder_from(holding: u32, from: u32) -> u32 {
 }
 
 fn main() {
+    if std::env::args().nth(1).as_deref() == Some("replay") {
+        replay::replay().expect("a log on standard input");
+        return;
+    }
     let rounds: u64 = std::env::args().nth(1).and_then(|a| a.parse().ok()).unwrap_or(5_000_000);
     let board = board_of(16, &entries());
     let mut state = State::fresh();

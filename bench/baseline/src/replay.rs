@@ -1,0 +1,77 @@
+//! A log to its listing in plain Rust, with the algorithm of the library.
+use crate::{board_of, Done, Entry, State};
+use std::io::{self, Read, Write};
+
+fn number(bytes: &[u8]) -> u64 {
+    bytes.iter().rev().fold(0, |sum, &b| sum << 8 | b as u64)
+}
+
+fn push_decimal(out: &mut Vec<u8>, mut n: u64) {
+    let mut digits = [0u8; 20];
+    let mut at = 20;
+    loop {
+        at -= 1;
+        digits[at] = b'0' + (n % 10) as u8;
+        n /= 10;
+        if n == 0 {
+            break;
+        }
+    }
+    out.extend_from_slice(&digits[at..]);
+}
+
+fn push_mask(out: &mut Vec<u8>, mask: u32) {
+    for shift in [12, 8, 4, 0] {
+        out.push(b"0123456789abcdef"[(mask >> shift & 15) as usize]);
+    }
+}
+
+fn push_answer(out: &mut Vec<u8>, answer: Result<Done, u8>) {
+    match answer {
+        Ok(done) => {
+            push_mask(out, done.granted);
+            out.push(b' ');
+            push_mask(out, done.entitled);
+            out.push(b' ');
+            push_decimal(out, done.late as u64);
+        }
+        Err(refusal) => {
+            out.extend_from_slice(b"refused ");
+            push_decimal(out, refusal as u64);
+        }
+    }
+    out.push(b'\n');
+}
+
+/// Replays a log without faults in its bytes, as the benchmark's are.
+pub fn replay() -> io::Result<()> {
+    let mut log = Vec::new();
+    io::stdin().lock().read_to_end(&mut log)?;
+    let (processors, count) = (log[0], log[2] as usize);
+    let entries: Vec<Entry> = log[3..3 + 11 * count]
+        .chunks(11)
+        .map(|e| Entry { write: e[0] == 1, set: number(&e[1..9]), length: number(&e[9..11]) as u16 })
+        .collect();
+    let longest = |write| entries.iter().filter(|e| e.write == write).map(|e| e.length as u64).max().unwrap_or(0);
+    let read = longest(false) + longest(true);
+    let mut out = Vec::with_capacity(65536);
+    write!(out, "processors {processors} resources {} entries {count} read {read} write {}\n", log[1], (processors as u64 - 1) * read)?;
+    let board = board_of(processors, &entries);
+    let mut state = State::fresh();
+    let stdout = io::stdout();
+    let mut stdout = stdout.lock();
+    for call in log[3 + 11 * count + 2..].chunks(8) {
+        let tick = number(&call[3..8]);
+        push_decimal(&mut out, tick);
+        out.extend_from_slice(if call[0] == 0 { b" i " } else { b" c " });
+        push_decimal(&mut out, call[1] as u64);
+        out.push(b' ');
+        let answer = if call[0] == 0 { state.issue(&board, call[1], call[2], tick) } else { state.complete(&board, call[1], tick) };
+        push_answer(&mut out, answer);
+        if out.len() > 60000 {
+            stdout.write_all(&out)?;
+            out.clear();
+        }
+    }
+    stdout.write_all(&out)
+}
