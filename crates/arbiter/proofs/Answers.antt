@@ -1,4 +1,4 @@
--- The answer of a call from the phases before and after. Assumes nothing.
+-- The answer of a call from the phases before and after, which are the settled ones. Assumes nothing.
 use mathlib.Core.Path.{_≡_, ap, _∙_}
 use mathlib.Core.Bool.{cond, not, _&&_}
 use mathlib.Core.List.{List}
@@ -15,15 +15,16 @@ use Rattle.arbiter.specs.Parts.{stateOf, stampedSince}
 use Rattle.arbiter.specs.Calls.{stamped, done}
 use Rattle.arbiter.proofs.PhaseMasks.{new-places}
 
-pub answer-done : (before after : Phases) (tick : ℕ) (entry since earlier : List ℕ) (late granted entitled : ℕ) (stamps : List ℕ)
+pub answer-done : (before after settles : Phases) (tick : ℕ) (entry since earlier : List ℕ) (late granted entitled : ℕ) (stamps : List ℕ)
     → before .entitled < 2 ^ 16 → before .holding < 2 ^ 16 → after .entitled < 2 ^ 16 → after .holding < 2 ^ 16
-    → granted ≡ without 32 (after .holding) (before .holding) → entitled ≡ without 32 (after .entitled) (before .entitled)
+    → after ≡ settles → granted ≡ without 32 (after .holding) (before .holding) → entitled ≡ without 32 (after .entitled) (before .entitled)
     → stamps ≡ stampedSince since granted tick
     → _≡_ {A = Answered} (record { reply = Reply.Done granted entitled late; state = stateOf tick after entry stamps earlier })
-    (done (stateOf tick before entry since earlier) (stateOf tick after entry since earlier) late)
+    (done (stateOf tick before entry since earlier) (stateOf tick settles entry since earlier) late)
 unfolding stampedSince stamped done
-answer-done before after tick entry since earlier late granted entitled stamps be bh ae ah eg ee es =
-    λ i. record { reply = Reply.Done (g i) (e i) late; state = stateOf tick after entry (s i) earlier }
+answer-done before after settles tick entry since earlier late granted entitled stamps be bh ae ah ef eg ee es =
+    (λ i. record { reply = Reply.Done (g i) (e i) late; state = stateOf tick after entry (s i) earlier })
+    ∙ ap (λ ph. done (stateOf tick before entry since earlier) (stateOf tick ph entry since earlier) late) ef
   where
     g : granted ≡ maskOf 16 (λ k. bit (after .holding) k && not (bit (before .holding) k))
     g = eg ∙ new-places (after .holding) (before .holding) ah bh

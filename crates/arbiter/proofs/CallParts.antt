@@ -86,16 +86,16 @@ module _ (b : Board) (last : ℕ) (ph : Phases) (entry since earlier : List ℕ)
       (or-below 16 (ph .waiting) (aheadOf ph) (small .0) (or-below 16 (ph .entitled) (ph .holding) (small .1) (small .2)))
       (λ q l. bit-active ph q))
 
-  put-settled : Small ph → (line : List ℕ) (atOnce : Bool) (ready after : Phases)
+  put-settled : Small ph → (line : List ℕ) (atOnce : Bool) (ready : Phases)
       → line ≡ putEarlier earlier p (activeOf ph)
       → atOnce ≡ freeRead (b .rows) (b .writes) (set entry p e) (aheadOf ph) p
       → ready ≡ admittedPhases ph p atOnce
-      → after ≡ settledPhases (b .rows) (b .writes) (set entry p e) line ready
-      → stateOf t after (set entry p e) (set since p t) line ≡ settled b (admitted b (putIn last ph entry since earlier p e t) p)
+      → stateOf t (settledPhases (b .rows) (b .writes) (set entry p e) line ready) (set entry p e) (set since p t) line
+      ≡ settled b (admitted b (putIn last ph entry since earlier p e t) p)
   unfolding put admitted
-  put-settled small line atOnce ready after el ea er es =
+  put-settled small line atOnce ready el ea er =
       ap₂ (λ ph line. stateOf t ph (set entry p e) (set since p t) line)
-      (es ∙ ap₂ (settledPhases (b .rows) (b .writes) (set entry p e)) whole (er ∙ admits atOnce (ea ∙ holds-at-once))) whole
+      (ap₂ (settledPhases (b .rows) (b .writes) (set entry p e)) whole (er ∙ admits atOnce (ea ∙ holds-at-once))) whole
       ∙ sym (settled-state b (admitted b (putIn last ph entry since earlier p e t) p))
     where
       whole : line ≡ putIn last ph entry since earlier p e t .earlier
@@ -119,18 +119,18 @@ module _ (b : Board) (s : State) (before : Phases) (cleans : before ≡ cleanedP
     unfolding issued
     issue-refused r w = refuses (issueFault b s p e t) r s _ (sym decides ∙ w)
 
-    pub issue-accepted : v ≡ Verdict.Accepted → (line : List ℕ) (atOnce : Bool) (ready after : Phases) (a : Answered)
+    pub issue-accepted : v ≡ Verdict.Accepted → (line : List ℕ) (atOnce : Bool) (ready : Phases) (a : Answered)
         → line ≡ putEarlier (s .earlier) p (activeOf before)
         → atOnce ≡ freeRead (b .rows) (b .writes) (set (s .entry) p e) (aheadOf before) p
         → ready ≡ admittedPhases before p atOnce
-        → after ≡ settledPhases (b .rows) (b .writes) (set (s .entry) p e) line ready
-        → a ≡ done (stateOf t before (set (s .entry) p e) (set (s .since) p t) line) (stateOf t after (set (s .entry) p e) (set (s .since) p t) line) 0
+        → a ≡ done (stateOf t before (set (s .entry) p e) (set (s .since) p t) line)
+        (stateOf t (settledPhases (b .rows) (b .writes) (set (s .entry) p e) line ready) (set (s .entry) p e) (set (s .since) p t) line) 0
         → a ≡ issued b s p e t
     unfolding isHolding isEntitled isWaiting cleaned cleanedPhases put stamped done issued
-    issue-accepted w line atOnce ready after a el ea er es eq =
+    issue-accepted w line atOnce ready a el ea er eq =
         eq
         ∙ ap (λ x. done (stateOf t before (set (s .entry) p e) (set (s .since) p t) line) x 0)
-        (put-settled b (s .last) before (s .entry) (s .since) (s .earlier) p e t (cleaned-small before (b .processors) (b .count) (s .entry) (phasesOf s) cleans) line atOnce ready after el ea er es)
+        (put-settled b (s .last) before (s .entry) (s .since) (s .earlier) p e t (cleaned-small before (b .processors) (b .count) (s .entry) (phasesOf s) cleans) line atOnce ready el ea er)
         ∙ ap (λ ph. done (stateOf t ph (set (s .entry) p e) (set (s .since) p t) line) (settled b (admitted b (put (stateOf (s .last) ph (s .entry) (s .since) (s .earlier)) p e t) p)) 0) cleans
         ∙ accepts (issueFault b s p e t) s _ (sym decides ∙ w)
 
@@ -142,17 +142,17 @@ module _ (b : Board) (s : State) (before : Phases) (cleans : before ≡ cleanedP
     unfolding completed
     complete-refused r w = refuses (completeFault b s p t) r s _ (sym ends ∙ w)
 
-    pub complete-accepted : v ≡ Verdict.Accepted → (entry length held late : ℕ) (ready after : Phases) (a : Answered)
+    pub complete-accepted : v ≡ Verdict.Accepted → (entry length held late : ℕ) (ready : Phases) (a : Answered)
         → entry ≡ getD (s .entry) p 0 → length ≡ getD (b .lengths) entry 0 → held ≡ t - getD (s .since) p 0 → late ≡ cond (ltb length held) 1 0
         → ready ≡ takenPhases before p
-        → after ≡ settledPhases (b .rows) (b .writes) (s .entry) (s .earlier) ready
-        → a ≡ done (stateOf t before (s .entry) (s .since) (s .earlier)) (stateOf t after (s .entry) (s .since) (s .earlier)) late
+        → a ≡ done (stateOf t before (s .entry) (s .since) (s .earlier))
+        (stateOf t (settledPhases (b .rows) (b .writes) (s .entry) (s .earlier) ready) (s .entry) (s .since) (s .earlier)) late
         → a ≡ completed b s p t
     unfolding isHolding isEntitled isWaiting cleaned cleanedPhases taken takenPhases stamped done completed
-    complete-accepted w entry length held late ready after a ee eh et el er es eq =
+    complete-accepted w entry length held late ready a ee eh et el er eq =
         eq
         ∙ ap₂ (λ ph. done (stateOf t before (s .entry) (s .since) (s .earlier)) (stateOf t ph (s .entry) (s .since) (s .earlier)))
-        (es ∙ ap (settledPhases (b .rows) (b .writes) (s .entry) (s .earlier)) er)
+        (ap (settledPhases (b .rows) (b .writes) (s .entry) (s .earlier)) er)
         (el ∙ ap₂ (λ (x y : ℕ). cond (ltb x y) 1 0) (eh ∙ ap (λ (x : ℕ). getD (b .lengths) x 0) ee) et)
         ∙ ap (λ ph. done (stateOf t ph (s .entry) (s .since) (s .earlier)) (stateOf t (settledPhases (b .rows) (b .writes) (s .entry) (s .earlier) (takenPhases ph p)) (s .entry) (s .since) (s .earlier)) (lateMark b s p t)) cleans
         ∙ ap (λ x. done (cleaned b s) x (lateMark b s p t)) (sym (settled-state b (taken (cleaned b s) p t)))

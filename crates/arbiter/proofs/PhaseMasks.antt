@@ -2,16 +2,19 @@
 use mathlib.Core.Path.{_≡_, refl, sym, ap, ap₂, _∙_}
 use mathlib.Core.Bool.{Bool, true, false, cond, not, _&&_, _||_, and-true, and-false, or-false}
 use mathlib.Core.List.{List}
-use Prim.Native.Nat.{ℕ, _^_, _<_}
+use Prim.Native.Nat.{ℕ, _-_, _*_, _%_, _^_, _<_, _≤_}
+use native.Mathlib.Nat.{one-mul, mod-eq-of-lt, lt-of-lt-of-le}
 use native.Mathlib.Omega.{arith}
 use lib.Bits.{bitAnd, bitOr}
 use lib.Dec.{eqb, ltb}
+use lib.ListN.{getD}
+use lib.Pow.{pow-pos, pow-lt, pow-mono}
 use borrow.Author.Tests.{lt-ltb}
-use Rattle.masks.specs.Sets.{bit, added, removed, without, maskOf}
-use Rattle.masks.proofs.Places.{bit-and, bit-or, bit-without, bit-added-if, bit-removed-if, and-below, or-below, added-below}
-use Rattle.masks.proofs.Masks.{is-mask, mask-agree, mask-below, bit-mask-at}
+use Rattle.masks.specs.Sets.{bit, added, removed, complement, without, maskOf}
+use Rattle.masks.proofs.Places.{bit-zero, bit-and, bit-or, bit-complement, bit-without, bit-added-if, bit-removed-if, and-below, or-below, complement-below, added-below}
+use Rattle.masks.proofs.Masks.{is-mask, mask-agree, mask-below, mask-and, bit-mask-at}
 use Rattle.arbiter.specs.declared.Phases.{Phases}
-use Rattle.arbiter.specs.Parts.{inPlanBy, cleanedPhases, admittedPhases, takenPhases}
+use Rattle.arbiter.specs.Parts.{countedBy, inPlanBy, cleanedPhases, admittedPhases, takenPhases}
 
 pub wider : (n : ℕ) → n < 2 ^ 16 → n < 2 ^ 32
 wider n h = omega arith
@@ -44,17 +47,44 @@ place-in n p h l =
 
 -- ---- the requests that count
 
+-- The first n places of 16, where the first m are meant.
+first-places : (n m : ℕ) → n ≤ 16 → ((k : ℕ) → k < 16 → ltb k n ≡ ltb k m) → 2 ^ n - 1 ≡ maskOf 16 (countedBy m)
+first-places n m h same =
+    let none : 2 ^ n - 1 ≡ complement n 0 = omega arith in
+    none
+    ∙ is-mask 16 (complement n 0) (countedBy m) (lt-of-lt-of-le (complement-below n 0) (pow-mono h))
+    (λ k l. bit-complement n 0 k (pow-pos n) ∙ ap (λ t. ltb k n && not t) (bit-zero k) ∙ and-true (ltb k n) ∙ same k l
+    ∙ ap (λ t. t && ltb k m) (sym (lt-ltb k 16 l)))
+
+-- A place below 16 is not shifted out.
+pub one-place : (m : ℕ) → m < 16 → 1 * 2 ^ m % 2 ^ 32 ≡ 2 ^ m
+one-place m l =
+    let below : m < 32 = omega arith in
+    ap (λ (x : ℕ). x % 2 ^ 32) (one-mul (2 ^ m)) ∙ mod-eq-of-lt (pow-lt below)
+
+pub first-shifted : (m : ℕ) → m < 16 → 1 * 2 ^ m % 2 ^ 32 - 1 ≡ maskOf 16 (countedBy m)
+first-shifted m l = ap (λ (x : ℕ). x - 1) (one-place m l) ∙ first-places m m (omega arith) (λ k h. refl)
+
+pub first-all : (m : ℕ) → 16 ≤ m → 65535 ≡ maskOf 16 (countedBy m)
+first-all m l = first-places 16 m (omega arith) (λ k h. lt-ltb k 16 h ∙ sym (lt-ltb k m (omega arith)))
+
 pub cleaned-masks : (processors count : ℕ) (entry : List ℕ) (ph : Phases) → ph .waiting < 2 ^ 32 → ph .entitled < 2 ^ 32 → ph .holding < 2 ^ 32
-    → (counted waiting entitled : ℕ) → counted ≡ maskOf 16 (inPlanBy processors count entry)
+    → (first below waiting entitled : ℕ) → first ≡ maskOf 16 (countedBy processors) → below ≡ maskOf 16 (λ p. ltb (getD entry p 0) count)
     → waiting ≡ without 32 (ph .waiting) (bitOr (ph .entitled) (ph .holding)) → entitled ≡ without 32 (ph .entitled) (ph .holding)
-    → _≡_ {A = Phases} (record { waiting = bitAnd counted waiting; entitled = bitAnd counted entitled; holding = bitAnd counted (ph .holding) })
+    → _≡_ {A = Phases} (record { waiting = bitAnd (bitAnd first below) waiting; entitled = bitAnd (bitAnd first below) entitled; holding = bitAnd (bitAnd first below) (ph .holding) })
     (cleanedPhases processors count entry ph)
 unfolding cleanedPhases
-cleaned-masks processors count entry ph hw he hh counted waiting entitled ec ew ee =
+cleaned-masks processors count entry ph hw he hh first below waiting entitled ef eb ew ee =
     λ i. record { waiting = w i; entitled = e i; holding = h i }
   where
     test : ℕ → Bool
     test = inPlanBy processors count entry
+
+    counted : ℕ
+    counted = bitAnd first below
+
+    ec : counted ≡ maskOf 16 test
+    ec = ap₂ bitAnd ef eb ∙ mask-and 16 (countedBy processors) (λ p. ltb (getD entry p 0) count)
 
     w : bitAnd counted waiting ≡ maskOf 16 (λ k. test k && (bit (ph .waiting) k && not (bit (ph .entitled) k || bit (ph .holding) k)))
     w = ap₂ bitAnd ec ew

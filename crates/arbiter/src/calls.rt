@@ -28,8 +28,8 @@ ghost use lib.ListN.{getD};
 ghost use Rattle.masks.specs.Sets.{maskOf};
 ghost use Rattle.conflicts.specs.Conflict.{tabulate};
 ghost use Rattle.arbiter.specs.Requests.{slots, cleaned};
-ghost use Rattle.arbiter.specs.Phases.{phasesOf};
-ghost use Rattle.arbiter.specs.Parts.{stateOf, countedBy, inPlanBy, cleanedPhases, issueFaultBy, completeFaultBy, putEarlier, admittedPhases, takenPhases, freeRead, stampedSince, refusalOf};
+ghost use Rattle.arbiter.specs.Phases.{phasesOf, settledPhases};
+ghost use Rattle.arbiter.specs.Parts.{stateOf, countedBy, cleanedPhases, issueFaultBy, completeFaultBy, putEarlier, admittedPhases, takenPhases, freeRead, stampedSince, refusalOf};
 ghost use Rattle.arbiter.specs.Calls.{done, issued, completed};
 
 // "Above 1,099,511,627,775."
@@ -37,26 +37,34 @@ const LAST_TICK: u64 = 1099511627775;
 
 // ---- the requests that count
 
-// The processors whose requests count: "a request whose entry or processor is outside the plan [is] taken as none".
-fn in_plan(processors: u8, count: u8, entry: &[u8]) -> u32
-    ensures { λ r. ⌜ r ≡ maskOf slots (inPlanBy processors count (now (entry .entry))) ⌝ }
+// The processors whose requests' entries are below the count. Nothing else in the loop: compiled, it is one comparison
+// of all 16.
+fn entries_below(count: u8, entry: [u8; 16]) -> u32
+    ensures { λ r. ⌜ r ≡ maskOf slots (λ p. ltb (getD entry p 0) count) ⌝ }
 {
-    let m = processors as u32;
-    let n = count as u32;
     let mut out: u32 = 0;
     let mut p: u32 = 0;
     while p < SLOTS {
-        out = add_if(out, p, (p < m) & (entry_at(entry, p) < n));
+        out = add_if(out, p, entry[p as usize] < count);
         p += 1;
     }
     out
 }
 
-// The phases of the requests that count, each in one of them at most.
-fn clean(processors: u8, count: u8, entry: &[u8], phases: Phases) -> Phases
-    ensures { λ r. ⌜ r ≡ cleanedPhases processors count (now (entry .entry)) phases ⌝ }
+// The first so many processors.
+fn first_of(processors: u8) -> u32
+    ensures { λ r. ⌜ r ≡ maskOf slots (countedBy processors) ⌝ }
 {
-    let counted = in_plan(processors, count, entry);
+    let m = processors as u32;
+    if m < SLOTS { (1 << m) - 1 } else { ALL }
+}
+
+// The phases of the requests that count, each in one of them at most: "a request whose entry or processor is outside
+// the plan [is] taken as none".
+fn clean(processors: u8, count: u8, entry: [u8; 16], phases: Phases) -> Phases
+    ensures { λ r. ⌜ r ≡ cleanedPhases processors count entry phases ⌝ }
+{
+    let counted = first_of(processors) & entries_below(count, entry);
     Phases {
         waiting: counted & without32(phases.waiting, phases.entitled | phases.holding),
         entitled: counted & without32(phases.entitled, phases.holding),
@@ -74,7 +82,7 @@ pub fn phases_of(board: Board, state: State) -> Phases
         entitled: state.entitled,
         holding: state.holding,
     };
-    clean(board.processors, board.count, &entry, given)
+    clean(board.processors, board.count, entry, given)
 }
 
 // ---- refusals
@@ -248,19 +256,22 @@ fn stamp(since: [u64; 16], granted: u32, tick: u64) -> [u64; 16]
     out
 }
 
-// The two masks, late, and the state after with the ticks of the grants.
+// Settles, and gives the two masks, late, and the state after with the ticks of the grants.
 fn answer(
+    rows: &[u64],
+    writes: u64,
     before: Phases,
-    after: Phases,
+    ready: Phases,
     tick: u64,
     entry: [u8; 16],
     since: [u64; 16],
     earlier: [u32; 16],
     late: u8,
 ) -> Answered
-    requires { ⌜ (before .entitled < 2 ^ 16) × (before .holding < 2 ^ 16) × (after .entitled < 2 ^ 16) × (after .holding < 2 ^ 16) ⌝ }
-    ensures { λ r. ⌜ r ≡ done (stateOf tick before entry since earlier) (stateOf tick after entry since earlier) late ⌝ }
+    requires { ⌜ (before .entitled < 2 ^ 16) × (before .holding < 2 ^ 16) × (ready .waiting < 2 ^ 16) × (ready .entitled < 2 ^ 16) × (ready .holding < 2 ^ 16) ⌝ }
+    ensures { λ r. ⌜ r ≡ done (stateOf tick before entry since earlier) (stateOf tick (settledPhases (now (rows .entry)) writes entry earlier ready) entry since earlier) late ⌝ }
 {
+    let after = settle(rows, writes, &entry, &earlier, ready);
     let granted = without32(after.holding, before.holding);
     let stamps = stamp(since, granted, tick);
     Answered {
@@ -306,7 +317,7 @@ pub fn issue(board: Board, state: State, processor: u8, entry: u8, tick: u64) ->
         entitled: state.entitled,
         holding: state.holding,
     };
-    let before = clean(processors, count, &entries, given);
+    let before = clean(processors, count, entries, given);
     let ahead = before.entitled | before.holding;
     let active = before.waiting | ahead;
     let verdict = issue_fault(last, processors, count, active, processor, entry, tick);
@@ -318,10 +329,11 @@ pub fn issue(board: Board, state: State, processor: u8, entry: u8, tick: u64) ->
     since[processor as usize] = tick;
     let line = put_earlier(earlier, processor, active);
     let p = processor as u32;
-    let at_once = is_free_read(&board.rows, board.writes, &entries, ahead, p);
+    let rows = board.rows;
+    let writes = board.writes;
+    let at_once = is_free_read(&rows, writes, &entries, ahead, p);
     let ready = admit(before, processor, at_once);
-    let after = settle(&board.rows, board.writes, &entries, &line, ready);
-    answer(before, after, tick, entries, since, line, 0)
+    answer(&rows, writes, before, ready, tick, entries, since, line, 0)
 }
 
 // Processor gives its request back at a tick. Refused by 10, 11, 14, 15, in that order.
@@ -338,7 +350,7 @@ pub fn complete(board: Board, state: State, processor: u8, tick: u64) -> Answere
         entitled: state.entitled,
         holding: state.holding,
     };
-    let before = clean(processors, board.count, &entry, given);
+    let before = clean(processors, board.count, entry, given);
     let unsatisfied = before.waiting | before.entitled;
     let active = unsatisfied | before.holding;
     let verdict = complete_fault(last, processors, active, unsatisfied, processor, tick);
@@ -349,6 +361,16 @@ pub fn complete(board: Board, state: State, processor: u8, tick: u64) -> Answere
     let length = length_at(&board.lengths, entry_at(&entry, processor as u32));
     let late = late_mark(length, ticks_between(since[processor as usize], tick));
     let ready = take_out(before, processor);
-    let after = settle(&board.rows, board.writes, &entry, &earlier, ready);
-    answer(before, after, tick, entry, since, earlier, late)
+    let rows = board.rows;
+    answer(
+        &rows,
+        board.writes,
+        before,
+        ready,
+        tick,
+        entry,
+        since,
+        earlier,
+        late,
+    )
 }

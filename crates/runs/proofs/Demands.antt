@@ -29,7 +29,9 @@ use Rattle.runs.proofs.refinement.Demand3.{demand3}
 -- state and all lent buffers unchanged."
 -- Which number is due is said by readFault, writeFault, planFault, issueFault and completeFault. The functions promise:
 -- plan_reader::read ≡ readPlan; plan_writer::write ≡ writeOutcome, and the buffer after it ≡ writtenBuffer;
--- plans::check ≡ planFault; arbiter::fresh ≡ freshOf; arbiter::issue ≡ issued; arbiter::complete ≡ completed.
+-- plans::check ≡ planFault; arbiter::fresh_of ≡ freshOf; arbiter::issue ≡ issued; arbiter::complete ≡ completed.
+-- Above this crate: queries::phase_of ≡ phaseQuery, direct_waits ≡ waitsQuery, reach ≡ reachQuery and reachScratch;
+-- logs::read_count ≡ readCount, read_record ≡ readRecord, check_tail ≡ tailFault; and the lines of listings and replay.
 
 pub refused-reading-gives-number-only : (s : List ℕ) (r : Refusal) → readFault s ≡ Verdict.Refused r
     → readPlan s ≡ record { outcome = Outcome.Refused r; plan = blankPlan }

@@ -2,7 +2,7 @@
 use mathlib.Core.Path.{_≡_, sym, _∙_}
 use lib.ListN.{length}
 use Rattle.arbiter.proofs.Verdicts.{complete-counted}
-use Rattle.arbiter.proofs.Bounds.{Small, cleaned-small, taken-small, settled-small}
+use Rattle.arbiter.proofs.Bounds.{Small, cleaned-small, taken-small}
 use Rattle.arbiter.proofs.CallParts.{complete-refused, complete-accepted}
 use borrow.Author.Needs.{needs}
 use Rattle.arbiter.proofs.calls.complete.Statement.{statement}
@@ -11,15 +11,12 @@ use Rattle.arbiter.proofs.calls.complete.Tie as tie
 entry-full : (c : tie.Start) → length (c .args .state .entry) ≡ 16
 entry-full c = search needs
 
-earlier-full : (c : tie.Start) → length (c .args .state .earlier) ≡ 16
-earlier-full c = search needs
+rows-full : (c : tie.Start) → length (c .args .t1 .rows) ≡ 64
+rows-full c = search needs
 
 -- The phases that count are masks of 16 places.
 small : (c : tie.After-clean) → Small (c .clean .result)
 small c = cleaned-small _ _ _ _ _ (c .clean .ensures)
-
-slice-aggregate-clean : tie.Need-slice-aggregate-clean
-slice-aggregate-clean c = search needs
 
 clean-requires : tie.Need-clean-requires
 clean-requires c κs = search needs
@@ -43,7 +40,7 @@ returns c =
     ∙ complete-refused _ _ _ (found .before .before .before .clean .ensures) _ _ _ (found .complete-fault .ensures) _ (c .before .before .verdict .given .1)
 
 slice-aggregate-entry-at : tie.Need-slice-aggregate-entry-at
-slice-aggregate-entry-at c = sym (entry-full (c .before .before .before .before .before .before .before .before .before .before .before .before .before .before))
+slice-aggregate-entry-at c = sym (entry-full (c .before .before .before .before .before .before .before .before .before .before .before .before .before))
 
 entry-at-requires : tie.Need-entry-at-requires
 entry-at-requires c κs = search needs
@@ -66,34 +63,27 @@ late-mark-requires c κs = search needs
 take-out-requires : tie.Need-take-out-requires
 take-out-requires c κs = small (c .before .before .before .before .before .before .before .before .before .before .before .before .before) .2
 
-slice-aggregate-settle : tie.Need-slice-aggregate-settle
-slice-aggregate-settle c = sym (entry-full (c .before .before .before .before .before .before .before .before .before .before .before .before .before .before .before .before .before .before .before .before .before .before .before))
-
-slice-aggregate-settle-2 : tie.Need-slice-aggregate-settle-2
-slice-aggregate-settle-2 c = sym (earlier-full (c .before .before .before .before .before .before .before .before .before .before .before .before .before .before .before .before .before .before .before .before .before .before .before .before))
-
-settle-requires : tie.Need-settle-requires
-settle-requires c κs = taken-small _ _ _ (c .before .before .before .before .before .take-out .ensures) (small (c .before .before .before .before .before .before .before .before .before .before .before .before .before .before .before .before .before .before .before))
+slice-aggregate-answer : tie.Need-slice-aggregate-answer
+slice-aggregate-answer c = sym (rows-full (c .before .before .before .before .before .before .before .before .before .before .before .before .before .before .before .before .before .before .before .before))
 
 answer-requires : tie.Need-answer-requires
 answer-requires c κs =
-    let b = small (c .before .before .before .before .before .before .before .before .before .before .before .before .before .before .before .before .before .before .before .before) in
-    let a = settled-small _ _ _ _ _ _ (c .settle .ensures) in
-    (b .1, b .2, a .1, a .2)
+    let before = small (c .before .before .before .before .before .before .before .before .before .before .before .before .before .before .before .before) in
+    let ready = taken-small _ _ _ (c .before .before .take-out .ensures) before in
+    (before .1, before .2, ready .0, ready .1, ready .2)
 
 returns-2 : tie.Need-returns-2
 returns-2 c =
-    let marked = c .before .before .before .before .before .before .before .before in
+    let marked = c .before .before .before .before in
     let told = marked .before .before .before .before .before .before .before .before in
-    complete-accepted _ _ _ (told .before .before .before .before .before .clean .ensures) _ _ _ (told .before .before .complete-fault .ensures) (told .enum-told .given .1) _ _ _ _ _ _ _
+    complete-accepted _ _ _ (told .before .before .before .before .before .clean .ensures) _ _ _ (told .before .before .complete-fault .ensures) (told .enum-told .given .1) _ _ _ _ _ _
     (marked .before .before .before .entry-at .ensures) (marked .before .before .length-at .ensures) (marked .before .ticks-between .ensures)
-    (marked .late-mark .ensures) (c .before .before .before .before .before .before .before .take-out .ensures) (c .before .settle .ensures) (c .answer .ensures)
+    (marked .late-mark .ensures) (c .before .before .before .take-out .ensures) (c .answer .ensures)
 
 pub complete-spec : {M : Type 1} → statement M
 complete-spec =
     tie.close
     (tie.spec
-    slice-aggregate-clean
     clean-requires
     complete-fault-requires
     enum-told
@@ -108,8 +98,6 @@ complete-spec =
     ticks-between-requires
     late-mark-requires
     take-out-requires
-    slice-aggregate-settle
-    slice-aggregate-settle-2
-    settle-requires
+    slice-aggregate-answer
     answer-requires
     returns-2)

@@ -3,7 +3,7 @@ use mathlib.Core.Path.{_≡_, sym, _∙_}
 use Prim.Native.Nat.{_<_}
 use lib.ListN.{length, set, length-set}
 use Rattle.arbiter.proofs.Verdicts.{issue-counted}
-use Rattle.arbiter.proofs.Bounds.{Small, cleaned-small, admitted-small, settled-small}
+use Rattle.arbiter.proofs.Bounds.{Small, cleaned-small, admitted-small}
 use Rattle.arbiter.proofs.CallParts.{issue-refused, issue-accepted}
 use borrow.Author.Needs.{needs}
 use Rattle.arbiter.proofs.calls.issue.Statement.{statement}
@@ -12,15 +12,15 @@ use Rattle.arbiter.proofs.calls.issue.Tie as tie
 entries-full : (c : tie.Start) → length (set (c .args .state .entry) (c .args .processor) (c .args .entry)) ≡ 16
 entries-full c = length-set (c .args .state .entry) _ _ ∙ search needs
 
+rows-full : (c : tie.Start) → length (c .args .board .rows) ≡ 64
+rows-full c = search needs
+
 -- The phases that count are masks of 16 places, and an accepted issue's processor is one of the 16.
 small : (c : tie.After-clean) → Small (c .clean .result)
 small c = cleaned-small _ _ _ _ _ (c .clean .ensures)
 
-counted : (c : tie.After-enum-told) → c .before .before .before .before .before .before .before .before .before .before .args .processor < 16
+counted : (c : tie.After-enum-told) → c .before .before .before .before .before .before .before .before .before .args .processor < 16
 counted c = issue-counted _ _ _ _ _ _ _ _ (c .before .before .issue-fault .ensures) (c .enum-told .given .1)
-
-slice-aggregate-clean : tie.Need-slice-aggregate-clean
-slice-aggregate-clean c = search needs
 
 clean-requires : tie.Need-clean-requires
 clean-requires c κs = search needs
@@ -56,43 +56,40 @@ put-earlier-requires : tie.Need-put-earlier-requires
 put-earlier-requires c κs = counted c
 
 slice-aggregate-is-free-read : tie.Need-slice-aggregate-is-free-read
-slice-aggregate-is-free-read c = sym (entries-full (c .before .before .before .before .before .before .before .before .before .before .before .before .before .before .before))
+slice-aggregate-is-free-read c = sym (rows-full (c .before .before .before .before .before .before .before .before .before .before .before .before))
+
+slice-aggregate-is-free-read-2 : tie.Need-slice-aggregate-is-free-read-2
+slice-aggregate-is-free-read-2 c = sym (entries-full (c .before .before .before .before .before .before .before .before .before .before .before .before .before))
 
 is-free-read-requires : tie.Need-is-free-read-requires
 is-free-read-requires c κs = search needs
 
 admit-requires : tie.Need-admit-requires
 admit-requires c κs =
-    let told = c .before .before .before .before .before .before in
-    (small (told .before .before .before .before .before) .0, small (told .before .before .before .before .before) .2, counted told)
+    let told = c .before .before .before .before .before in
+    let before = small (told .before .before .before .before .before) in
+    (before .0, before .2, counted told)
 
-slice-aggregate-settle : tie.Need-slice-aggregate-settle
-slice-aggregate-settle c = sym (entries-full (c .before .before .before .before .before .before .before .before .before .before .before .before .before .before .before .before .before .before .before .before .before))
-
-slice-aggregate-settle-2 : tie.Need-slice-aggregate-settle-2
-slice-aggregate-settle-2 c = search needs
-
-settle-requires : tie.Need-settle-requires
-settle-requires c κs = admitted-small _ _ _ _ (c .before .before .before .before .before .admit .ensures) (small (c .before .before .before .before .before .before .before .before .before .before .before .before .before .before .before .before .before))
+slice-aggregate-answer : tie.Need-slice-aggregate-answer
+slice-aggregate-answer c = sym (rows-full (c .before .before .before .before .before .before .before .before .before .before .before .before .before .before .before .before))
 
 answer-requires : tie.Need-answer-requires
 answer-requires c κs =
-    let b = small (c .before .before .before .before .before .before .before .before .before .before .before .before .before .before .before .before .before .before) in
-    let a = settled-small _ _ _ _ _ _ (c .settle .ensures) in
-    (b .1, b .2, a .1, a .2)
+    let before = small (c .before .before .before .before .before .before .before .before .before .before .before .before) in
+    let ready = admitted-small _ _ _ _ (c .before .admit .ensures) before in
+    (before .1, before .2, ready .0, ready .1, ready .2)
 
 returns-2 : tie.Need-returns-2
 returns-2 c =
-    let ready = c .before .before .before .before .before .before .before in
-    let told = ready .before .before .before .before .before .before .before in
-    issue-accepted _ _ _ (told .before .before .before .before .before .clean .ensures) _ _ _ _ (told .before .before .issue-fault .ensures) (told .enum-told .given .1) _ _ _ _ _
-    (ready .before .before .before .before .before .before .put-earlier .ensures) (ready .before .is-free-read .ensures) (ready .admit .ensures) (c .before .settle .ensures) (c .answer .ensures)
+    let ready = c .before .before in
+    let told = ready .before .before .before .before .before .before in
+    issue-accepted _ _ _ (told .before .before .before .before .before .clean .ensures) _ _ _ _ (told .before .before .issue-fault .ensures) (told .enum-told .given .1) _ _ _ _
+    (ready .before .before .before .before .before .put-earlier .ensures) (ready .before .is-free-read .ensures) (ready .admit .ensures) (c .answer .ensures)
 
 pub issue-spec : {M : Type 1} → statement M
 issue-spec =
     tie.close
     (tie.spec
-    slice-aggregate-clean
     clean-requires
     issue-fault-requires
     enum-told
@@ -104,10 +101,9 @@ issue-spec =
     array-write-since
     put-earlier-requires
     slice-aggregate-is-free-read
+    slice-aggregate-is-free-read-2
     is-free-read-requires
     admit-requires
-    slice-aggregate-settle
-    slice-aggregate-settle-2
-    settle-requires
+    slice-aggregate-answer
     answer-requires
     returns-2)

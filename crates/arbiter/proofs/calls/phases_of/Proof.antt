@@ -5,9 +5,6 @@ use Rattle.arbiter.specs.Parts.{cleanedPhases}
 use Rattle.arbiter.proofs.calls.phases_of.Statement.{statement}
 use Rattle.arbiter.proofs.calls.phases_of.Tie as tie
 
-slice-aggregate-clean : tie.Need-slice-aggregate-clean
-slice-aggregate-clean c = search needs
-
 clean-requires : tie.Need-clean-requires
 clean-requires c κs = search needs
 
@@ -16,4 +13,4 @@ unfolding isHolding isEntitled isWaiting cleaned cleanedPhases
 returns c = c .clean .ensures
 
 pub phases-of-spec : {M : Type 1} → statement M
-phases-of-spec = tie.close (tie.spec slice-aggregate-clean clean-requires returns)
+phases-of-spec = tie.close (tie.spec clean-requires returns)

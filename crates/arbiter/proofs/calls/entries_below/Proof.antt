@@ -1,27 +1,31 @@
--- `in_plan` meets its contract. The loop's invariant: the processors passed whose requests count. Assumes nothing.
+-- `entries_below` meets its contract. The loop's invariant: the processors passed whose entries are below the count.
+-- Assumes nothing.
 use mathlib.Core.Path.{_≡_, refl}
 use Prim.Native.Nat.{_≤_, _-_}
 use native.Mathlib.Omega.{arith}
+use lib.Dec.{ltb}
+use lib.ListN.{getD}
 use borrow.Author.Needs.{needs}
-use borrow.Author.Tests.{lt-ltb}
 use Rattle.masks.specs.Sets.{maskOf}
 use Rattle.masks.proofs.Masks.{mask-more-added}
-use Rattle.arbiter.specs.Parts.{inPlanBy}
-use Rattle.arbiter.proofs.calls.in_plan.Statement.{statement}
-use Rattle.arbiter.proofs.calls.in_plan.Tie as tie
+use Rattle.arbiter.proofs.calls.entries_below.Statement.{statement}
+use Rattle.arbiter.proofs.calls.entries_below.Tie as tie
 
 abbrev Inv-loop : tie.InvT-loop
-Inv-loop processors count entry m n out₀ p₀ out p = (p ≤ 16) × (out ≡ maskOf p (inPlanBy processors count entry))
+Inv-loop count entry out₀ p₀ out p = (p ≤ 16) × (out ≡ maskOf p (λ q. ltb (getD entry q 0) count))
 
 abbrev μ-loop : tie.MeasureT-loop
-μ-loop processors count entry m n out₀ p₀ out p = 16 - p
+μ-loop count entry out₀ p₀ out p = 16 - p
 
 loop-holds : tie.Need-loop-holds Inv-loop μ-loop
 unfolding maskOf
 loop-holds c = (omega arith, refl)
 
-entry-at-requires : tie.Need-entry-at-requires Inv-loop μ-loop
-entry-at-requires c κs = search needs
+cast-add-if : tie.Need-cast-add-if Inv-loop μ-loop
+cast-add-if c = search needs
+
+array-read-add-if : tie.Need-array-read-add-if Inv-loop μ-loop
+array-read-add-if c = search needs
 
 add-if-requires : tie.Need-add-if-requires Inv-loop μ-loop
 add-if-requires c κs = omega arith
@@ -33,24 +37,22 @@ loop-less : tie.Need-loop-less Inv-loop μ-loop
 loop-less c = omega arith
 
 loop-again : tie.Need-loop-again Inv-loop μ-loop
-loop-again c = (
-  omega arith,
-  rw (c .add-if .ensures, c .before .entry-at .ensures, c .before .before .before .loop .inv .1, mask-more-added, lt-ltb _ _ (c .before .before .loop-test .taken)),
-)
+loop-again c = (omega arith, rw (c .add-if .ensures, c .before .before .loop .inv .1, mask-more-added))
 
 returns : tie.Need-returns Inv-loop μ-loop
 returns c =
     let last : c .before .loop .p ≡ 16 = omega arith in
     rw (← last) (c .before .loop .inv .1)
 
-pub in-plan-spec : {M : Type 1} → statement M
-in-plan-spec =
+pub entries-below-spec : {M : Type 1} → statement M
+entries-below-spec =
     tie.close
     (tie.spec
     Inv-loop
     μ-loop
     loop-holds
-    entry-at-requires
+    cast-add-if
+    array-read-add-if
     add-if-requires
     add-p
     loop-less
