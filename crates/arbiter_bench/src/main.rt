@@ -1,5 +1,6 @@
 // Ten million accepted calls on a saturated board: 16 processors, 64 entries, a third of them writes. Each turn completes
 // a holder and issues again at once. Prints a checksum of all answers, which the plain Rust program prints too.
+use arbiter::Answered;
 use arbiter::Board;
 use arbiter::Reply;
 use arbiter::State;
@@ -9,12 +10,6 @@ use plans::Plan;
 ghost use Prim.Native.Nat.{_<_, _≤_};
 
 const TURNS: u64 = 5000000;
-
-struct Bench {
-    state: State,
-    seed: u64,
-    sum: u64,
-}
 
 // Entry i of the plan: every third writes, over two or three resources.
 fn entry(i: u64) -> Entry
@@ -91,38 +86,33 @@ fn filled(board: Board, fresh: State) -> State {
     state
 }
 
-fn turn(board: Board, bench: Bench, tick: u64) -> Bench {
-    let state = bench.state;
-    let seed = next(bench.seed);
-    let p = holder_from(state.holding, (seed / 65536 % 16) as u32) as u8;
-    let e = (seed / 1048576 % 64) as u8;
-    let first = arbiter::complete(board, state, p, tick);
-    let completed = first.reply;
-    let between = first.state;
-    let second = arbiter::issue(board, between, p, e, tick);
-    let issued = second.reply;
-    let after = second.state;
-    Bench {
-        state: after,
-        seed: seed,
-        sum: mixed(mixed(bench.sum, completed), issued),
-    }
-}
-
 fn main() {
     let fresh = arbiter::fresh_of(plan());
     let board = fresh.board;
     let start = fresh.state;
-    let mut bench = Bench {
-        state: filled(board, start),
-        seed: 1,
-        sum: 0,
+    let full = filled(board, start);
+    let mut last = Answered {
+        reply: Reply::Done {
+            granted: 0,
+            entitled: 0,
+            late: 0,
+        },
+        state: full,
     };
+    let mut seed: u64 = 1;
+    let mut sum: u64 = 0;
     let mut tick: u64 = 0;
     while tick < TURNS {
         tick += 1;
-        bench = turn(board, bench, tick);
+        seed = next(seed);
+        let p = holder_from(last.state.holding, (seed / 65536 % 16) as u32) as u8;
+        let e = (seed / 1048576 % 64) as u8;
+        let first = arbiter::complete(board, last.state, p, tick);
+        let completed = first.reply;
+        last = arbiter::issue(board, first.state, p, e, tick);
+        let issued = last.reply;
+        sum = mixed(mixed(sum, completed), issued);
     }
-    io::print_decimal(STDOUT_FILENO, bench.sum);
+    io::print_decimal(STDOUT_FILENO, sum);
     io::write_all(STDOUT_FILENO, b"\n");
 }

@@ -4,3 +4,4 @@ pub mod Turns
 pub mod Blocks
 pub mod Answers
 pub mod Whole
+pub mod Ranges

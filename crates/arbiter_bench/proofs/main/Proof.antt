@@ -5,10 +5,10 @@ use Rattle.arbiter_bench.proofs.main.Statement.{statement}
 use Rattle.arbiter_bench.proofs.main.Tie as tie
 
 abbrev Inv-loop : tie.InvT-loop
-Inv-loop board bench₀ tick₀ t6 bench tick = tick ≤ 5000000
+Inv-loop board last₀ seed₀ sum₀ tick₀ t14 last seed sum tick = tick ≤ 5000000
 
 abbrev μ-loop : tie.MeasureT-loop
-μ-loop board bench₀ tick₀ t6 bench tick = 5000000 - tick
+μ-loop board last₀ seed₀ sum₀ tick₀ t14 last seed sum tick = 5000000 - tick
 
 plan-requires : tie.Need-plan-requires Inv-loop μ-loop
 plan-requires c κs = search needs
@@ -25,8 +25,32 @@ loop-holds c = search needs
 add-tick : tie.Need-add-tick Inv-loop μ-loop
 add-tick c = search needs
 
-turn-requires : tie.Need-turn-requires Inv-loop μ-loop
-turn-requires c κs = search needs
+next-requires : tie.Need-next-requires Inv-loop μ-loop
+next-requires c κs = search needs
+
+cast-holder-from : tie.Need-cast-holder-from Inv-loop μ-loop
+cast-holder-from c = search needs
+
+holder-from-requires : tie.Need-holder-from-requires Inv-loop μ-loop
+holder-from-requires c κs = search needs
+
+cast-p : tie.Need-cast-p Inv-loop μ-loop
+cast-p c = search needs
+
+cast-e : tie.Need-cast-e Inv-loop μ-loop
+cast-e c = search needs
+
+complete-requires : tie.Need-complete-requires Inv-loop μ-loop
+complete-requires c κs = search needs
+
+issue-requires : tie.Need-issue-requires Inv-loop μ-loop
+issue-requires c κs = search needs
+
+mixed-requires : tie.Need-mixed-requires Inv-loop μ-loop
+mixed-requires c κs = search needs
+
+mixed-requires-2 : tie.Need-mixed-requires-2 Inv-loop μ-loop
+mixed-requires-2 c κs = search needs
 
 loop-less : tie.Need-loop-less Inv-loop μ-loop
 loop-less c = search needs
@@ -57,7 +81,15 @@ main-spec =
     filled-requires
     loop-holds
     add-tick
-    turn-requires
+    next-requires
+    cast-holder-from
+    holder-from-requires
+    cast-p
+    cast-e
+    complete-requires
+    issue-requires
+    mixed-requires
+    mixed-requires-2
     loop-less
     loop-again
     print-decimal-requires

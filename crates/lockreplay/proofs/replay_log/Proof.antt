@@ -3,7 +3,7 @@ use mathlib.Core.Path.{sym, ap}
 use native.Mathlib.Omega.{arith}
 use lib.ListN.{length}
 use Rattle.replay.specs.declared.Begun.{Begun}
-use Rattle.lockreplay.proofs.Ranges.{line-within, plan-filled}
+use Rattle.replay.proofs.Ranges.{line-within, plan-filled}
 use borrow.Author.Needs.{needs}
 use Rattle.lockreplay.proofs.replay_log.Statement.{statement}
 use Rattle.lockreplay.proofs.replay_log.Tie as tie

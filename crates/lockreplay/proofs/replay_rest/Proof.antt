@@ -4,7 +4,7 @@ use native.Mathlib.Omega.{arith}
 use lib.ListN.{length}
 use lib.Seq.{length-take-le}
 use Rattle.replay.specs.declared.Counted.{Counted}
-use Rattle.lockreplay.proofs.Ranges.{line-within, count-filled}
+use Rattle.replay.proofs.Ranges.{line-within, count-filled}
 use borrow.Author.Needs.{needs}
 use Rattle.lockreplay.proofs.replay_rest.Statement.{statement}
 use Rattle.lockreplay.proofs.replay_rest.Tie as tie
