@@ -1,5 +1,9 @@
 //! The library's own algorithm in plain Rust, on the benchmark's workload: ten million accepted calls on a saturated
 //! board of 16 processors and 64 entries, a third of them writes. Prints the same checksum as the Rattle program.
+//!
+//! baseline [ROUNDS]         does what the library does: a call first drops what does not count, on any state value
+//! baseline lean [ROUNDS]    trusts its state: no such step, and an entry is taken to be below 64
+//! baseline replay           a log on standard input to its listing, lean
 mod replay;
 
 use std::time::Instant;
@@ -82,27 +86,51 @@ impl Iterator for Bits {
 }
 
 impl State {
+    /// Drops a request whose entry or processor is outside the plan, and keeps one phase of each processor.
+    fn clean(&mut self, board: &Board) {
+        let mut counted = 0u32;
+        for p in 0..16u8 {
+            counted |= ((p < board.processors && self.entry[p as usize] < board.count) as u32) << p;
+        }
+        self.holding &= counted;
+        self.entitled &= counted & !self.holding;
+        self.waiting &= counted & !(self.entitled | self.holding);
+    }
+
     fn fresh() -> State {
         State { last: 0, waiting: 0, entitled: 0, holding: 0, entry: [0; 16], since: [0; 16], earlier: [0; 16] }
     }
 
-    fn row(&self, board: &Board, p: usize) -> u64 {
-        board.rows[self.entry[p] as usize & 63]
+    fn row<const LEAN: bool>(&self, board: &Board, p: usize) -> u64 {
+        if LEAN {
+            board.rows[self.entry[p] as usize & 63]
+        } else {
+            board.rows.get(self.entry[p] as usize).copied().unwrap_or(0)
+        }
     }
 
-    fn entries_of(&self, among: u32) -> u64 {
-        Bits(among).fold(0, |set, p| set | 1 << (self.entry[p] & 63))
+    /// The place of processor p's entry in a set of entries; past the width there is none.
+    fn place<const LEAN: bool>(&self, p: usize) -> u64 {
+        if LEAN {
+            1 << (self.entry[p] & 63)
+        } else {
+            1u64.checked_shl(self.entry[p] as u32).unwrap_or(0)
+        }
     }
 
-    fn settle(&mut self, board: &Board) {
+    fn entries_of<const LEAN: bool>(&self, among: u32) -> u64 {
+        Bits(among & 65535).fold(0, |set, p| set | self.place::<LEAN>(p))
+    }
+
+    fn settle<const LEAN: bool>(&mut self, board: &Board) {
         let active = self.waiting | self.entitled | self.holding;
-        let w = Bits(active).fold(0u32, |w, p| w | ((board.writes >> (self.entry[p] & 63)) as u32 & 1) << p);
+        let w = Bits(active).fold(0u32, |w, p| w | ((board.writes & self.place::<LEAN>(p) != 0) as u32) << p);
         // 1
         let candidates = self.entitled & !w;
         if candidates != 0 {
-            let against = self.entries_of(self.holding & w);
+            let against = self.entries_of::<LEAN>(self.holding & w);
             for p in Bits(candidates) {
-                if self.row(board, p) & against == 0 {
+                if self.row::<LEAN>(board, p) & against == 0 {
                     self.entitled &= !(1 << p);
                     self.holding |= 1 << p;
                 }
@@ -111,11 +139,11 @@ impl State {
         // 2
         let candidates = self.waiting & w;
         if candidates != 0 {
-            let against = self.entries_of((self.holding & w) | (self.entitled & !w));
+            let against = self.entries_of::<LEAN>((self.holding & w) | (self.entitled & !w));
             let unsatisfied = (self.waiting | self.entitled) & w;
             for p in Bits(candidates) {
-                let row = self.row(board, p);
-                if row & against == 0 && row & self.entries_of(self.earlier[p] & unsatisfied) == 0 {
+                let row = self.row::<LEAN>(board, p);
+                if row & against == 0 && row & self.entries_of::<LEAN>(self.earlier[p] & unsatisfied) == 0 {
                     self.waiting &= !(1 << p);
                     self.entitled |= 1 << p;
                 }
@@ -124,9 +152,9 @@ impl State {
         // 3
         let candidates = self.entitled & w;
         if candidates != 0 {
-            let against = self.entries_of(self.holding & !w);
+            let against = self.entries_of::<LEAN>(self.holding & !w);
             for p in Bits(candidates) {
-                if self.row(board, p) & against == 0 {
+                if self.row::<LEAN>(board, p) & against == 0 {
                     self.entitled &= !(1 << p);
                     self.holding |= 1 << p;
                 }
@@ -135,10 +163,10 @@ impl State {
         // 4
         let candidates = self.waiting & !w;
         if candidates != 0 {
-            let holding = self.entries_of(self.holding & w);
-            let entitled = self.entries_of(self.entitled & w);
+            let holding = self.entries_of::<LEAN>(self.holding & w);
+            let entitled = self.entries_of::<LEAN>(self.entitled & w);
             for p in Bits(candidates) {
-                let row = self.row(board, p);
+                let row = self.row::<LEAN>(board, p);
                 if row & holding != 0 && row & entitled == 0 {
                     self.waiting &= !(1 << p);
                     self.entitled |= 1 << p;
@@ -147,8 +175,8 @@ impl State {
         }
     }
 
-    fn answer(&mut self, board: &Board, held: u32, entitled: u32, late: u8) -> Done {
-        self.settle(board);
+    fn answer<const LEAN: bool>(&mut self, board: &Board, held: u32, entitled: u32, late: u8) -> Done {
+        self.settle::<LEAN>(board);
         let granted = self.holding & !held;
         for p in Bits(granted) {
             self.since[p] = self.last;
@@ -156,7 +184,10 @@ impl State {
         Done { granted, entitled: self.entitled & !entitled, late }
     }
 
-    fn issue(&mut self, board: &Board, p: u8, e: u8, t: u64) -> Result<Done, u8> {
+    fn issue<const LEAN: bool>(&mut self, board: &Board, p: u8, e: u8, t: u64) -> Result<Done, u8> {
+        if !LEAN {
+            self.clean(board);
+        }
         if t < self.last || t > 1_099_511_627_775 {
             return Err(10);
         }
@@ -188,10 +219,13 @@ impl State {
         } else {
             self.waiting |= 1 << p;
         }
-        Ok(self.answer(board, held, entitled, 0))
+        Ok(self.answer::<LEAN>(board, held, entitled, 0))
     }
 
-    fn complete(&mut self, board: &Board, p: u8, t: u64) -> Result<Done, u8> {
+    fn complete<const LEAN: bool>(&mut self, board: &Board, p: u8, t: u64) -> Result<Done, u8> {
+        if !LEAN {
+            self.clean(board);
+        }
         if t < self.last || t > 1_099_511_627_775 {
             return Err(10);
         }
@@ -208,7 +242,7 @@ impl State {
         let late = (t - self.since[p] > board.lengths[self.entry[p] as usize & 63] as u64) as u8;
         self.last = t;
         self.holding &= !(1 << p);
-        Ok(self.answer(board, held, entitled, late))
+        Ok(self.answer::<LEAN>(board, held, entitled, late))
     }
 }
 
@@ -229,17 +263,12 @@ fn holder_from(holding: u32, from: u32) -> u32 {
     if above != 0 { above.trailing_zeros() } else { holding.trailing_zeros() }
 }
 
-fn main() {
-    if std::env::args().nth(1).as_deref() == Some("replay") {
-        replay::replay().expect("a log on standard input");
-        return;
-    }
-    let rounds: u64 = std::env::args().nth(1).and_then(|a| a.parse().ok()).unwrap_or(5_000_000);
+fn calls<const LEAN: bool>(rounds: u64) {
     let board = board_of(16, &entries());
     let mut state = State::fresh();
     let (mut seed, mut sum, mut tick) = (1u64, 0u64, 0u64);
     for p in 0..16 {
-        state.issue(&board, p, p * 3, tick).ok();
+        state.issue::<LEAN>(&board, p, p * 3, tick).ok();
     }
     let start = Instant::now();
     for _ in 0..rounds {
@@ -247,11 +276,21 @@ fn main() {
         let p = holder_from(state.holding, (seed / 65_536 % 16) as u32) as u8;
         let e = (seed / 1_048_576 % 64) as u8;
         tick += 1;
-        for done in [state.complete(&board, p, tick), state.issue(&board, p, e, tick)].into_iter().flatten() {
+        for done in [state.complete::<LEAN>(&board, p, tick), state.issue::<LEAN>(&board, p, e, tick)].into_iter().flatten() {
             sum = (sum * 31 + (done.granted as u64) * 65_536 + (done.entitled as u64) * 2 + done.late as u64) % 4_294_967_296;
         }
     }
     let ns = start.elapsed().as_nanos() as f64 / (2 * rounds) as f64;
     println!("{sum}");
     eprintln!("rust {ns:.1} ns a call");
+}
+
+fn main() {
+    let words: Vec<String> = std::env::args().skip(1).collect();
+    let rounds = words.last().and_then(|word| word.parse().ok()).unwrap_or(5_000_000);
+    match words.first().map(String::as_str) {
+        Some("replay") => replay::replay().expect("a log on standard input"),
+        Some("lean") => calls::<true>(rounds),
+        _ => calls::<false>(rounds),
+    }
 }

@@ -66,7 +66,7 @@ pub fn replay() -> io::Result<()> {
         out.extend_from_slice(if call[0] == 0 { b" i " } else { b" c " });
         push_decimal(&mut out, call[1] as u64);
         out.push(b' ');
-        let answer = if call[0] == 0 { state.issue(&board, call[1], call[2], tick) } else { state.complete(&board, call[1], tick) };
+        let answer = if call[0] == 0 { state.issue::<true>(&board, call[1], call[2], tick) } else { state.complete::<true>(&board, call[1], tick) };
         push_answer(&mut out, answer);
         if out.len() > 60000 {
             stdout.write_all(&out)?;
