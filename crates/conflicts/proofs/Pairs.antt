@@ -1,26 +1,20 @@
 -- Conflict of two entries, read from the plan's array and from the array of widened sets, and a row with one more of them.
 -- Assumes nothing.
 use Prim.Native.Nat.{ℕ, _+_, _<_}
-use mathlib.Core.Path.{_≡_, refl, sym, ap, ap₂, _∙_}
+use mathlib.Core.Path.{_≡_, refl, ap, _∙_}
 use mathlib.Core.Bool.{Bool, true, false, cond, _&&_}
 use mathlib.Core.List.{List}
 use lib.Dec.{ltb}
 use lib.ListN.{getD}
 use borrow.Author.Tests.{ltb-true}
 use Rattle.masks.specs.Sets.{added, meets, maskOf}
-use Rattle.masks.proofs.Masks.{mask-more-added}
+use Rattle.masks.proofs.Masks.{mask-next}
 use Rattle.plans.specs.declared.Entry.{Entry}
 use Rattle.plans.specs.declared.Plan.{Plan}
 use Rattle.plans.specs.Acceptance.{counted}
 use Rattle.plans.specs.Reading.{blankEntry}
 use Rattle.conflicts.specs.Conflict.{isRead, isWrite, widenedSet, conflict, entryAt, inConflict, conflictsOf}
 use Rattle.conflicts.proofs.Widening.{entry-at, widened-counted, widened-at}
-
--- The set of the numbers below n that pass the test, with n where it passes too.
-mask-next : (n : ℕ) (p : ℕ → Bool) (m r : ℕ) (t : Bool) → r ≡ cond t (added m n) m → m ≡ maskOf n p → t ≡ p n
-    → r ≡ maskOf (n + 1) p
-mask-next n p m r t next made e =
-    next ∙ ap₂ (λ t (m : ℕ). cond t (added m n) m) e made ∙ sym (mask-more-added n p)
 
 -- Conflict of two entries by their widened sets a and b.
 abbrev pub pair : Entry → ℕ → Entry → ℕ → Bool

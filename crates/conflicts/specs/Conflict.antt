@@ -36,7 +36,7 @@ conflict entries e f =
     cond (isWrite e && isWrite f) (meets (widenedSet entries e) (widenedSet entries f))
     (cond (isRead e && isRead f) false (meets (e .set) (f .set)))
 
--- Entry i of the plan; past the count there is none.
+-- Entry i of the plan; past the count the blank one.
 abbrev pub entryAt : Plan → ℕ → Entry
 entryAt p i = getD (counted p) i blankEntry
 

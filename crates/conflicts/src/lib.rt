@@ -139,6 +139,14 @@ pub fn conflicts_of(plan: Plan) -> Conflicts
     }
 }
 
+// The entries that an entry conflicts with: its row of the rows. Past the rows there are none.
+pub fn row_at(rows: &[u64], entry: u32) -> u64
+    ensures { λ r. ⌜ r ≡ getD (now (rows .entry)) entry 0 ⌝ }
+{
+    let i = entry as usize;
+    if i < rows.len() { rows[i] } else { 0 }
+}
+
 // Whether the entries e and f conflict. An entry past the arrays is in no conflict.
 pub fn in_conflict(conflicts: Conflicts, e: u8, f: u8) -> bool
     ensures { λ r. ⌜ r ≡ bit (getD (conflicts .rows) e 0) f ⌝ }

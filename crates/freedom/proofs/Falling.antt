@@ -14,7 +14,7 @@ use Rattle.runs.proofs.columns.Phases.{is-active, true-not-false}
 use Rattle.runs.proofs.columns.Rank.{rank, Ahead, ahead-has-lower-rank}
 use Rattle.runs.proofs.refinement.State.{requestsOf, phaseOf, idle-inactive, held-phase, entitled-phase, waiting-phase}
 use Rattle.queries.specs.Queries.{waitsIn, waitsFor, Chain, direct, through}
-use Rattle.queries.proofs.Cases.{and-left}
+use Rattle.masks.proofs.Truth.{and-left}
 use Rattle.queries.proofs.Waits.{Reason, entitled-read, waiting-read, entitled-write, waiting-write, waits-reason, waits-below}
 use Rattle.freedom.proofs.Reached.{Reached}
 

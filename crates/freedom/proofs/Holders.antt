@@ -14,7 +14,7 @@ use Rattle.runs.proofs.columns.Columns.{waiting, entitled, holding, Settled}
 use Rattle.runs.proofs.columns.Phases.{Unsatisfied, unsatisfied-or-holding}
 use Rattle.runs.proofs.refinement.State.{requestsOf, phaseOf, not-idle-active, held-bit, marks-waiting, marks-entitled}
 use Rattle.queries.specs.Queries.{waitsFor, Chain, direct, through}
-use Rattle.queries.proofs.Cases.{and-both}
+use Rattle.masks.proofs.Truth.{and-both}
 use Rattle.queries.proofs.Waits.{Reason, entitled-read, waiting-read, entitled-write, waiting-write, reason-waits, waits-below}
 use Rattle.freedom.proofs.Reached.{Reached}
 use Rattle.freedom.proofs.Falling.{distance, waits-here, wait-falls}

@@ -17,11 +17,11 @@ unfoldable pub stateAfter : Board → State → List Call → State
 stateAfter b s [] = s
 stateAfter b s (c ∷ later) = stateAfter b (answer b s c .state) later
 
--- "A list starts at the fresh arbiter of an accepted plan."
+-- "A list starts at the fresh arbiter of an accepted plan": the theorem asks that the plan is accepted.
 abbrev pub reachedBy : Plan → List Call → State
 reachedBy p calls = stateAfter (boardOf p) freshState calls
 
--- After any calls, no chain of direct waits leads from a processor back to itself; and from each whose request is
+-- Beyond document 01. After any calls, no chain of direct waits leads from a processor back to itself; and from each whose request is
 -- unsatisfied, one leads to a processor that holds, and so can complete.
 pub record NoDeadlock (p : Plan) (calls : List Call) : Type 0 where
   pub nobody-reaches-itself : (q : ℕ) → Chain (boardOf p) (reachedBy p calls) q q → ⊥

@@ -1,3 +1,4 @@
+pub mod Truth
 pub mod Digits
 pub mod Places
 pub mod Equal

@@ -44,6 +44,12 @@ sum-added n m false h = omega arith
 pub mask-more-added : (n : ℕ) (p : ℕ → Bool) → maskOf (n + 1) p ≡ cond (p n) (added (maskOf n p) n) (maskOf n p)
 mask-more-added n p = mask-more n p ∙ sum-added n (maskOf n p) (p n) (mask-below n p)
 
+-- A set m with the next place, where the flag t says so, is the mask with one place more.
+pub mask-next : (n : ℕ) (p : ℕ → Bool) (m r : ℕ) (t : Bool) → r ≡ cond t (added m n) m → m ≡ maskOf n p → t ≡ p n
+    → r ≡ maskOf (n + 1) p
+mask-next n p m r t next made e =
+    next ∙ ap₂ (λ t (m : ℕ). cond t (added m n) m) e made ∙ sym (mask-more-added n p)
+
 -- ---- the places
 
 -- A number below n + 1 is below n or is n.

@@ -11,7 +11,7 @@ use borrow.Author.Tests.{ltb-true, ltb-false, lt-ltb, le-ltb, eq-eqb, ne-eqb}
 use Rattle.masks.specs.Sets.{added, removed}
 
 -- A place below the width is not shifted out.
-one-shifted : (w k : ℕ) → k < w → 1 * 2 ^ k % 2 ^ w ≡ 2 ^ k
+pub one-shifted : (w k : ℕ) → k < w → 1 * 2 ^ k % 2 ^ w ≡ 2 ^ k
 one-shifted w k l = ap (λ (x : ℕ). x % 2 ^ w) (one-mul (2 ^ k)) ∙ mod-eq-of-lt (pow-lt l)
 
 pub adds : (w n k : ℕ) → k < w → bitOr n (1 * 2 ^ k % 2 ^ w) ≡ cond (ltb k w) (added n k) n

@@ -58,17 +58,17 @@ pub fn meet64(row: u64, set: u64) -> bool
     row & set != 0
 }
 
-// The places of a that are not in b.
+// The places of the first set that are not in the second.
 pub fn without32(a: u32, b: u32) -> u32
     ensures { λ r. ⌜ r ≡ without 32 a b ⌝ }
 {
     a & !b
 }
 
-pub fn without64(a: u64, b: u64) -> u64
-    ensures { λ r. ⌜ r ≡ without 64 a b ⌝ }
+pub fn without64(row: u64, set: u64) -> u64
+    ensures { λ r. ⌜ r ≡ without 64 row set ⌝ }
 {
-    a & !b
+    row & !set
 }
 
 // Whether every place of the set is below the count. With 64 or more every place is.

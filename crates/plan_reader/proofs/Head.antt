@@ -6,7 +6,7 @@ use mathlib.Core.List.{List}
 use borrow.Author.Tests.{leb-true}
 use lib.Dec.{leb}
 use lib.ListN.{getD}
-use Rattle.plans.proofs.Verdicts.{and-right}
+use Rattle.masks.proofs.Truth.{and-right}
 use Rattle.plans.specs.Acceptance.{firstOf, within, resourcesFault, countFault}
 use Rattle.plans.specs.Reading.{enough}
 use Rattle.plan_reader.specs.Body.{bodyFault}

@@ -6,11 +6,12 @@ use plans::Plan;
 use plans::Read;
 use plans::Verdict;
 use plans::check_entry;
+use plans::is_within;
 use refusals::Refusal;
 ghost use mathlib.Core.Path.{_≡_};
 ghost use Prim.Native.Nat.{_^_, _≤_, _<_};
 ghost use lib.ListN.{length};
-ghost use Rattle.plans.specs.Acceptance.{firstOf, within};
+ghost use Rattle.plans.specs.Acceptance.{firstOf};
 ghost use Rattle.plans.specs.Reading.{number, entryOf, readFault, readBy, readPlan, blankPlan};
 ghost use Rattle.plan_reader.specs.Body.{bodyFault, Counted};
 
@@ -76,13 +77,6 @@ fn refused(refusal: Refusal) -> Read
     }
 }
 
-// A count is from 1 to the most.
-fn is_counted(count: u8, most: u8) -> bool
-    ensures { λ r. ⌜ r ≡ within 1 most count ⌝ }
-{
-    (1 <= count) & (count <= most)
-}
-
 // The three counts in file order, each due before it is checked.
 fn check_head(bytes: &[u8]) -> Verdict
     ensures first { λ r. ⌜ readFault (now (bytes .entry)) ≡ firstOf r (bodyFault (now (bytes .entry))) ⌝ }
@@ -91,19 +85,19 @@ fn check_head(bytes: &[u8]) -> Verdict
     if bytes.len() < 1 {
         return Verdict::Refused(Refusal::Short);
     }
-    if !is_counted(bytes[0], 16) {
+    if !is_within(1, 16, bytes[0]) {
         return Verdict::Refused(Refusal::Processors);
     }
     if bytes.len() < 2 {
         return Verdict::Refused(Refusal::Short);
     }
-    if !is_counted(bytes[1], 64) {
+    if !is_within(1, 64, bytes[1]) {
         return Verdict::Refused(Refusal::Resources);
     }
     if bytes.len() < 3 {
         return Verdict::Refused(Refusal::Short);
     }
-    if !is_counted(bytes[2], 64) {
+    if !is_within(1, 64, bytes[2]) {
         return Verdict::Refused(Refusal::Entries);
     }
     Verdict::Accepted

@@ -1,7 +1,7 @@
--- Runs of stores: in two parts, into the rest of a list, of a number's bytes and of a section's. Assumes nothing.
+-- Runs of stores: of a number's bytes, of an entry's and a section's, and into the rest of a list. Assumes nothing.
 use Prim.Native.Nat.{ℕ, suc, _+_, _-_, _*_, _/_, _%_, _≤_, _<_}
 use mathlib.Core.Path.{_≡_, refl, sym, _∙_}
-use mathlib.Core.List.{List, [], _∷_, _++_, append-assoc}
+use mathlib.Core.List.{List, append-assoc}
 use native.Mathlib.Omega.{arith}
 use lib.ListN.{length, take, drop, getD, set, length-take, length-drop, length-set, take-append-drop}
 use lib.Seq.{sets, sets-eq, drop-drop, drop-append-le}
@@ -13,14 +13,8 @@ use Rattle.plans.specs.declared.Entry.{Entry}
 use Rattle.plans.specs.declared.Plan.{Plan}
 use Rattle.plans.proofs.Counted.{none-left, next-left}
 use Rattle.plans.proofs.Numbers.{length-bytesOf}
+use Rattle.plans.proofs.Stores.{sets-append}
 use Rattle.plans.proofs.EntryBytes.{length-entryBytes, length-sectionBytes}
-
--- Storing a list in two parts, one after the other.
-pub sets-append : (l : List ℕ) (i : ℕ) (a b : List ℕ) → sets l i (a ++ b) ≡ sets (sets l i a) (i + length a) b
-sets-append l i [] b = let e : i + 0 ≡ i = omega arith in rw e
-sets-append l i (x ∷ a) b =
-    let e : i + suc (length a) ≡ suc i + length a = omega arith in
-    rw e (sets-append (set l i x) (suc i) a b)
 
 -- A turn stores the lowest byte of what is left of a number.
 pub number-turn : (l : List ℕ) (at size i rest : ℕ) → i < size

@@ -3,14 +3,14 @@ use plans::Entry;
 use plans::Outcome;
 use plans::Plan;
 use plans::Verdict;
-use refusals::Refusal;
+use plans::check_room;
+use plans::first_of;
 ghost use mathlib.Core.Path.{_≡_};
 ghost use Prim.Native.Nat.{_+_, _*_, _≤_};
 ghost use lib.ListN.{length, take};
 ghost use lib.Seq.{sets};
-ghost use Rattle.plans.specs.Acceptance.{firstOf};
 ghost use Rattle.plans.specs.Reading.{sizeOf};
-ghost use Rattle.plans.specs.Writing.{bytesOf, entryBytes, sectionBytes, planBytes, put, roomFault, writeFault, writeOutcome, writtenBuffer};
+ghost use Rattle.plans.specs.Writing.{bytesOf, entryBytes, sectionBytes, planBytes, put, writeFault, writeOutcome, writtenBuffer};
 
 // Stores a number from position at as size bytes, low byte first.
 fn write_number(value: u64, size: usize, section: &mut [u8], at: usize)
@@ -68,37 +68,14 @@ fn write_plan(plan: Plan, buffer: &mut [u8], at: usize) -> usize
     3 + 11 * count
 }
 
-// 16, "room". The position can be any number, so nothing is added to it: the sum might not fit.
-fn check_room(plan: Plan, size: usize, at: usize) -> Verdict
-    ensures { λ r. ⌜ r ≡ roomFault plan size at ⌝ }
-{
-    let count = plan.count as usize;
-    let needed = 3 + 11 * count;
-    if size < at {
-        return Verdict::Refused(Refusal::Room);
-    }
-    if size - at < needed {
-        return Verdict::Refused(Refusal::Room);
-    }
-    Verdict::Accepted
-}
-
-// The earlier of two checks decides.
-fn first_of(earlier: Verdict, later: Verdict) -> Verdict
-    ensures { λ r. ⌜ r ≡ firstOf earlier later ⌝ }
-{
-    match earlier {
-        Verdict::Accepted => later,
-        Verdict::Refused(refusal) => Verdict::Refused(refusal),
-    }
-}
-
 // "Writing a plan: 3 to 8 as above, then 16."
 fn check_writing(plan: Plan, size: usize, at: usize) -> Verdict
     ensures { λ r. ⌜ r ≡ writeFault plan size at ⌝ }
 {
+    let count = plan.count as usize;
+    let needed = 3 + 11 * count;
     let value = plans::check(plan);
-    let room = check_room(plan, size, at);
+    let room = check_room(needed, size, at);
     first_of(value, room)
 }
 

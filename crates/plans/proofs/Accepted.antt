@@ -8,6 +8,7 @@ use lib.Dec.{leb}
 use lib.ListN.{length, getD, take, drop, length-drop}
 use lib.Seq.{length-take-le, drop-at}
 use borrow.Author.Tests.{leb-true, le-leb}
+use Rattle.masks.proofs.Truth.{and-left}
 use Rattle.refusals.specs.declared.Refusal.{Refusal}
 use Rattle.plans.specs.declared.Plan.{Plan}
 use Rattle.plans.specs.declared.Verdict.{Verdict}
@@ -15,7 +16,7 @@ use Rattle.plans.specs.declared.Outcome.{Outcome}
 use Rattle.plans.specs.Acceptance.{countsFault, entriesFault, counted, planFault}
 use Rattle.plans.specs.Reading.{entriesOf, sectionFault, readFault, sizeOf, planOf, readBy, readPlan}
 use Rattle.plans.specs.Writing.{planBytes, roomFault, writeFault, outcomeBy, bufferBy, writeOutcome, writtenBuffer}
-use Rattle.plans.proofs.Verdicts.{first-accepted, due-accepted, and-left}
+use Rattle.plans.proofs.Verdicts.{first-accepted, due-accepted}
 use Rattle.plans.proofs.Faults.{counts-at-most, section-fault, section-length, read-fault, read-length}
 
 -- ---- a plan value

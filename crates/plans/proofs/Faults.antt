@@ -6,10 +6,11 @@ use native.Mathlib.Omega.{arith}
 use lib.Dec.{leb}
 use lib.ListN.{length, getD, drop, length-drop}
 use borrow.Author.Tests.{leb-true, le-leb}
+use Rattle.masks.proofs.Truth.{and-right}
 use Rattle.refusals.specs.declared.Refusal.{Refusal}
 use Rattle.plans.specs.declared.Verdict.{Verdict}
 use Rattle.plans.specs.Acceptance.{firstOf, due, within, processorsFault, resourcesFault, countFault, countsFault, entryFault, entriesFault}
-use Rattle.plans.proofs.Verdicts.{refused-not-accepted, first-accepted, first-of-four, due-accepted, and-right}
+use Rattle.plans.proofs.Verdicts.{refused-not-accepted, first-accepted, first-of-four, due-accepted}
 use Rattle.plans.specs.Reading.{enough, entryOf, entriesOf, sectionFault, readFault}
 
 -- ---- bytes that do not end early

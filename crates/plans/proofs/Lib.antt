@@ -5,6 +5,7 @@ pub mod Entries
 pub mod Longest
 pub mod Fits
 pub mod Numbers
+pub mod Stores
 pub mod EntryBytes
 pub mod Faults
 pub mod PlanBytes

@@ -1,9 +1,10 @@
 -- What a verdict of acceptance tells of its parts, and the first of several faults. Assumes nothing.
 use Prim.Native.Nat.{ℕ}
 use mathlib.Core.Path.{_≡_, refl, sym, ap, _∙_}
-use mathlib.Core.Bool.{Bool, true, false, _&&_}
+use mathlib.Core.Bool.{Bool, true, false}
 use native.Mathlib.Omega.{arith}
 use Rattle.refusals.specs.declared.Refusal.{Refusal}
+pub use Rattle.masks.proofs.Truth.{and-left, and-right}
 use Rattle.plans.specs.Acceptance.{firstOf, due}
 use Rattle.plans.specs.declared.Verdict.{Verdict}
 
@@ -33,11 +34,3 @@ first-same (Verdict.Refused r) b c h = refl
 pub due-accepted : (t : Bool) (r : Refusal) → due t r ≡ Verdict.Accepted → t ≡ true
 due-accepted true r e = refl
 due-accepted false r e = cc
-
-pub and-left : (a b : Bool) → (a && b) ≡ true → a ≡ true
-and-left true b e = refl
-and-left false b e = e
-
-pub and-right : (a b : Bool) → (a && b) ≡ true → b ≡ true
-and-right true b e = e
-and-right false b e = cc

@@ -1,5 +1,5 @@
--- Which plan values are taken: document 01, "Plan and log bytes" and "Refused", 3 to 8.
-use Prim.Native.Nat.{ℕ, _^_}
+-- Which plan values are taken, and whether there is room: document 01, "Plan and log bytes" and "Refused", 3 to 8 and 16.
+use Prim.Native.Nat.{ℕ, _-_, _^_}
 use mathlib.Core.Path.{_≡_}
 use mathlib.Core.Bool.{Bool, true, false, not, _&&_}
 use mathlib.Core.List.{List, [], _∷_}
@@ -10,7 +10,7 @@ use Rattle.plans.specs.declared.Entry.{Entry}
 use Rattle.plans.specs.declared.Plan.{Plan}
 use Rattle.plans.specs.declared.Verdict.{Verdict}
 
--- "The first fault in file order decides."
+-- "The first fault in file order decides": of two verdicts the earlier one, where it refuses.
 abbrev pub firstOf : Verdict → Verdict → Verdict
 firstOf Verdict.Accepted later = later
 firstOf (Verdict.Refused r) later = Verdict.Refused r
@@ -19,6 +19,10 @@ firstOf (Verdict.Refused r) later = Verdict.Refused r
 abbrev pub due : Bool → Refusal → Verdict
 due true r = Verdict.Accepted
 due false r = Verdict.Refused r
+
+-- 16, "room: fewer bytes from the position than" needed, "position past the end", of size bytes and from position at.
+abbrev pub roomFor : ℕ → ℕ → ℕ → Verdict
+roomFor needed size at = due (leb at size && leb needed (size - at)) Refusal.Room
 
 -- The number n is from low to high.
 abbrev pub within : ℕ → ℕ → ℕ → Bool
@@ -36,7 +40,7 @@ resourcesFault n = due (within 1 64 n) Refusal.Resources
 abbrev pub countFault : ℕ → Verdict
 countFault n = due (within 1 64 n) Refusal.Entries
 
--- The counts in file order.
+-- The three counts in file order: "Processors", "Resources", "Entries".
 unfoldable pub countsFault : ℕ → ℕ → ℕ → Verdict
 countsFault processors resources count =
     firstOf (processorsFault processors) (firstOf (resourcesFault resources) (countFault count))
@@ -66,7 +70,8 @@ entriesFault resources (e ∷ later) = firstOf (entryFault resources e) (entries
 abbrev pub counted : Plan → List Entry
 counted p = take (p .count) (p .entries)
 
--- "A plan value made by the caller that the reader would not take is refused there by the same number, 3 to 8."
+-- "A plan value made by the caller that the reader would not take is refused there by the same number, 3 to 8, and likewise
+-- where a fresh arbiter is made from it."
 unfoldable pub planFault : Plan → Verdict
 planFault p =
     firstOf (countsFault (p .processors) (p .resources) (p .count)) (entriesFault (p .resources) (counted p))

@@ -29,6 +29,7 @@ readFigure p = longestRead p + longestWrite p
 abbrev pub writeFigure : Plan → ℕ
 writeFigure p = (p .processors - 1) * readFigure p
 
+-- Both lengths and both figures, of any plan value.
 unfoldable pub figuresOf : Plan → Figures
 figuresOf p =
     record {

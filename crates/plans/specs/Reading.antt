@@ -17,7 +17,7 @@ unfoldable pub number : List ℕ → ℕ
 number [] = 0
 number (b ∷ higher) = b + 256 * number higher
 
--- "Each entry is 11 bytes: kind, set (8 bytes), length (2 bytes)."
+-- "Each entry is 11 bytes: kind (0 read, 1 write), set (8 bytes, bit r names resource r), length (2 bytes, 1 to 65,535 ticks)."
 unfoldable pub entryOf : List ℕ → Entry
 entryOf s = record { kind = getD s 0 0; set = number (slice 1 9 s); length = number (slice 9 11 s) }
 
@@ -46,14 +46,15 @@ readFault s =
     (firstOf (enough 3 s)
     (firstOf (countFault (getD s 2 0)) (sectionFault (getD s 1 0) (getD s 2 0) (drop 3 s)))))))
 
--- What fills the places past the count, and a plan that was not read.
+-- What fills the places past the count.
 abbrev pub blankEntry : Entry
 blankEntry = record { kind = 0; set = 0; length = 0 }
 
+-- What stands beside a refusal.
 abbrev pub blankPlan : Plan
 blankPlan = record { processors = 0; resources = 0; count = 0; entries = replicate 64 blankEntry }
 
--- "Sections in a fixed order, each after its count": the bytes of a plan with n entries.
+-- "A plan is the first three sections, at most 707 bytes": a byte for each count, and n entries.
 abbrev pub sizeOf : ℕ → ℕ
 sizeOf n = 3 + 11 * n
 
@@ -72,5 +73,6 @@ abbrev pub readBy : Verdict → List ℕ → Read
 readBy Verdict.Accepted s = record { outcome = Outcome.Bytes (sizeOf (getD s 2 0)); plan = planOf s }
 readBy (Verdict.Refused r) s = record { outcome = Outcome.Refused r; plan = blankPlan }
 
+-- What the reader gives for the bytes s. "Bytes after a plan are not its concern."
 unfoldable pub readPlan : List ℕ → Read
 readPlan s = readBy (readFault s) s

@@ -1,4 +1,4 @@
-// Document 01, "Refused", 3 to 8: which plan values are taken.
+// Document 01, "Refused", 3 to 8 and 16: which plan values are taken, and whether there is room.
 use crate::Entry;
 use crate::Plan;
 use crate::Verdict;
@@ -7,13 +7,36 @@ use refusals::Refusal;
 ghost use mathlib.Core.Path.{_≡_};
 ghost use Prim.Native.Nat.{_≤_};
 ghost use lib.ListN.{take};
-ghost use Rattle.plans.specs.Acceptance.{within, countsFault, entryFault, entriesFault, planFault};
+ghost use Rattle.plans.specs.Acceptance.{firstOf, within, roomFor, countsFault, entryFault, entriesFault, planFault};
+
+// The earlier of two checks decides.
+pub fn first_of(earlier: Verdict, later: Verdict) -> Verdict
+    ensures { λ r. ⌜ r ≡ firstOf earlier later ⌝ }
+{
+    match earlier {
+        Verdict::Accepted => later,
+        Verdict::Refused(refusal) => Verdict::Refused(refusal),
+    }
+}
 
 // Whether the number is from low to high.
-fn is_within(low: u8, high: u8, number: u8) -> bool
+pub fn is_within(low: u8, high: u8, number: u8) -> bool
     ensures { λ r. ⌜ r ≡ within low high number ⌝ }
 {
     (low <= number) & (number <= high)
+}
+
+// 16, "room". The position can be any number, so nothing is added to it: the sum might not fit.
+pub fn check_room(needed: usize, size: usize, at: usize) -> Verdict
+    ensures { λ r. ⌜ r ≡ roomFor needed size at ⌝ }
+{
+    if size < at {
+        return Verdict::Refused(Refusal::Room);
+    }
+    if size - at < needed {
+        return Verdict::Refused(Refusal::Room);
+    }
+    Verdict::Accepted
 }
 
 // The three counts: 3, 4, 5.

@@ -11,7 +11,7 @@ use Rattle.arbiter.specs.declared.Board.{Board}
 use Rattle.arbiter.specs.declared.State.{State}
 use Rattle.arbiter.specs.Requests.{slots}
 use Rattle.queries.specs.Queries.{waitsFor, Chain, direct, through, chained, reaches}
-use Rattle.queries.proofs.Cases.{and-left, and-right, and-both, or-cases, or-left, or-right, never-true}
+use Rattle.masks.proofs.Truth.{and-left, and-right, and-both, or-cases, or-left, or-right, never-true}
 use Rattle.queries.proofs.Growing.{Within, stops}
 use Rattle.queries.proofs.Waits.{waits-below}
 

@@ -1,16 +1,15 @@
 -- The masks that the code joins are those whom a processor faces, and of these it waits for those in its row of conflicts.
 -- Assumes nothing.
 use Prim.Native.Nat.{ℕ, _+_, _*_, _%_, _^_, _<_}
-use mathlib.Core.Path.{_≡_, sym, ap, ap₂, _∙_}
+use mathlib.Core.Path.{_≡_, refl, sym, ap, ap₂, _∙_}
 use mathlib.Core.Bool.{Bool, true, false, cond, not, _&&_, _||_, and-true, and-false, or-false, or-assoc}
 use mathlib.Core.List.{List}
 use lib.Bits.{bitAnd, bitOr}
 use lib.ListN.{getD}
-use borrow.Author.Tests.{lt-ltb}
-use Rattle.masks.specs.Sets.{bit, added, without, maskOf}
+use Rattle.masks.specs.Sets.{bit, without, maskOf}
 use Rattle.masks.proofs.Places.{bit-zero, bit-and, bit-or, bit-without}
-use Rattle.masks.proofs.Masks.{bit-mask-at, mask-agree, mask-more-added}
-use Rattle.masks.proofs.Shifts.{adds}
+use Rattle.masks.proofs.Masks.{bit-mask-at, mask-agree, mask-next}
+use Rattle.masks.proofs.Shifts.{one-shifted}
 use Rattle.arbiter.specs.declared.Board.{Board}
 use Rattle.arbiter.specs.declared.State.{State}
 use Rattle.arbiter.specs.declared.Phases.{Phases}
@@ -71,10 +70,7 @@ module _ (ph : Phases) (writers earlier p : ℕ) (h : ph .holding < 2 ^ 32) (w :
 pub row-turn : (test : ℕ → Bool) (q out next : ℕ) → q < 32 → out ≡ maskOf q test → next ≡ cond (test q) (bitOr out (1 * 2 ^ q % 2 ^ 32)) out
     → next ≡ maskOf (q + 1) test
 row-turn test q out next l so-far e =
-    e ∙ ap (λ (x : ℕ). cond (test q) (bitOr x (1 * 2 ^ q % 2 ^ 32)) x) so-far
-    ∙ ap (λ (x : ℕ). cond (test q) x (maskOf q test))
-    (adds 32 (maskOf q test) q l ∙ ap (λ t. cond t (added (maskOf q test) q) (maskOf q test)) (lt-ltb q 32 l))
-    ∙ sym (mask-more-added q test)
+    mask-next q test out next (test q) (e ∙ ap (λ (x : ℕ). cond (test q) (bitOr out x) out) (one-shifted 32 q l)) so-far refl
 
 -- ---- with the row of conflicts
 

@@ -8,7 +8,7 @@ use native.Mathlib.Omega.{arith}
 use borrow.Author.Tests.{not-true}
 use Rattle.masks.specs.Sets.{some}
 use Rattle.masks.proofs.Some.{some-found, some-none-at}
-use Rattle.queries.proofs.Cases.{and-left, and-right, and-not-false}
+use Rattle.masks.proofs.Truth.{and-left, and-right, and-not-false}
 
 -- Whatever below w passes the test p passes q.
 abbrev pub Within : ℕ → (ℕ → Bool) → (ℕ → Bool) → Type 0

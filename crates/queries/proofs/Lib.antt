@@ -1,4 +1,3 @@
-pub mod Cases
 pub mod Growing
 pub mod Waits
 pub mod Chains

@@ -2,7 +2,7 @@
 -- rows of those waited for. Assumes nothing.
 use Prim.Native.Nat.{ℕ, zero, suc, _+_, _<_}
 use mathlib.Core.Path.{_≡_, refl, sym, ap, ap₂, _∙_}
-use mathlib.Core.Bool.{Bool, true, false, cond, _&&_, _||_, and-false, or-false}
+use mathlib.Core.Bool.{Bool, true, false, cond, _&&_, _||_, and-false, or-false, or-assoc}
 use lib.Bits.{bitOr}
 use Rattle.masks.specs.Sets.{bit, some, maskOf}
 use Rattle.masks.proofs.Some.{some-more, some-agree, some-none}
@@ -11,10 +11,6 @@ use Rattle.arbiter.specs.declared.Board.{Board}
 use Rattle.arbiter.specs.declared.State.{State}
 use Rattle.arbiter.specs.Requests.{slots}
 use Rattle.queries.specs.Queries.{waitsFor, chained, reaches}
-
-or-assoc-at : (a b c : Bool) → (a || (b || c)) ≡ (a || b || c)
-or-assoc-at true b c = refl
-or-assoc-at false b c = refl
 
 -- A row with or without another.
 join-if : (w : ℕ) (row other : ℕ → Bool) (t : Bool)
@@ -55,7 +51,7 @@ module _ (b : Board) (s : State) where
       → joined n p (k + 1) ≡ cond (bit (directMask p) k) (bitOr (joined n p k) (rowMask n k)) (joined n p k)
   joined-more n p k l =
       mask-agree slots _ (λ q. (waitsFor b s p q || some k (test q)) || (waitsFor b s p k && chained b s n k q))
-      (λ q m. ap (λ t. waitsFor b s p q || t) (some-more k (test q)) ∙ or-assoc-at (waitsFor b s p q) (some k (test q)) (test q k))
+      (λ q m. ap (λ t. waitsFor b s p q || t) (some-more k (test q)) ∙ sym (or-assoc (waitsFor b s p q) (some k (test q)) (test q k)))
       ∙ join-if slots (λ q. waitsFor b s p q || some k (test q)) (chained b s n k) (waitsFor b s p k)
       ∙ ap (λ t. cond t (bitOr (joined n p k) (rowMask n k)) (joined n p k)) (sym (bit-mask-at slots (waitsFor b s p) k l))
     where

@@ -11,7 +11,7 @@ use Rattle.arbiter.specs.declared.Board.{Board}
 use Rattle.arbiter.specs.declared.State.{State}
 use Rattle.arbiter.specs.Requests.{slots, isHolding, isEntitled, isWaiting, cleaned, unsatisfied, active, isEarlier, writes, conflicts, holdingRead, holdingWrite, entitledRead, entitledWrite, waitingRead, waitingWrite}
 use Rattle.queries.specs.Queries.{waitsIn, waitsFor}
-use Rattle.queries.proofs.Cases.{and-left, and-three, and-all-three, or-cases, or-left, or-right}
+use Rattle.masks.proofs.Truth.{and-left, and-three, and-all-three, or-cases, or-left, or-right}
 
 -- Document 01, "Queries", direct waits: why p waits for q.
 pub data Reason (b : Board) (s : State) (p q : ℕ) : Type 0 where

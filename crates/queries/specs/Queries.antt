@@ -25,16 +25,18 @@ phaseNumber Phase.Waiting = 1
 phaseNumber Phase.Entitled = 2
 phaseNumber Phase.Holding = 3
 
+-- "A request is waiting, entitled or holding": the phase of p's request, where it counts; else p is idle.
 unfoldable pub phaseOf : Board → State → ℕ → Phase
 phaseOf b s p =
     cond (isHolding b s p) Phase.Holding
     (cond (isEntitled b s p) Phase.Entitled (cond (isWaiting b s p) Phase.Waiting Phase.Idle))
 
+-- "A refusal gives its number only."
 abbrev pub phaseBy : Verdict → Phase → PhaseAnswer
 phaseBy Verdict.Accepted ph = PhaseAnswer.Is ph
 phaseBy (Verdict.Refused r) ph = PhaseAnswer.Refused r
 
--- "Queries: 11, then 16."
+-- "Queries: 11, then 16": without a scratch, 11 alone.
 unfoldable pub phaseQuery : Board → State → ℕ → PhaseAnswer
 phaseQuery b s p = phaseBy (processorFault b p) (phaseOf b s p)
 
@@ -48,9 +50,11 @@ waitsIn b s p q =
     || ((entitledWrite b s p && (holdingRead b s q && conflicts b s p q))
     || (waitingWrite b s p && ((isEarlier s q p && (active s q && writes b s q)) && conflicts b s p q))))
 
+-- The same in any state: "a request whose entry or processor is outside the plan taken as none".
 unfoldable pub waitsFor : Board → State → ℕ → ℕ → Bool
 waitsFor b s p q = waitsIn b (cleaned b s) p q
 
+-- "A refusal gives its number only."
 abbrev pub maskBy : Verdict → ℕ → MaskAnswer
 maskBy Verdict.Accepted mask = MaskAnswer.Mask mask
 maskBy (Verdict.Refused r) mask = MaskAnswer.Refused r
@@ -82,6 +86,7 @@ reachBytes b s = tabulate 256 (λ k. cond (reaches b s (k / 16) (k % 16)) 1 0)
 unfoldable pub reachFault : Board → ℕ → List ℕ → Verdict
 reachFault b p scratch = firstOf (processorFault b p) (due (leb 256 (length scratch)) Refusal.Room)
 
+-- "Reach, also a mask."
 unfoldable pub reachQuery : Board → State → ℕ → List ℕ → MaskAnswer
 reachQuery b s p scratch = maskBy (reachFault b p scratch) (maskOf slots (reaches b s p))
 
@@ -90,5 +95,6 @@ abbrev pub scratchBy : Verdict → Board → State → List ℕ → List ℕ
 scratchBy Verdict.Accepted b s scratch = reachBytes b s ++ drop 256 scratch
 scratchBy (Verdict.Refused r) b s scratch = scratch
 
+-- The scratch after the query.
 unfoldable pub reachScratch : Board → State → ℕ → List ℕ → List ℕ
 reachScratch b s p scratch = scratchBy (reachFault b p scratch) b s scratch

@@ -1,10 +1,9 @@
 // The refusals of the queries: "11, then 16."
 use plans::Verdict;
+use plans::check_room;
+use plans::first_of;
 use refusals::Refusal;
 ghost use mathlib.Core.Path.{_≡_};
-ghost use lib.Dec.{leb};
-ghost use Rattle.refusals.specs.declared.Refusal.{Refusal};
-ghost use Rattle.plans.specs.Acceptance.{firstOf, due};
 ghost use Rattle.arbiter.specs.Parts.{processorFaultBy};
 ghost use Rattle.queries.specs.Parts.{reachFaultBy};
 
@@ -22,31 +21,11 @@ pub fn check_processor(processors: u8, processor: u8) -> Verdict
     }
 }
 
-// 16, "scratch below 256".
-fn check_room(size: usize) -> Verdict
-    ensures { λ r. ⌜ r ≡ due (leb 256 size) Refusal.Room ⌝ }
-{
-    if size < ROOM {
-        return Verdict::Refused(Refusal::Room);
-    }
-    Verdict::Accepted
-}
-
-// The earlier of two checks decides.
-fn first_of(earlier: Verdict, later: Verdict) -> Verdict
-    ensures { λ r. ⌜ r ≡ firstOf earlier later ⌝ }
-{
-    match earlier {
-        Verdict::Accepted => later,
-        Verdict::Refused(refusal) => Verdict::Refused(refusal),
-    }
-}
-
-// "Queries: 11, then 16."
+// "Queries: 11, then 16": a "scratch below 256".
 pub fn check_reach(processors: u8, processor: u8, size: usize) -> Verdict
     ensures { λ r. ⌜ r ≡ reachFaultBy processors processor size ⌝ }
 {
     let counted = check_processor(processors, processor);
-    let room = check_room(size);
+    let room = check_room(ROOM, size, 0);
     first_of(counted, room)
 }

@@ -5,6 +5,7 @@ use arbiter::Board;
 use arbiter::Phases;
 use arbiter::State;
 use arbiter::phases_of;
+use conflicts::row_at;
 use masks::has32;
 use masks::has64;
 use plans::Verdict;
@@ -30,14 +31,6 @@ pub fn join_if(set: u32, other: u32, test: bool) -> u32
     ensures { λ r. ⌜ r ≡ cond test (bitOr set other) set ⌝ }
 {
     if test { set | other } else { set }
-}
-
-// The entries that an entry conflicts with.
-fn row_at(rows: &[u64], entry: u8) -> u64
-    ensures { λ r. ⌜ r ≡ getD (now (rows .entry)) entry 0 ⌝ }
-{
-    let i = entry as usize;
-    if i < rows.len() { rows[i] } else { 0 }
 }
 
 // Those among the processors whose entry is in the row.
@@ -84,7 +77,7 @@ fn waits_in(
 {
     let writers = in_row(ALL, writes, entry);
     let others = facing_of(phases, writers, earlier[p as usize], p);
-    in_row(others, row_at(rows, entry[p as usize]), entry)
+    in_row(others, row_at(rows, entry[p as usize] as u32), entry)
 }
 
 // The direct waits of every processor, in a state of requests that count.

@@ -11,11 +11,12 @@ abbrev pub numberBy : Outcome → ℕ
 numberBy (Outcome.Bytes n) = 0
 numberBy (Outcome.Refused r) = numberOf r
 
--- "A refused plan has figures 0."
+-- "A refused plan has figures 0; an accepted one can too."
 abbrev pub figureBy : Outcome → ℕ → ℕ
 figureBy (Outcome.Bytes n) figure = figure
 figureBy (Outcome.Refused r) figure = 0
 
+-- The refusal number of the plan in the bytes.
 unfoldable pub planRefusal : List ℕ → ℕ
 planRefusal s = numberBy (readPlan s .outcome)
 

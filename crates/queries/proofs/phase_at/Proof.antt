@@ -1,4 +1,7 @@
 -- `phase_at` meets its contract. Assumes nothing.
+use mathlib.Core.Path.{_≡_, sym, _∙_}
+use mathlib.Core.Bool.{true, false}
+use Rattle.masks.specs.Sets.{bit}
 use borrow.Author.Needs.{needs}
 use Rattle.queries.proofs.phase_at.Statement.{statement}
 use Rattle.queries.proofs.phase_at.Tie as tie
@@ -19,10 +22,16 @@ has32-requires-3 : tie.Need-has32-requires-3
 has32-requires-3 c κs = search needs
 
 returns-3 : tie.Need-returns-3
-returns-3 c = rw (← c .before .before .before .before .before .has32 .ensures, c .before .before .before .before .if1 .left, ← c .before .before .before .has322 .ensures, c .before .before .if2 .left, ← c .before .has323 .ensures, c .if3 .taken)
+returns-3 c =
+    let a = c .before .before .before .before .before .before .args in
+    let waits : bit (a .phases .waiting) (a .p) ≡ true = sym (c .before .has323 .ensures) ∙ c .if3 .taken in
+    rw (← c .before .before .before .before .before .has32 .ensures, c .before .before .before .before .if1 .left, ← c .before .before .before .has322 .ensures, c .before .before .if2 .left, waits)
 
 returns-4 : tie.Need-returns-4
-returns-4 c = rw (← c .before .before .before .before .before .has32 .ensures, c .before .before .before .before .if1 .left, ← c .before .before .before .has322 .ensures, c .before .before .if2 .left, ← c .before .has323 .ensures, c .if3 .left)
+returns-4 c =
+    let a = c .before .before .before .before .before .before .args in
+    let idle : bit (a .phases .waiting) (a .p) ≡ false = sym (c .before .has323 .ensures) ∙ c .if3 .left in
+    rw (← c .before .before .before .before .before .has32 .ensures, c .before .before .before .before .if1 .left, ← c .before .before .before .has322 .ensures, c .before .before .if2 .left, idle)
 
 pub phase-at-spec : {M : Type 1} → statement M
 phase-at-spec =

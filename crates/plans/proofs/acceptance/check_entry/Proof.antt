@@ -1,4 +1,8 @@
 -- `check_entry` meets its contract: each test of an entry decides its refusal, in the order 6, 7, 8. Assumes nothing.
+use Prim.Native.Nat.{_^_}
+use mathlib.Core.Path.{_≡_}
+use mathlib.Core.Bool.{false}
+use lib.Dec.{ltb}
 use borrow.Author.Needs.{needs}
 use borrow.Author.Tests.{le-leb, lt-leb, eq-eqb, ne-eqb, lt-ltb, le-ltb}
 use native.Mathlib.Omega.{arith}
@@ -21,11 +25,9 @@ below64-requires c κs = search needs
 returns-3 : tie.Need-returns-3
 unfolding entryFault
 returns-3 c =
-    rw (
-      le-leb _ _ (c .before .before .before .before .if1 .left),
-      ne-eqb _ _ (c .before .before .if2 .left),
-      fails _ _ (c .before .below64 .ensures) (c .if3 .taken),
-    )
+    let a = c .before .before .before .before .before .before .args in
+    let uncounted : ltb (a .entry .set) (2 ^ a .resources) ≡ false = fails _ _ (c .before .below64 .ensures) (c .if3 .taken) in
+    rw (le-leb _ _ (c .before .before .before .before .if1 .left), ne-eqb _ _ (c .before .before .if2 .left), uncounted)
 
 returns-4 : tie.Need-returns-4
 unfolding entryFault

@@ -1,5 +1,6 @@
 -- `check_reach` meets its contract. Assumes nothing.
 use borrow.Author.Needs.{needs}
+use Rattle.queries.proofs.Answers.{checks-reach}
 use Rattle.queries.proofs.checks.check_reach.Statement.{statement}
 use Rattle.queries.proofs.checks.check_reach.Tie as tie
 
@@ -13,7 +14,9 @@ first-of-requires : tie.Need-first-of-requires
 first-of-requires c κs = search needs
 
 returns : tie.Need-returns
-returns c = rw (← c .before .before .check-processor .ensures, ← c .before .check-room .ensures) (c .first-of .ensures)
+returns c =
+    let a = c .before .before .before .args in
+    checks-reach (a .processors) (a .processor) (a .size) _ _ _ (c .before .before .check-processor .ensures) (c .before .check-room .ensures) (c .first-of .ensures)
 
 pub check-reach-spec : {M : Type 1} → statement M
 check-reach-spec =

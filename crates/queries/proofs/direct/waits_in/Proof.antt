@@ -19,6 +19,9 @@ facing-of-requires c κs = search needs
 array-read-row-at : tie.Need-array-read-row-at
 array-read-row-at c = search needs
 
+cast-row-at : tie.Need-cast-row-at
+cast-row-at c = search needs
+
 row-at-requires : tie.Need-row-at-requires
 row-at-requires c κs = search needs
 
@@ -41,6 +44,7 @@ waits-in-spec =
     array-read-facing-of
     facing-of-requires
     array-read-row-at
+    cast-row-at
     row-at-requires
     in-row-requires-2
     returns)

@@ -1,7 +1,7 @@
 -- `first_of` meets its contract. Assumes nothing.
 use borrow.Author.Needs.{needs}
-use Rattle.queries.proofs.checks.first_of.Statement.{statement}
-use Rattle.queries.proofs.checks.first_of.Tie as tie
+use Rattle.plans.proofs.acceptance.first_of.Statement.{statement}
+use Rattle.plans.proofs.acceptance.first_of.Tie as tie
 
 enum-told : tie.Need-enum-told
 enum-told c = search needs

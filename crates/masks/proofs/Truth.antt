@@ -1,4 +1,4 @@
--- Cases on truth values. Assumes nothing.
+-- Cases on truth values: what "and" and "or" tell of their parts, and what the parts tell of them. Assumes nothing.
 use mathlib.Core.Path.{_≡_, refl, sym}
 use mathlib.Core.Bool.{Bool, true, false, not, _&&_, _||_, false≢true}
 use mathlib.Core.Logic.{_⊎_, inl, inr}
@@ -41,12 +41,6 @@ or-left false b e = absurd (false≢true e)
 pub or-right : (a b : Bool) → b ≡ true → (a || b) ≡ true
 or-right true b e = refl
 or-right false b e = e
-
--- Two truth values are equal where each that is true makes the other so.
-pub same-truth : (a b : Bool) → (a ≡ true → b ≡ true) → (b ≡ true → a ≡ true) → a ≡ b
-same-truth true b f g = sym (f refl)
-same-truth false true f g = g refl
-same-truth false false f g = refl
 
 pub never-true : (a : Bool) → (a ≡ true → ⊥) → a ≡ false
 never-true true h = absurd (h refl)

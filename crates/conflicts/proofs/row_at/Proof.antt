@@ -2,8 +2,8 @@
 use mathlib.Core.Path.{sym}
 use lib.ListN.{List·getD-eq-default}
 use borrow.Author.Needs.{needs}
-use Rattle.queries.proofs.direct.row_at.Statement.{statement}
-use Rattle.queries.proofs.direct.row_at.Tie as tie
+use Rattle.conflicts.proofs.row_at.Statement.{statement}
+use Rattle.conflicts.proofs.row_at.Tie as tie
 
 mul-result : tie.Need-mul-result
 mul-result c = search needs
