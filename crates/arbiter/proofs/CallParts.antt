@@ -19,7 +19,7 @@ use Rattle.arbiter.specs.declared.Answered.{Answered}
 use Rattle.arbiter.specs.Requests.{isHolding, isEntitled, isWaiting, cleaned}
 use Rattle.arbiter.specs.Settling.{test1, step1, test2, step2, test3, step3, test4, step4, settled}
 use Rattle.arbiter.specs.Phases.{phasesOf, settledPhases}
-use Rattle.arbiter.specs.Parts.{stateOf, cleanedPhases, issueFaultBy, completeFaultBy, putEarlier, admittedPhases, takenPhases, freeRead, refusalOf}
+use Rattle.arbiter.specs.Parts.{stateOf, cleanedPhases, issueFaultBy, completeFaultBy, putEarlier, admittedPhases, takenPhases, freeRead, stampedSince, refusalOf}
 use Rattle.arbiter.specs.Calls.{put, holdsAtOnce, admitted, taken, stamped, done, refusedBy, issueFault, completeFault, lateMark, issued, completed}
 use Rattle.arbiter.proofs.Verdicts.{aheadOf, activeOf, unsatisfiedOf, bit-active, issue-verdict, complete-verdict}
 use Rattle.arbiter.proofs.Bounds.{Small, cleaned-small}
@@ -119,16 +119,18 @@ module _ (b : Board) (s : State) (before : Phases) (cleans : before ≡ cleanedP
     unfolding issued
     issue-refused r w = refuses (issueFault b s p e t) r s _ (sym decides ∙ w)
 
-    pub issue-accepted : v ≡ Verdict.Accepted → (line : List ℕ) (atOnce : Bool) (ready : Phases) (a : Answered)
+    pub issue-accepted : v ≡ Verdict.Accepted → (line : List ℕ) (atOnce : Bool) (ready after : Phases) (new : ℕ) (a : Answered)
         → line ≡ putEarlier (s .earlier) p (activeOf before)
         → atOnce ≡ freeRead (b .rows) (b .writes) (set (s .entry) p e) (aheadOf before) p
         → ready ≡ admittedPhases before p atOnce
-        → a ≡ done (stateOf t before (set (s .entry) p e) (set (s .since) p t) line)
-        (stateOf t (settledPhases (b .rows) (b .writes) (set (s .entry) p e) line ready) (set (s .entry) p e) (set (s .since) p t) line) 0
+        → after ≡ settledPhases (b .rows) (b .writes) (set (s .entry) p e) line ready
+        → set (s .since) p t ≡ stampedSince (s .since) new t
+        → a ≡ done (stateOf t before (set (s .entry) p e) (s .since) line) (stateOf t after (set (s .entry) p e) (stampedSince (s .since) new t) line) 0
         → a ≡ issued b s p e t
     unfolding isHolding isEntitled isWaiting cleaned cleanedPhases put stamped done issued
-    issue-accepted w line atOnce ready a el ea er eq =
+    issue-accepted w line atOnce ready after new a el ea er ef es eq =
         eq
+        ∙ ap₂ (λ ph since. done (stateOf t before (set (s .entry) p e) (s .since) line) (stateOf t ph (set (s .entry) p e) since line) 0) ef (sym es)
         ∙ ap (λ x. done (stateOf t before (set (s .entry) p e) (set (s .since) p t) line) x 0)
         (put-settled b (s .last) before (s .entry) (s .since) (s .earlier) p e t (cleaned-small before (b .processors) (b .count) (s .entry) (phasesOf s) cleans) line atOnce ready el ea er)
         ∙ ap (λ ph. done (stateOf t ph (set (s .entry) p e) (set (s .since) p t) line) (settled b (admitted b (put (stateOf (s .last) ph (s .entry) (s .since) (s .earlier)) p e t) p)) 0) cleans
@@ -142,15 +144,17 @@ module _ (b : Board) (s : State) (before : Phases) (cleans : before ≡ cleanedP
     unfolding completed
     complete-refused r w = refuses (completeFault b s p t) r s _ (sym ends ∙ w)
 
-    pub complete-accepted : v ≡ Verdict.Accepted → (entry length held late : ℕ) (ready : Phases) (a : Answered)
+    pub complete-accepted : v ≡ Verdict.Accepted → (entry length held late : ℕ) (ready after : Phases) (a : Answered)
         → entry ≡ getD (s .entry) p 0 → length ≡ getD (b .lengths) entry 0 → held ≡ t - getD (s .since) p 0 → late ≡ cond (ltb length held) 1 0
         → ready ≡ takenPhases before p
-        → a ≡ done (stateOf t before (s .entry) (s .since) (s .earlier))
-        (stateOf t (settledPhases (b .rows) (b .writes) (s .entry) (s .earlier) ready) (s .entry) (s .since) (s .earlier)) late
+        → after ≡ settledPhases (b .rows) (b .writes) (s .entry) (s .earlier) ready
+        → s .since ≡ stampedSince (s .since) 0 t
+        → a ≡ done (stateOf t before (s .entry) (s .since) (s .earlier)) (stateOf t after (s .entry) (stampedSince (s .since) 0 t) (s .earlier)) late
         → a ≡ completed b s p t
     unfolding isHolding isEntitled isWaiting cleaned cleanedPhases taken takenPhases stamped done completed
-    complete-accepted w entry length held late ready a ee eh et el er eq =
+    complete-accepted w entry length held late ready after a ee eh et el er ef es eq =
         eq
+        ∙ ap₂ (λ ph since. done (stateOf t before (s .entry) (s .since) (s .earlier)) (stateOf t ph (s .entry) since (s .earlier)) late) ef (sym es)
         ∙ ap₂ (λ ph. done (stateOf t before (s .entry) (s .since) (s .earlier)) (stateOf t ph (s .entry) (s .since) (s .earlier)))
         (ap (settledPhases (b .rows) (b .writes) (s .entry) (s .earlier)) er)
         (el ∙ ap₂ (λ (x y : ℕ). cond (ltb x y) 1 0) (eh ∙ ap (λ (x : ℕ). getD (b .lengths) x 0) ee) et)

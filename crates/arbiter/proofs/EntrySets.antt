@@ -1,6 +1,6 @@
 -- The set of the entries of the processors in a mask, by the rows that it meets. Assumes nothing.
 use mathlib.Core.Path.{_≡_, refl, sym, ap, ap₂, _∙_}
-use mathlib.Core.Bool.{Bool, true, false, cond, not, _&&_, _||_, true≢false, and-true, and-false, or-false, or-assoc, and-or-distrib-left}
+use mathlib.Core.Bool.{Bool, true, false, cond, _&&_, _||_, true≢false, and-false, or-false, or-assoc, and-or-distrib-left}
 use mathlib.Core.List.{List}
 use Prim.Native.Nat.{ℕ, _-_, _^_, _<_}
 use lib.Bits.{bitAnd}
@@ -15,7 +15,8 @@ use Rattle.masks.proofs.Meets.{meets-some}
 use Rattle.masks.proofs.Some.{some-at, some-agree, some-none, some-or}
 use Rattle.arbiter.specs.Requests.{slots}
 use Rattle.arbiter.specs.Moves.{inRow}
-use Rattle.arbiter.proofs.Walks.{allSlots, slots-below, bit-slots, lowest-bit, lowest-slot, bit-left}
+use Rattle.arbiter.proofs.Walks.{allSlots, slots-below}
+use Rattle.arbiter.proofs.Rows.{row-all, row-lowest, row-none}
 
 -- ---- a row and a set that grows by one entry
 
@@ -47,21 +48,6 @@ meets-added w row set e h =
 
 -- ---- the walk that gathers the entries
 
--- One of those in a mask passes the test: the one at p, or one of the others.
-one-or-others : (L B : ℕ → Bool) (n p : ℕ) → p < n → L p ≡ true → (B p || some n (λ q. L q && not (eqb q p) && B q)) ≡ some n (λ q. L q && B q)
-one-or-others L B n p l h = go (B p) refl
-  where
-    same : (q : ℕ) (t : Bool) → eqb q p ≡ t → B p ≡ false → (L q && not t && B q) ≡ (L q && B q)
-    same q true e n = ap (λ t. L q && not true && t) none ∙ and-false (L q && not true) ∙ sym (ap (λ t. L q && t) none ∙ and-false (L q))
-      where
-        none : B q ≡ false
-        none = ap B (eqb-true q p e) ∙ n
-    same q false e n = ap (λ t. t && B q) (and-true (L q))
-
-    go : (t : Bool) → B p ≡ t → (t || some n (λ q. L q && not (eqb q p) && B q)) ≡ some n (λ q. L q && B q)
-    go true e = sym (some-at n (λ q. L q && B q) p l (ap₂ _&&_ h e))
-    go false e = some-agree n (λ q. L q && not (eqb q p) && B q) (λ q. L q && B q) (λ q m. same q (eqb q p) refl e)
-
 pub record Gathered (entry : List ℕ) (among left set : ℕ) : Type 0 where
   pub rest : left < 2 ^ slots
   pub width : set < 2 ^ 64
@@ -72,10 +58,7 @@ gathered-first entry among =
     record {
       rest = slots-below among;
       width = pow-pos 64;
-      meeting = λ row h.
-          ap (λ t. t || inRow row entry (bitAnd among allSlots)) (meets-none 64 row h)
-          ∙ some-agree slots (λ q. bit (bitAnd among allSlots) q && bit row (getD entry q 0)) (λ q. bit among q && bit row (getD entry q 0))
-          (λ q l. ap (λ t. t && bit row (getD entry q 0)) (bit-slots among q l));
+      meeting = λ row h. ap (λ t. t || inRow row entry (bitAnd among allSlots)) (meets-none 64 row h) ∙ row-all row entry among;
     }
 
 pub gathered-more : (entry : List ℕ) (among left set next : ℕ) → 0 < left → Gathered entry among left set
@@ -86,29 +69,16 @@ gathered-more entry among left set next p h e =
       rest = and-below slots left (left - 1) (h .rest);
       width = rw e (added-if-below 64 set here (h .width));
       meeting = λ row r.
-          ap₂ _||_ (ap (λ (x : ℕ). meets row x) e ∙ meets-added 64 row set here r) (others row)
-          ∙ or-assoc (meets row set) (bit row here) (some slots (λ q. bit left q && not (eqb q low) && bit row (getD entry q 0)))
-          ∙ ap (λ t. meets row set || t) (one-or-others (bit left) (λ q. bit row (getD entry q 0)) slots low (lowest-slot left p (h .rest)) (lowest-bit left p (h .rest)))
+          ap (λ t. t || inRow row entry (bitAnd left (left - 1))) (ap (λ (x : ℕ). meets row x) e ∙ meets-added 64 row set here r)
+          ∙ or-assoc (meets row set) (bit row here) (inRow row entry (bitAnd left (left - 1)))
+          ∙ ap (λ t. meets row set || t) (row-lowest row entry left p (h .rest))
           ∙ h .meeting row r;
     }
   where
-    low : ℕ
-    low = trailingZeros 32 left
-
     here : ℕ
-    here = getD entry low 0
-
-    others : (row : ℕ) → inRow row entry (bitAnd left (left - 1)) ≡ some slots (λ q. bit left q && not (eqb q low) && bit row (getD entry q 0))
-    others row =
-        some-agree slots (λ q. bit (bitAnd left (left - 1)) q && bit row (getD entry q 0)) (λ q. bit left q && not (eqb q low) && bit row (getD entry q 0))
-        (λ q l. ap (λ t. t && bit row (getD entry q 0)) (bit-left left q p (h .rest)))
+    here = getD entry (trailingZeros 32 left) 0
 
 pub gathered-last : (entry : List ℕ) (among left set : ℕ) → left ≡ 0 → Gathered entry among left set
     → (row : ℕ) → row < 2 ^ 64 → meets row set ≡ inRow row entry among
 gathered-last entry among left set e h row r =
-    sym (or-false (meets row set)) ∙ ap (λ t. meets row set || t) (sym none) ∙ h .meeting row r
-  where
-    none : inRow row entry left ≡ false
-    none =
-        some-none slots (λ q. bit left q && bit row (getD entry q 0))
-        (λ q l. ap (λ t. t && bit row (getD entry q 0)) (ap (λ (x : ℕ). bit x q) e ∙ bit-zero q))
+    sym (or-false (meets row set)) ∙ ap (λ t. meets row set || t) (sym (row-none row entry left e)) ∙ h .meeting row r

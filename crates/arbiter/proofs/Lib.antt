@@ -1,9 +1,12 @@
-pub mod Fields
 pub mod Walks
+pub mod Rows
 pub mod EntrySets
+pub mod WriteMasks
+pub mod Busy
 pub mod Steps
-pub mod Stamps
+pub mod Quiet
 pub mod PhaseMasks
+pub mod Stamps
 pub mod Newcomers
 pub mod Answers
 pub mod Verdicts

@@ -9,7 +9,7 @@ use lib.Dec.{eqb, ltb}
 use lib.ListN.{length, getD, set, length-set}
 use lib.Seq.{getD-set-same, getD-set-other, ext-getD}
 use borrow.Author.Tests.{eqb-true, eqb-false}
-use Rattle.masks.specs.Sets.{bit, removed, meets, some, maskOf}
+use Rattle.masks.specs.Sets.{bit, removed, some, maskOf}
 use Rattle.masks.proofs.Places.{bit-and, bit-removed-if, and-below}
 use Rattle.masks.proofs.Masks.{is-mask}
 use Rattle.masks.proofs.Some.{some-agree}
@@ -67,13 +67,12 @@ pub free-write : (rows : List ℕ) (writes : ℕ) (entry : List ℕ) (others p :
 unfolding freeRead
 free-write rows writes entry others p e = rw e
 
-pub free-read : (rows : List ℕ) (writes : ℕ) (entry : List ℕ) (others p row set : ℕ) (met : Bool) → bit writes (getD entry p 0) ≡ false → row < 2 ^ 64
-    → row ≡ rowAt rows entry p → ((r : ℕ) → r < 2 ^ 64 → meets r set ≡ inRow r entry others) → met ≡ meets (bitAnd row writes) set
-    → not met ≡ freeRead rows writes entry others p
+pub free-read : (rows : List ℕ) (writes : ℕ) (entry : List ℕ) (others p row : ℕ) (met : Bool) → bit writes (getD entry p 0) ≡ false
+    → row ≡ rowAt rows entry p → met ≡ inRow (bitAnd row writes) entry others → not met ≡ freeRead rows writes entry others p
 unfolding freeRead
-free-read rows writes entry others p row set met read below er es em =
+free-read rows writes entry others p row met read er em =
     ap not
-    (em ∙ es (bitAnd row writes) (and-below 64 row writes below)
+    (em
     ∙ some-agree 16 (λ q. bit others q && bit (bitAnd row writes) (getD entry q 0)) (λ q. bit others q && (bit writes (getD entry q 0) && bit (rowAt rows entry p) (getD entry q 0)))
     (λ q l. ap (λ t. bit others q && t)
     (bit-and row writes (getD entry q 0) ∙ and-comm (bit row (getD entry q 0)) (bit writes (getD entry q 0))

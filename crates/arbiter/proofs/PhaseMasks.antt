@@ -3,15 +3,16 @@ use mathlib.Core.Path.{_≡_, refl, sym, ap, ap₂, _∙_}
 use mathlib.Core.Bool.{Bool, true, false, cond, not, _&&_, _||_, and-true, and-false, or-false}
 use mathlib.Core.List.{List}
 use Prim.Native.Nat.{ℕ, _-_, _*_, _%_, _^_, _<_, _≤_}
-use native.Mathlib.Nat.{one-mul, mod-eq-of-lt, lt-of-lt-of-le}
+use native.Mathlib.Nat.{lt-of-lt-of-le}
 use native.Mathlib.Omega.{arith}
 use lib.Bits.{bitAnd, bitOr}
 use lib.Dec.{eqb, ltb}
 use lib.ListN.{getD}
-use lib.Pow.{pow-pos, pow-lt, pow-mono}
+use lib.Pow.{pow-pos, pow-mono}
 use borrow.Author.Tests.{lt-ltb}
 use Rattle.masks.specs.Sets.{bit, added, removed, complement, without, maskOf}
 use Rattle.masks.proofs.Places.{bit-zero, bit-and, bit-or, bit-complement, bit-without, bit-added-if, bit-removed-if, and-below, or-below, complement-below, added-below}
+use Rattle.masks.proofs.Shifts.{one-shifted}
 use Rattle.masks.proofs.Masks.{is-mask, mask-agree, mask-below, mask-and, bit-mask-at}
 use Rattle.arbiter.specs.declared.Phases.{Phases}
 use Rattle.arbiter.specs.Parts.{countedBy, inPlanBy, cleanedPhases, admittedPhases, takenPhases}
@@ -58,9 +59,7 @@ first-places n m h same =
 
 -- A place below 16 is not shifted out.
 pub one-place : (m : ℕ) → m < 16 → 1 * 2 ^ m % 2 ^ 32 ≡ 2 ^ m
-one-place m l =
-    let below : m < 32 = omega arith in
-    ap (λ (x : ℕ). x % 2 ^ 32) (one-mul (2 ^ m)) ∙ mod-eq-of-lt (pow-lt below)
+one-place m l = one-shifted 32 m (omega arith)
 
 pub first-shifted : (m : ℕ) → m < 16 → 1 * 2 ^ m % 2 ^ 32 - 1 ≡ maskOf 16 (countedBy m)
 first-shifted m l = ap (λ (x : ℕ). x - 1) (one-place m l) ∙ first-places m m (omega arith) (λ k h. refl)

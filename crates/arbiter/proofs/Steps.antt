@@ -6,13 +6,14 @@ use native.Mathlib.Omega.{arith}
 use lib.Bits.{bitAnd, bitOr}
 use lib.ListN.{getD}
 use Rattle.masks.specs.Sets.{bit, without, maskOf}
-use Rattle.masks.proofs.Places.{bit-and}
+use Rattle.masks.proofs.Places.{bit-and, bit-or}
 use Rattle.masks.proofs.Some.{some-agree, some-or}
 use Rattle.masks.proofs.Masks.{bit-mask-at, mask-below, mask-agree, mask-of-bits, mask-and, mask-or, mask-without}
-use Rattle.arbiter.specs.Requests.{slots, writes, conflicts, against, isEarlier, waitingRead, waitingWrite, unsatisfiedWrite, entitledRead, entitledWrite, holdingWrite}
+use Rattle.arbiter.specs.Requests.{slots, active, writes, conflicts, against, isEarlier, waitingRead, waitingWrite, unsatisfiedWrite, entitledRead, entitledWrite, holdingWrite}
 use Rattle.arbiter.specs.Settling.{test1, step1, test2, step2, test3, step3, test4, step4, settled}
 use Rattle.arbiter.specs.Phases.{phasesOf}
 use Rattle.arbiter.specs.Moves.{opposed, unopposedOf, firstInLine}
+use Rattle.arbiter.proofs.Busy.{activeWrite, within-and, within-not, waiting-active, entitled-active, holding-active, unsatisfied-active}
 use Rattle.arbiter.specs.declared.Board.{Board}
 use Rattle.arbiter.specs.declared.State.{State}
 use Rattle.arbiter.specs.declared.Phases.{Phases}
@@ -37,6 +38,31 @@ without-is {P} {Q} ma mb = record { is = ap₂ (without 32) (ma .is) (mb .is) �
 
 agree-is : {P Q : ℕ → Bool} {a : ℕ} → ((p : ℕ) → P p ≡ Q p) → Mask P a → Mask Q a
 agree-is {P} {Q} same m = record { is = m .is ∙ mask-agree slots P Q (λ p l. same p) }
+
+-- The writes and the reads of a phase, by a mask of the active writes.
+writes-of : (b : Board) (s : State) {P : ℕ → Bool} {a w : ℕ} → ((p : ℕ) → P p ≡ true → active s p ≡ true) → Mask P a → Mask (activeWrite b s) w
+    → Mask (λ p. P p && writes b s p) (bitAnd a w)
+writes-of b s {P} i ma mw = agree-is (λ p. within-and (P p) (active s p) (writes b s p) (i p)) (and-is ma mw)
+
+reads-of : (b : Board) (s : State) {P : ℕ → Bool} {a w : ℕ} → ((p : ℕ) → P p ≡ true → active s p ≡ true) → Mask P a → Mask (activeWrite b s) w
+    → Mask (λ p. P p && not (writes b s p)) (without 32 a w)
+reads-of b s {P} i ma mw = agree-is (λ p. within-not (P p) (active s p) (writes b s p) (i p)) (without-is ma mw)
+
+-- What the code works out first.
+pub active-writes : (b : Board) (s : State) (w : ℕ)
+    → w ≡ maskOf slots (λ p. bit (bitOr (bitOr (s .waiting) (s .entitled)) (s .holding)) p && writes b s p) → Mask (activeWrite b s) w
+active-writes b s w e =
+    record {
+      is =
+          e
+          ∙ mask-agree slots _ _ (λ p l.
+          ap (λ t. t && writes b s p)
+          (bit-or (bitOr (s .waiting) (s .entitled)) (s .holding) p ∙ ap (λ t. t || bit (s .holding) p) (bit-or (s .waiting) (s .entitled) p)));
+    }
+
+-- A mask of the active writes of one state is that of another with the same ones.
+pub still : {P Q : ℕ → Bool} {a : ℕ} → ((p : ℕ) → p < slots → P p ≡ Q p) → Mask P a → Mask Q a
+still {P} {Q} same m = record { is = m .is ∙ mask-agree slots P Q same }
 
 -- A number with a place for each processor is the mask of its places.
 pub own-mask : (n : ℕ) → n < 2 ^ slots → Mask (bit n) n
@@ -79,11 +105,11 @@ pub record Follows (s : State) (x e h : ℕ) : Type 0 where
   pub entitled : Mask (bit (s .entitled)) e
   pub holding : Mask (bit (s .holding)) h
 
-pub after1 : (b : Board) (s : State) {w x e h g : ℕ} → Mask (writes b s) w → Follows s x e h
+pub after1 : (b : Board) (s : State) {w x e h g : ℕ} → Mask (activeWrite b s) w → Follows s x e h
     → g ≡ unopposedOf (b .rows) (s .entry) (without 32 e w) (bitAnd h w) → Follows (step1 b s) x (without 32 e g) (bitOr h g)
 unfolding test1 step1
 after1 b s {g} mw f eg =
-    let moves : Mask (test1 b s) g = unopposed-is b s (without-is (f .entitled) mw) (and-is (f .holding) mw) eg in
+    let moves : Mask (test1 b s) g = unopposed-is b s (reads-of b s (entitled-active s) (f .entitled) mw) (writes-of b s (holding-active s) (f .holding) mw) eg in
     record {
       waiting = f .waiting;
       entitled = places-is (without-is (f .entitled) moves);
@@ -97,30 +123,32 @@ clauses2 true true b c = and-false (not (b || c))
 clauses2 true false true c = refl
 clauses2 true false false c = and-true (not c)
 
-pub after2 : (b : Board) (s : State) {w x e h o g : ℕ} → Mask (writes b s) w → Follows s x e h
+pub after2 : (b : Board) (s : State) {w x e h o g : ℕ} → Mask (activeWrite b s) w → Follows s x e h
     → o ≡ unopposedOf (b .rows) (s .entry) (bitAnd x w) (bitOr (bitAnd h w) (without 32 e w))
     → g ≡ firstInLine (b .rows) (s .entry) (s .earlier) o (bitAnd (bitOr x e) w)
     → Follows (step2 b s) (without 32 x g) (bitOr e g) h
 unfolding test2 step2
 after2 b s {g} mw f eo eg =
-    let clear = unopposed-is b s (and-is (f .waiting) mw) (or-is (and-is (f .holding) mw) (without-is (f .entitled) mw)) eo in
+    let clear =
+    unopposed-is b s (writes-of b s (waiting-active s) (f .waiting) mw)
+    (or-is (writes-of b s (holding-active s) (f .holding) mw) (reads-of b s (entitled-active s) (f .entitled) mw)) eo in
     let moves : Mask (test2 b s) g =
     agree-is
     (λ p. ap (λ t. waitingWrite b s p && not t && not (against b s p (λ q. isEarlier s q p && unsatisfiedWrite b s q)))
     (against-either b s p (holdingWrite b s) (entitledRead b s))
     ∙ clauses2 (waitingWrite b s p) (against b s p (λ q. isEarlier s q p && unsatisfiedWrite b s q)) (against b s p (holdingWrite b s)) (against b s p (entitledRead b s)))
-    (first-is b s clear (and-is (or-is (f .waiting) (f .entitled)) mw) eg) in
+    (first-is b s clear (writes-of b s (unsatisfied-active s) (or-is (f .waiting) (f .entitled)) mw) eg) in
     record {
       waiting = places-is (without-is (f .waiting) moves);
       entitled = places-is (or-is (f .entitled) moves);
       holding = f .holding;
     }
 
-pub after3 : (b : Board) (s : State) {w x e h g : ℕ} → Mask (writes b s) w → Follows s x e h
+pub after3 : (b : Board) (s : State) {w x e h g : ℕ} → Mask (activeWrite b s) w → Follows s x e h
     → g ≡ unopposedOf (b .rows) (s .entry) (bitAnd e w) (without 32 h w) → Follows (step3 b s) x (without 32 e g) (bitOr h g)
 unfolding test3 step3
 after3 b s {g} mw f eg =
-    let moves : Mask (test3 b s) g = unopposed-is b s (and-is (f .entitled) mw) (without-is (f .holding) mw) eg in
+    let moves : Mask (test3 b s) g = unopposed-is b s (writes-of b s (entitled-active s) (f .entitled) mw) (reads-of b s (holding-active s) (f .holding) mw) eg in
     record {
       waiting = f .waiting;
       entitled = places-is (without-is (f .entitled) moves);
@@ -133,17 +161,17 @@ clauses4 false a e = refl
 clauses4 true true e = refl
 clauses4 true false e = refl
 
-pub after4 : (b : Board) (s : State) {w x e h o g : ℕ} → Mask (writes b s) w → Follows s x e h
+pub after4 : (b : Board) (s : State) {w x e h o g : ℕ} → Mask (activeWrite b s) w → Follows s x e h
     → o ≡ unopposedOf (b .rows) (s .entry) (without 32 x w) (bitAnd h w)
     → g ≡ unopposedOf (b .rows) (s .entry) (without 32 (without 32 x w) o) (bitAnd e w)
     → Follows (step4 b s) (without 32 x g) (bitOr e g) h
 unfolding test4 step4
 after4 b s {g} mw f eo eg =
-    let reads = without-is (f .waiting) mw in
-    let free = unopposed-is b s reads (and-is (f .holding) mw) eo in
+    let reads = reads-of b s (waiting-active s) (f .waiting) mw in
+    let free = unopposed-is b s reads (writes-of b s (holding-active s) (f .holding) mw) eo in
     let moves : Mask (test4 b s) g =
     agree-is (λ p. clauses4 (waitingRead b s p) (against b s p (holdingWrite b s)) (against b s p (entitledWrite b s)))
-    (unopposed-is b s (without-is reads free) (and-is (f .entitled) mw) eg) in
+    (unopposed-is b s (without-is reads free) (writes-of b s (entitled-active s) (f .entitled) mw) eg) in
     record {
       waiting = places-is (without-is (f .waiting) moves);
       entitled = places-is (or-is (f .entitled) moves);

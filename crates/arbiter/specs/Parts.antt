@@ -87,9 +87,9 @@ freeRead rows writes entry others p =
     not (bit writes (getD entry p 0))
     && not (some slots (λ q. bit others q && (bit writes (getD entry q 0) && bit (getD rows (getD entry p 0) 0) (getD entry q 0))))
 
--- The ticks with the tick of the grants.
+-- The ticks with this one for the processors in the mask.
 unfoldable pub stampedSince : List ℕ → ℕ → ℕ → List ℕ
-stampedSince since granted tick = tabulate slots (λ p. cond (bit granted p) tick (getD since p 0))
+stampedSince since among tick = tabulate slots (λ p. cond (bit among p) tick (getD since p 0))
 
 -- "A refusal gives its number only", and the state is the one given.
 abbrev pub refusalOf : Refusal → State → Answered

@@ -6,15 +6,14 @@ use crate::Reply;
 use crate::State;
 use crate::settling::ALL;
 use crate::settling::SLOTS;
-use crate::settling::add_if;
-use crate::settling::entries_of;
+use crate::settling::entries_below;
 use crate::settling::entry_at;
+use crate::settling::in_row;
 use crate::settling::row_at;
 use crate::settling::settle;
 use masks::add32;
 use masks::has32;
 use masks::has64;
-use masks::meet64;
 use masks::remove32;
 use masks::without32;
 use plans::Verdict;
@@ -36,20 +35,6 @@ ghost use Rattle.arbiter.specs.Calls.{done, issued, completed};
 const LAST_TICK: u64 = 1099511627775;
 
 // ---- the requests that count
-
-// The processors whose requests' entries are below the count. Nothing else in the loop: compiled, it is one comparison
-// of all 16.
-fn entries_below(count: u8, entry: [u8; 16]) -> u32
-    ensures { λ r. ⌜ r ≡ maskOf slots (λ p. ltb (getD entry p 0) count) ⌝ }
-{
-    let mut out: u32 = 0;
-    let mut p: u32 = 0;
-    while p < SLOTS {
-        out = add_if(out, p, entry[p as usize] < count);
-        p += 1;
-    }
-    out
-}
 
 // The first so many processors.
 fn first_of(processors: u8) -> u32
@@ -186,7 +171,7 @@ fn is_free_read(rows: &[u64], writes: u64, entry: &[u8], others: u32, p: u32) ->
     if has64(writes, entry_at(entry, p)) {
         return false;
     }
-    !meet64(row_at(rows, entry, p) & writes, entries_of(entry, others))
+    !in_row(row_at(rows, entry, p) & writes, entry, others)
 }
 
 // The new request holds at once or waits.
@@ -243,12 +228,12 @@ fn length_at(lengths: &[u16], entry: u32) -> u16
     if i < lengths.len() { lengths[i] } else { 0 }
 }
 
-// The ticks of the grants: those that began to hold have this one.
-fn stamp(since: [u64; 16], granted: u32, tick: u64) -> [u64; 16]
-    ensures { λ r. ⌜ r ≡ stampedSince since granted tick ⌝ }
+// The ticks with this one for the processors in the mask.
+fn stamp(since: [u64; 16], among: u32, tick: u64) -> [u64; 16]
+    ensures { λ r. ⌜ r ≡ stampedSince since among tick ⌝ }
 {
     let mut out = since;
-    let mut left = granted & ALL;
+    let mut left = among & ALL;
     while left != 0 {
         out[u32::trailing_zeros(left) as usize] = tick;
         left = left & (left - 1);
@@ -256,24 +241,22 @@ fn stamp(since: [u64; 16], granted: u32, tick: u64) -> [u64; 16]
     out
 }
 
-// Settles, and gives the two masks, late, and the state after with the ticks of the grants.
+// The two masks, late, and the state after. Those that began to hold have this tick, and so has the new request.
 fn answer(
-    rows: &[u64],
-    writes: u64,
     before: Phases,
-    ready: Phases,
+    after: Phases,
     tick: u64,
+    new: u32,
     entry: [u8; 16],
     since: [u64; 16],
     earlier: [u32; 16],
     late: u8,
 ) -> Answered
-    requires { ⌜ (before .entitled < 2 ^ 16) × (before .holding < 2 ^ 16) × (ready .waiting < 2 ^ 16) × (ready .entitled < 2 ^ 16) × (ready .holding < 2 ^ 16) ⌝ }
-    ensures { λ r. ⌜ r ≡ done (stateOf tick before entry since earlier) (stateOf tick (settledPhases (now (rows .entry)) writes entry earlier ready) entry since earlier) late ⌝ }
+    requires { ⌜ (before .entitled < 2 ^ 16) × (before .holding < 2 ^ 16) × (after .entitled < 2 ^ 16) × (after .holding < 2 ^ 16) ⌝ }
+    ensures { λ r. ⌜ r ≡ done (stateOf tick before entry since earlier) (stateOf tick after entry (stampedSince since new tick) earlier) late ⌝ }
 {
-    let after = settle(rows, writes, &entry, &earlier, ready);
     let granted = without32(after.holding, before.holding);
-    let stamps = stamp(since, granted, tick);
+    let stamps = stamp(since, granted | new, tick);
     Answered {
         reply: Reply::Done {
             granted: granted,
@@ -307,7 +290,7 @@ pub fn issue(board: Board, state: State, processor: u8, entry: u8, tick: u64) ->
     ensures { λ r. ⌜ r ≡ issued board state processor entry tick ⌝ }
 {
     let mut entries = state.entry;
-    let mut since = state.since;
+    let since = state.since;
     let earlier = state.earlier;
     let last = state.last;
     let processors = board.processors;
@@ -326,14 +309,26 @@ pub fn issue(board: Board, state: State, processor: u8, entry: u8, tick: u64) ->
         Verdict::Refused(fault) => return refuse(fault, state),
     }
     entries[processor as usize] = entry;
-    since[processor as usize] = tick;
     let line = put_earlier(earlier, processor, active);
     let p = processor as u32;
     let rows = board.rows;
     let writes = board.writes;
     let at_once = is_free_read(&rows, writes, &entries, ahead, p);
     let ready = admit(before, processor, at_once);
-    answer(&rows, writes, before, ready, tick, entries, since, line, 0)
+    let after = settle(&rows, writes, entries, line, ready);
+    answer(before, after, tick, 1 << p, entries, since, line, 0)
+}
+
+// Settles what a completion leaves. Where nobody is unsatisfied the rows are not copied to be lent.
+fn settle_rest(board: Board, entry: [u8; 16], earlier: [u32; 16], phases: Phases) -> Phases
+    requires { ⌜ (phases .waiting < 2 ^ 16) × (phases .entitled < 2 ^ 16) × (phases .holding < 2 ^ 16) ⌝ }
+    ensures { λ r. ⌜ r ≡ settledPhases (board .rows) (board .writes) entry earlier phases ⌝ }
+{
+    if phases.waiting | phases.entitled == 0 {
+        return phases;
+    }
+    let rows = board.rows;
+    settle(&rows, board.writes, entry, earlier, phases)
 }
 
 // Processor gives its request back at a tick. Refused by 10, 11, 14, 15, in that order.
@@ -358,19 +353,10 @@ pub fn complete(board: Board, state: State, processor: u8, tick: u64) -> Answere
         Verdict::Accepted => {}
         Verdict::Refused(refusal) => return refuse(refusal, state),
     }
-    let length = length_at(&board.lengths, entry_at(&entry, processor as u32));
+    let lengths = board.lengths;
+    let length = length_at(&lengths, entry_at(&entry, processor as u32));
     let late = late_mark(length, ticks_between(since[processor as usize], tick));
     let ready = take_out(before, processor);
-    let rows = board.rows;
-    answer(
-        &rows,
-        board.writes,
-        before,
-        ready,
-        tick,
-        entry,
-        since,
-        earlier,
-        late,
-    )
+    let after = settle_rest(board, entry, earlier, ready);
+    answer(before, after, tick, 0, entry, since, earlier, late)
 }

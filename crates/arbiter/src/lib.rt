@@ -21,16 +21,16 @@ pub struct Board {
     pub rows: [u64; 64],
 }
 
-// One request for each processor: bit p of a mask is processor p. The entry of its request, the tick of its issue,
-// or of its grant while it holds, and the processors whose requests were active when it was issued.
+// One request for each processor: bit p of a mask is processor p. The tick of its issue, or of its grant while it
+// holds, the processors whose requests were active when it was issued, and its entry.
 pub struct State {
     pub last: u64,
+    pub since: [u64; 16],
+    pub earlier: [u32; 16],
+    pub entry: [u8; 16],
     pub waiting: u32,
     pub entitled: u32,
     pub holding: u32,
-    pub entry: [u8; 16],
-    pub since: [u64; 16],
-    pub earlier: [u32; 16],
 }
 
 // An accepted call's masks and late mark, or the refusal.

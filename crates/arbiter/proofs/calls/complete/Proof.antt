@@ -2,7 +2,8 @@
 use mathlib.Core.Path.{_≡_, sym, _∙_}
 use lib.ListN.{length}
 use Rattle.arbiter.proofs.Verdicts.{complete-counted}
-use Rattle.arbiter.proofs.Bounds.{Small, cleaned-small, taken-small}
+use Rattle.arbiter.proofs.Stamps.{none-stamped}
+use Rattle.arbiter.proofs.Bounds.{Small, cleaned-small, taken-small, settled-small}
 use Rattle.arbiter.proofs.CallParts.{complete-refused, complete-accepted}
 use borrow.Author.Needs.{needs}
 use Rattle.arbiter.proofs.calls.complete.Statement.{statement}
@@ -11,8 +12,8 @@ use Rattle.arbiter.proofs.calls.complete.Tie as tie
 entry-full : (c : tie.Start) → length (c .args .state .entry) ≡ 16
 entry-full c = search needs
 
-rows-full : (c : tie.Start) → length (c .args .t1 .rows) ≡ 64
-rows-full c = search needs
+since-full : (c : tie.Start) → length (c .args .state .since) ≡ 16
+since-full c = search needs
 
 -- The phases that count are masks of 16 places.
 small : (c : tie.After-clean) → Small (c .clean .result)
@@ -39,8 +40,11 @@ returns c =
     c .refuse .ensures
     ∙ complete-refused _ _ _ (found .before .before .before .clean .ensures) _ _ _ (found .complete-fault .ensures) _ (c .before .before .verdict .given .1)
 
+slice-aggregate-length-at : tie.Need-slice-aggregate-length-at
+slice-aggregate-length-at c = search needs
+
 slice-aggregate-entry-at : tie.Need-slice-aggregate-entry-at
-slice-aggregate-entry-at c = sym (entry-full (c .before .before .before .before .before .before .before .before .before .before .before .before .before))
+slice-aggregate-entry-at c = sym (entry-full (c .before .before .before .before .before .before .before .before .before .before .before .before))
 
 entry-at-requires : tie.Need-entry-at-requires
 entry-at-requires c κs = search needs
@@ -52,7 +56,7 @@ mul-ticks-between : tie.Need-mul-ticks-between
 mul-ticks-between c = search needs
 
 array-read-ticks-between : tie.Need-array-read-ticks-between
-array-read-ticks-between c = complete-counted _ _ _ _ _ _ _ (c .before .before .before .before .before .before .before .before .complete-fault .ensures) (c .before .before .before .before .before .before .enum-told .given .1)
+array-read-ticks-between c = complete-counted _ _ _ _ _ _ _ (c .before .before .before .before .before .before .before .complete-fault .ensures) (c .before .before .before .before .before .enum-told .given .1)
 
 ticks-between-requires : tie.Need-ticks-between-requires
 ticks-between-requires c κs = search needs
@@ -61,24 +65,27 @@ late-mark-requires : tie.Need-late-mark-requires
 late-mark-requires c κs = search needs
 
 take-out-requires : tie.Need-take-out-requires
-take-out-requires c κs = small (c .before .before .before .before .before .before .before .before .before .before .before .before .before) .2
+take-out-requires c κs = small (c .before .before .before .before .before .before .before .before .before .before .before .before) .2
 
-slice-aggregate-answer : tie.Need-slice-aggregate-answer
-slice-aggregate-answer c = sym (rows-full (c .before .before .before .before .before .before .before .before .before .before .before .before .before .before .before .before .before .before .before .before))
+settle-rest-requires : tie.Need-settle-rest-requires
+settle-rest-requires c κs =
+    let ready = taken-small _ _ _ (c .take-out .ensures) (small (c .before .before .before .before .before .before .before .before .before .before .before .before .before)) in
+    (ready .0, ready .1, ready .2)
 
 answer-requires : tie.Need-answer-requires
 answer-requires c κs =
-    let before = small (c .before .before .before .before .before .before .before .before .before .before .before .before .before .before .before .before) in
-    let ready = taken-small _ _ _ (c .before .before .take-out .ensures) before in
-    (before .1, before .2, ready .0, ready .1, ready .2)
+    let before = small (c .before .before .before .before .before .before .before .before .before .before .before .before .before .before) in
+    let after = settled-small _ _ _ _ _ _ (c .settle-rest .ensures) in
+    (before .1, before .2, after .1, after .2)
 
 returns-2 : tie.Need-returns-2
 returns-2 c =
-    let marked = c .before .before .before .before in
-    let told = marked .before .before .before .before .before .before .before .before in
-    complete-accepted _ _ _ (told .before .before .before .before .before .clean .ensures) _ _ _ (told .before .before .complete-fault .ensures) (told .enum-told .given .1) _ _ _ _ _ _
+    let marked = c .before .before .before in
+    let told = marked .before .before .before .before .before .before .before in
+    complete-accepted _ _ _ (told .before .before .before .before .before .clean .ensures) _ _ _ (told .before .before .complete-fault .ensures) (told .enum-told .given .1) _ _ _ _ _ _ _
     (marked .before .before .before .entry-at .ensures) (marked .before .before .length-at .ensures) (marked .before .ticks-between .ensures)
-    (marked .late-mark .ensures) (c .before .before .before .take-out .ensures) (c .answer .ensures)
+    (marked .late-mark .ensures) (c .before .before .take-out .ensures) (c .before .settle-rest .ensures)
+    (none-stamped _ _ (since-full (told .before .before .before .before .before .before .before .before .before))) (c .answer .ensures)
 
 pub complete-spec : {M : Type 1} → statement M
 complete-spec =
@@ -90,6 +97,7 @@ complete-spec =
     enum-known-verdict
     refuse-requires
     returns
+    slice-aggregate-length-at
     slice-aggregate-entry-at
     entry-at-requires
     length-at-requires
@@ -98,6 +106,6 @@ complete-spec =
     ticks-between-requires
     late-mark-requires
     take-out-requires
-    slice-aggregate-answer
+    settle-rest-requires
     answer-requires
     returns-2)

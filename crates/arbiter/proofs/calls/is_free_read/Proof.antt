@@ -20,26 +20,17 @@ returns c =
 row-at-requires : tie.Need-row-at-requires
 row-at-requires c κs = search needs
 
-entries-of-requires : tie.Need-entries-of-requires
-entries-of-requires c κs = search needs
-
-meet64-requires : tie.Need-meet64-requires
-meet64-requires c κs = search needs
+in-row-requires : tie.Need-in-row-requires
+in-row-requires c κs = search needs
 
 returns-2 : tie.Need-returns-2
 returns-2 c =
-    free-read _ _ _ _ _ _ _ _
-    (ap (bit (c .before .before .before .before .before .before .before .before .args .writes)) (sym (c .before .before .before .before .before .entry-at .ensures)) ∙ sym (c .before .before .before .before .has64 .ensures) ∙ c .before .before .before .if1 .left)
-    (search needs) (c .before .before .row-at .ensures) (c .before .entries-of .ensures) (c .meet64 .ensures)
+    let tests = c .before .before .before in
+    free-read _ _ _ _ _ _ _
+    (ap (bit (tests .before .before .before .before .args .writes)) (sym (tests .before .entry-at .ensures)) ∙ sym (tests .has64 .ensures) ∙ c .before .before .if1 .left)
+    (c .before .row-at .ensures) (c .in-row .ensures)
 
 pub is-free-read-spec : {M : Type 1} → statement M
 is-free-read-spec =
     tie.close
-    (tie.spec
-    entry-at-requires
-    has64-requires
-    returns
-    row-at-requires
-    entries-of-requires
-    meet64-requires
-    returns-2)
+    (tie.spec entry-at-requires has64-requires returns row-at-requires in-row-requires returns-2)

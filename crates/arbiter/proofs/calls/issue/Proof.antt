@@ -1,9 +1,11 @@
 -- `issue` meets its contract, put together from its parts. Assumes nothing.
 use mathlib.Core.Path.{_≡_, sym, _∙_}
 use Prim.Native.Nat.{_<_}
+use native.Mathlib.Omega.{arith}
 use lib.ListN.{length, set, length-set}
 use Rattle.arbiter.proofs.Verdicts.{issue-counted}
-use Rattle.arbiter.proofs.Bounds.{Small, cleaned-small, admitted-small}
+use Rattle.arbiter.proofs.Stamps.{one-stamped}
+use Rattle.arbiter.proofs.Bounds.{Small, cleaned-small, admitted-small, settled-small}
 use Rattle.arbiter.proofs.CallParts.{issue-refused, issue-accepted}
 use borrow.Author.Needs.{needs}
 use Rattle.arbiter.proofs.calls.issue.Statement.{statement}
@@ -11,6 +13,9 @@ use Rattle.arbiter.proofs.calls.issue.Tie as tie
 
 entries-full : (c : tie.Start) → length (set (c .args .state .entry) (c .args .processor) (c .args .entry)) ≡ 16
 entries-full c = length-set (c .args .state .entry) _ _ ∙ search needs
+
+since-full : (c : tie.Start) → length (c .args .state .since) ≡ 16
+since-full c = search needs
 
 rows-full : (c : tie.Start) → length (c .args .board .rows) ≡ 64
 rows-full c = search needs
@@ -46,12 +51,6 @@ returns c =
 array-write-entries : tie.Need-array-write-entries
 array-write-entries c = counted c
 
-mul-since : tie.Need-mul-since
-mul-since c = search needs
-
-array-write-since : tie.Need-array-write-since
-array-write-since c = counted c
-
 put-earlier-requires : tie.Need-put-earlier-requires
 put-earlier-requires c κs = counted c
 
@@ -70,21 +69,31 @@ admit-requires c κs =
     let before = small (told .before .before .before .before .before) in
     (before .0, before .2, counted told)
 
-slice-aggregate-answer : tie.Need-slice-aggregate-answer
-slice-aggregate-answer c = sym (rows-full (c .before .before .before .before .before .before .before .before .before .before .before .before .before .before .before .before))
+slice-aggregate-settle : tie.Need-slice-aggregate-settle
+slice-aggregate-settle c = sym (rows-full (c .before .before .before .before .before .before .before .before .before .before .before .before .before .before .before .before))
+
+settle-requires : tie.Need-settle-requires
+settle-requires c κs =
+    let before = small (c .before .before .before .before .before .before .before .before .before .before .before .before) in
+    let ready = admitted-small _ _ _ _ (c .before .admit .ensures) before in
+    (ready .0, ready .1, ready .2)
+
+shl-answer : tie.Need-shl-answer
+shl-answer c = omega (arith, counted (c .before .before .before .before .before .before .before .before))
 
 answer-requires : tie.Need-answer-requires
 answer-requires c κs =
-    let before = small (c .before .before .before .before .before .before .before .before .before .before .before .before) in
-    let ready = admitted-small _ _ _ _ (c .before .admit .ensures) before in
-    (before .1, before .2, ready .0, ready .1, ready .2)
+    let before = small (c .before .before .before .before .before .before .before .before .before .before .before .before .before) in
+    let after = settled-small _ _ _ _ _ _ (c .settle .ensures) in
+    (before .1, before .2, after .1, after .2)
 
 returns-2 : tie.Need-returns-2
 returns-2 c =
-    let ready = c .before .before in
+    let ready = c .before .before .before in
     let told = ready .before .before .before .before .before .before in
-    issue-accepted _ _ _ (told .before .before .before .before .before .clean .ensures) _ _ _ _ (told .before .before .issue-fault .ensures) (told .enum-told .given .1) _ _ _ _
-    (ready .before .before .before .before .before .put-earlier .ensures) (ready .before .is-free-read .ensures) (ready .admit .ensures) (c .answer .ensures)
+    issue-accepted _ _ _ (told .before .before .before .before .before .clean .ensures) _ _ _ _ (told .before .before .issue-fault .ensures) (told .enum-told .given .1) _ _ _ _ _ _
+    (ready .before .before .before .before .before .put-earlier .ensures) (ready .before .is-free-read .ensures) (ready .admit .ensures) (c .before .settle .ensures)
+    (one-stamped _ _ _ (since-full (told .before .before .before .before .before .before .before .before .before)) (counted told)) (c .answer .ensures)
 
 pub issue-spec : {M : Type 1} → statement M
 issue-spec =
@@ -97,13 +106,13 @@ issue-spec =
     refuse-requires
     returns
     array-write-entries
-    mul-since
-    array-write-since
     put-earlier-requires
     slice-aggregate-is-free-read
     slice-aggregate-is-free-read-2
     is-free-read-requires
     admit-requires
-    slice-aggregate-answer
+    slice-aggregate-settle
+    settle-requires
+    shl-answer
     answer-requires
     returns-2)

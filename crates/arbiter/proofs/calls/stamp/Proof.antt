@@ -1,4 +1,4 @@
--- `stamp` meets its contract, by the walk through the granted places. Assumes nothing.
+-- `stamp` meets its contract, by the walk through the places of the mask. Assumes nothing.
 use native.Mathlib.Omega.{arith}
 use borrow.Author.Needs.{needs}
 use Rattle.masks.proofs.Lowest.{rest-less}
@@ -8,10 +8,10 @@ use Rattle.arbiter.proofs.calls.stamp.Statement.{statement}
 use Rattle.arbiter.proofs.calls.stamp.Tie as tie
 
 abbrev Inv-loop : tie.InvT-loop
-Inv-loop granted tick out₀ left₀ out left = Stamping tick granted out₀ left out
+Inv-loop among tick out₀ left₀ out left = Stamping tick among out₀ left out
 
 abbrev μ-loop : tie.MeasureT-loop
-μ-loop granted tick out₀ left₀ out left = left
+μ-loop among tick out₀ left₀ out left = left
 
 loop-holds : tie.Need-loop-holds Inv-loop μ-loop
 loop-holds c = stamping-first _ _ _ (search needs)

@@ -1,4 +1,4 @@
--- `first_in_line` meets its contract, by the walk that keeps the candidates whose row meets no entry of those before them.
+-- `first_in_line` meets its contract, by the walk that keeps the candidates whose row has no entry of those before them.
 -- Assumes nothing.
 use mathlib.Core.Bool.{not}
 use native.Mathlib.Omega.{arith}
@@ -21,20 +21,17 @@ abbrev μ-loop : tie.MeasureT-loop
 loop-holds : tie.Need-loop-holds Inv-loop μ-loop
 loop-holds c = kept-first _ _
 
-earlier-at-requires : tie.Need-earlier-at-requires Inv-loop μ-loop
-earlier-at-requires c κs = search needs
-
-entries-of-requires : tie.Need-entries-of-requires Inv-loop μ-loop
-entries-of-requires c κs = search needs
-
 row-at-requires : tie.Need-row-at-requires Inv-loop μ-loop
 row-at-requires c κs = search needs
 
-meet64-requires : tie.Need-meet64-requires Inv-loop μ-loop
-meet64-requires c κs = search needs
+earlier-at-requires : tie.Need-earlier-at-requires Inv-loop μ-loop
+earlier-at-requires c κs = search needs
+
+in-row-requires : tie.Need-in-row-requires Inv-loop μ-loop
+in-row-requires c κs = search needs
 
 add-if-requires : tie.Need-add-if-requires Inv-loop μ-loop
-add-if-requires c κs = omega (arith, lowest-slot _ (omega arith) (c .before .before .before .before .before .loop .inv .rest))
+add-if-requires c κs = omega (arith, lowest-slot _ (omega arith) (c .before .before .before .before .loop .inv .rest))
 
 sub-left : tie.Need-sub-left Inv-loop μ-loop
 sub-left c = omega arith
@@ -44,13 +41,8 @@ loop-less c = rest-less _ (omega arith)
 
 loop-again : tie.Need-loop-again Inv-loop μ-loop
 loop-again c =
-    kept-more _ _ _ _ _ (omega arith) (c .before .before .before .before .before .before .loop .inv)
-    (rw (
-      ← c .before .before .row-at .ensures,
-      ← c .before .before .before .before .earlier-at .ensures,
-      ← c .before .before .before .entries-of .ensures (c .before .before .row-at .result) (omega arith),
-      ← c .before .meet64 .ensures,
-    ) (c .add-if .ensures))
+    kept-more _ _ _ _ _ (omega arith) (c .before .before .before .before .before .loop .inv)
+    (rw (← c .before .before .before .row-at .ensures, ← c .before .before .earlier-at .ensures, ← c .before .in-row .ensures) (c .add-if .ensures))
 
 returns : tie.Need-returns Inv-loop μ-loop
 returns c = kept-last _ _ _ _ (c .loop-test .left) (c .before .loop .inv)
@@ -62,10 +54,9 @@ first-in-line-spec =
     Inv-loop
     μ-loop
     loop-holds
-    earlier-at-requires
-    entries-of-requires
     row-at-requires
-    meet64-requires
+    earlier-at-requires
+    in-row-requires
     add-if-requires
     sub-left
     loop-less

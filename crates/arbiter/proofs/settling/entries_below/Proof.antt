@@ -8,8 +8,8 @@ use lib.ListN.{getD}
 use borrow.Author.Needs.{needs}
 use Rattle.masks.specs.Sets.{maskOf}
 use Rattle.masks.proofs.Masks.{mask-more-added}
-use Rattle.arbiter.proofs.calls.entries_below.Statement.{statement}
-use Rattle.arbiter.proofs.calls.entries_below.Tie as tie
+use Rattle.arbiter.proofs.settling.entries_below.Statement.{statement}
+use Rattle.arbiter.proofs.settling.entries_below.Tie as tie
 
 abbrev Inv-loop : tie.InvT-loop
 Inv-loop count entry out₀ p₀ out p = (p ≤ 16) × (out ≡ maskOf p (λ q. ltb (getD entry q 0) count))

@@ -1,0 +1,14 @@
+-- `add_digit` meets its contract, by the law of digits at 32 bits. Assumes nothing.
+use borrow.Author.Needs.{needs}
+use Rattle.arbiter.proofs.WriteMasks.{adds-digit}
+use Rattle.arbiter.proofs.settling.add_digit.Statement.{statement}
+use Rattle.arbiter.proofs.settling.add_digit.Tie as tie
+
+shl-result : tie.Need-shl-result
+shl-result c = search needs
+
+returns : tie.Need-returns
+returns c = adds-digit 32 (c .args .set) (c .args .place) (c .args .digit) (c .pre .0) (c .pre .1)
+
+pub add-digit-spec : {M : Type 1} → statement M
+add-digit-spec = tie.close (tie.spec shl-result returns)
