@@ -1,5 +1,6 @@
 // `lockreplay`: a log on standard input, its listing on standard output.
 // A thin loop over `replay`: no contract can say what is read or written, so the work is done on slices there.
+// `replay/specs/Buffers.antt` has the same turns over the same buffers as a definition, which is proved to be the listing.
 use arbiter::Board;
 use arbiter::State;
 use libc::STDIN_FILENO;

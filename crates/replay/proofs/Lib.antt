@@ -5,3 +5,7 @@ pub mod Blocks
 pub mod Answers
 pub mod Whole
 pub mod Ranges
+pub mod PlanBuffer
+pub mod Buffers
+pub mod Program
+pub mod Shown

@@ -12,13 +12,15 @@ use Rattle.arbiter.specs.declared.State.{State}
 use Rattle.arbiter.specs.declared.Reply.{Reply}
 use Rattle.refusals.specs.declared.Refusal.{Refusal}
 use Rattle.refusals.specs.Number.{numberOf}
+use Rattle.plans.specs.declared.Plan.{Plan}
+use Rattle.plans.specs.Figures.{readFigure, writeFigure}
 use Rattle.plans.specs.Writing.{put}
 use Rattle.logs.specs.declared.Call.{Call}
 use Rattle.logs.specs.declared.RecordAnswer.{RecordAnswer}
 use Rattle.logs.specs.Records.{readRecord}
 use Rattle.listings.specs.declared.LineAnswer.{LineAnswer}
 use Rattle.listings.specs.Digits.{digits, decimal, hex4}
-use Rattle.listings.specs.Lines.{furtherFields, replyFields, callLine, refusalLine, lineOutcome, lineBuffer}
+use Rattle.listings.specs.Lines.{furtherFields, replyFields, firstLine, callLine, refusalLine, lineOutcome, lineBuffer}
 use Rattle.replay.specs.Listing.{answer}
 use Rattle.replay.specs.declared.Carried.{Carried}
 use Rattle.replay.specs.Blocks.{Ran, ran, lineRoom}
@@ -63,6 +65,13 @@ call-line-room (Call.Complete p t) reply = simp length-append (omega (arith, dig
 pub refusal-line-room : (r : Refusal) → length (refusalLine r) ≤ lineRoom
 unfolding refusalLine furtherFields
 refusal-line-room r = simp length-append (omega (arith, digits-few 20 (numberOf r)))
+
+-- So has the first line, of any plan.
+pub first-line-room : (p : Plan) → length (firstLine p) ≤ 145
+unfolding firstLine furtherFields
+first-line-room p =
+    simp length-append
+    (omega (arith, digits-few 20 (p .processors), digits-few 20 (p .resources), digits-few 20 (p .count), digits-few 20 (readFigure p), digits-few 20 (writeFigure p)))
 
 -- One record that is a call, and one that is refused.
 pub one-call : (b : Board) (st : State) (s : List ℕ) (c : Call) → readRecord s ≡ RecordAnswer.Is c

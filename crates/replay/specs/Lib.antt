@@ -3,3 +3,4 @@ pub mod Blocks
 pub mod Carried
 pub mod Ends
 pub mod Pieces
+pub mod Buffers
