@@ -7,6 +7,7 @@
 //! twin compare-queries PROGRAM FROM COUNT DIR
 //! twin waits PROGRAM COUNT                  hostile logs through a program: no wait passes its figure
 //! twin log SEED                             writes one of the seeded logs
+//! twin calls BUSY TURNS | plans TURNS       the benchmarks' workloads, to a checksum
 mod arbiter;
 mod compare;
 mod listing;
@@ -14,6 +15,7 @@ mod logs;
 mod measure;
 mod plan;
 mod random;
+mod speed;
 
 use std::fs;
 use std::io::{self, BufWriter, Read, Write};
@@ -63,6 +65,8 @@ fn main() -> io::Result<()> {
             true
         }
         ["viewer"] => print_viewer(&mut out).is_ok(),
+        ["calls", busy, turns] => writeln!(out, "{}", speed::calls(number(busy) as u8, number(turns))).is_ok(),
+        ["plans", turns] => writeln!(out, "{}", speed::plans(number(turns))).is_ok(),
         ["log", seed] => out.write_all(&logs::log(number(seed))).is_ok(),
         ["measure", log, listing] => print_measured(log, listing),
         ["compare", program, from, count, dir] => compare::compare(program, false, number(from), number(count), dir),

@@ -1,10 +1,7 @@
 //! A log to its listing in plain Rust, with the algorithm of the library.
-use crate::{board_of, Done, Entry, State};
+use crate::arbiter::{board_of, Done, State, LEAN};
+use crate::plan::{self, number};
 use std::io::{self, Read, Write};
-
-fn number(bytes: &[u8]) -> u64 {
-    bytes.iter().rev().fold(0, |sum, &b| sum << 8 | b as u64)
-}
 
 fn push_decimal(out: &mut Vec<u8>, mut n: u64) {
     let mut digits = [0u8; 20];
@@ -47,26 +44,24 @@ fn push_answer(out: &mut Vec<u8>, answer: Result<Done, u8>) {
 pub fn replay() -> io::Result<()> {
     let mut log = Vec::new();
     io::stdin().lock().read_to_end(&mut log)?;
-    let (processors, count) = (log[0], log[2] as usize);
-    let entries: Vec<Entry> = log[3..3 + 11 * count]
-        .chunks(11)
-        .map(|e| Entry { write: e[0] == 1, set: number(&e[1..9]), length: number(&e[9..11]) as u16 })
-        .collect();
+    let (taken, plan) = plan::read(&log).expect("an accepted plan");
+    let (processors, count) = (plan.processors, plan.count);
+    let entries = &plan.entries[..count as usize];
     let longest = |write| entries.iter().filter(|e| e.write == write).map(|e| e.length as u64).max().unwrap_or(0);
     let read = longest(false) + longest(true);
     let mut out = Vec::with_capacity(65536);
-    write!(out, "processors {processors} resources {} entries {count} read {read} write {}\n", log[1], (processors as u64 - 1) * read)?;
-    let board = board_of(processors, &entries);
+    write!(out, "processors {processors} resources {} entries {count} read {read} write {}\n", plan.resources, (processors as u64 - 1) * read)?;
+    let board = board_of(processors, entries);
     let mut state = State::fresh();
     let stdout = io::stdout();
     let mut stdout = stdout.lock();
-    for call in log[3 + 11 * count + 2..].chunks(8) {
+    for call in log[taken + 2..].chunks(8) {
         let tick = number(&call[3..8]);
         push_decimal(&mut out, tick);
         out.extend_from_slice(if call[0] == 0 { b" i " } else { b" c " });
         push_decimal(&mut out, call[1] as u64);
         out.push(b' ');
-        let answer = if call[0] == 0 { state.issue::<true>(&board, call[1], call[2], tick) } else { state.complete::<true>(&board, call[1], tick) };
+        let answer = if call[0] == 0 { state.issue::<LEAN>(&board, call[1], call[2], tick) } else { state.complete::<LEAN>(&board, call[1], tick) };
         push_answer(&mut out, answer);
         if out.len() > 60000 {
             stdout.write_all(&out)?;
