@@ -5,7 +5,7 @@
 //! twin measure LOG LISTING                  the longest waits of a listing against the plan's figures
 //! twin compare PROGRAM FROM COUNT DIR       seeded logs through a program and the twin, byte for byte
 //! twin compare-queries PROGRAM FROM COUNT DIR
-//! twin waits PROGRAM COUNT                  hostile logs through a program: no wait passes its figure
+//! twin waits PROGRAM COUNT                  hostile logs through a program: no wait passes its figure, and how near they come
 //! twin log SEED                             writes one of the seeded logs
 //! twin calls BUSY TURNS | plans TURNS       the benchmarks' workloads, to a checksum
 mod arbiter;
@@ -16,6 +16,7 @@ mod measure;
 mod plan;
 mod random;
 mod speed;
+mod waits;
 
 use std::fs;
 use std::io::{self, BufWriter, Read, Write};
@@ -71,7 +72,7 @@ fn main() -> io::Result<()> {
         ["measure", log, listing] => print_measured(log, listing),
         ["compare", program, from, count, dir] => compare::compare(program, false, number(from), number(count), dir),
         ["compare-queries", program, from, count, dir] => compare::compare(program, true, number(from), number(count), dir),
-        ["waits", program, count] => compare::waits(program, number(count)),
+        ["waits", program, count] => waits::waits(program, number(count)),
         _ => {
             eprintln!("usage: see the head of twin/src/main.rs");
             false
