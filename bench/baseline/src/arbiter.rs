@@ -219,6 +219,10 @@ impl State {
             self.earlier[q] &= !(1 << p);
         }
         self.earlier[p] = active;
+        if KIND != FIRST && active == 0 {
+            self.holding = 1 << p;
+            return Ok(Done { granted: 1 << p, entitled: 0, late: 0 });
+        }
         let mut writes = 0u64;
         for q in Bits(entitled | held) {
             let f = self.entry[q] & 63;

@@ -11,5 +11,6 @@ pub mod Newcomers
 pub mod Answers
 pub mod Verdicts
 pub mod Bounds
+pub mod Idle
 pub mod CallParts
 pub mod PlanEntries

@@ -8,7 +8,7 @@ use lib.Bits.{bitAnd, and-le-r}
 use lib.Dec.{eqb, ltb}
 use lib.ListN.{length, getD, set, length-set}
 use lib.Seq.{getD-set-same, getD-set-other, ext-getD}
-use borrow.Author.Tests.{eqb-true, eqb-false}
+use borrow.Author.Tests.{eqb-true, eqb-false, eq-eqb}
 use Rattle.masks.specs.Sets.{bit, removed, some, maskOf}
 use Rattle.masks.proofs.Places.{bit-and, bit-removed-if, and-below}
 use Rattle.masks.proofs.Masks.{is-mask}
@@ -60,6 +60,15 @@ earlier-put earlier p active keep kept l ek et =
         getD-set-other kept p k active 0 (eqb-false k p e) ∙ ap (λ xs. getD xs k 0) et
         ∙ getD-tabulate 16 (λ q. bitAnd (getD earlier q 0) keep) k 0 m ∙ ap (bitAnd (getD earlier k 0)) ek ∙ all-but (getD earlier k 0) p
         ∙ ap (λ t. cond t active (maskOf 16 (λ r. bit (getD earlier k 0) r && not (eqb r p)))) (sym e)
+
+-- The new request's own set is who is active.
+pub earlier-new : (line earlier : List ℕ) (p active : ℕ) → p < 16 → line ≡ putEarlier earlier p active → getD line p 0 ≡ active
+unfolding putEarlier
+earlier-new line earlier p active l e =
+    ap (λ xs. getD xs p 0) e ∙ getD-tabulate 16 whole p 0 l ∙ ap (λ t. cond t active (maskOf 16 (λ r. bit (getD earlier p 0) r && not (eqb r p)))) (eq-eqb p p refl)
+  where
+    whole : ℕ → ℕ
+    whole q = cond (eqb q p) active (maskOf 16 (λ r. bit (getD earlier q 0) r && not (eqb r p)))
 
 -- ---- the new read
 

@@ -21,7 +21,7 @@ use Rattle.arbiter.proofs.Busy.{activeWrite, active1, active2, active3}
 use Rattle.arbiter.proofs.Steps.{Mask, Follows, own-mask, still, after1, after2, after3, after4, follows-settled}
 
 -- No candidate, none unopposed and none first in line.
-none-unopposed : (rows entry : List ℕ) (others : ℕ) → 0 ≡ unopposedOf rows entry 0 others
+pub none-unopposed : (rows entry : List ℕ) (others : ℕ) → 0 ≡ unopposedOf rows entry 0 others
 none-unopposed rows entry others = none-kept (λ p. not (opposed rows entry others p)) 0 refl
 
 none-first : (rows entry earlier : List ℕ) (others : ℕ) → 0 ≡ firstInLine rows entry earlier 0 others
@@ -41,7 +41,7 @@ follows-quiet b s h f =
     subst (λ (x : ℕ). Follows (step3 b (step2 b (step1 b s))) 0 0 x) (or-zero-r h) (after3 b (step2 b (step1 b s)) w2 two (none _)) in
     after4 b (step3 b (step2 b (step1 b s))) w3 three (none _) (none _)
 
-quiet-by : (rows : List ℕ) (writes : ℕ) (entry earlier : List ℕ) (ph : Phases) → ph .waiting ≡ 0 → ph .entitled ≡ 0 → ph .holding < 2 ^ slots
+pub quiet-by : (rows : List ℕ) (writes : ℕ) (entry earlier : List ℕ) (ph : Phases) → ph .waiting ≡ 0 → ph .entitled ≡ 0 → ph .holding < 2 ^ slots
     → ph ≡ settledPhases rows writes entry earlier ph
 unfolding settledPhases
 quiet-by rows writes entry earlier ph nw ne lh =
@@ -78,9 +78,13 @@ either-none a b k e = sym (bit-or a b k) ∙ ap (λ (x : ℕ). bit x k) e ∙ bi
 no-place : (w a : ℕ) → a < 2 ^ w → ((k : ℕ) → bit a k ≡ false) → a ≡ 0
 no-place w a h none = same-places w a 0 h (pow-pos w) (λ k l. none k ∙ sym (bit-zero k))
 
+-- Two sets with no place in either are empty.
+pub neither : (w a b : ℕ) → a < 2 ^ w → b < 2 ^ w → bitOr a b ≡ 0 → (a ≡ 0) × (b ≡ 0)
+neither w a b la lb e =
+    (no-place w a la (λ k. first-none (bit a k) (bit b k) (either-none a b k e)), no-place w b lb (λ k. second-none (bit a k) (bit b k) (either-none a b k e)))
+
 pub quiet : (rows : List ℕ) (writes : ℕ) (entry earlier : List ℕ) (ph : Phases) → bitOr (ph .waiting) (ph .entitled) ≡ 0 → ph .waiting < 2 ^ slots
     → ph .entitled < 2 ^ slots → ph .holding < 2 ^ slots → ph ≡ settledPhases rows writes entry earlier ph
 quiet rows writes entry earlier ph e lw le lh =
-    quiet-by rows writes entry earlier ph
-    (no-place slots (ph .waiting) lw (λ k. first-none (bit (ph .waiting) k) (bit (ph .entitled) k) (either-none (ph .waiting) (ph .entitled) k e)))
-    (no-place slots (ph .entitled) le (λ k. second-none (bit (ph .waiting) k) (bit (ph .entitled) k) (either-none (ph .waiting) (ph .entitled) k e))) lh
+    let none = neither slots (ph .waiting) (ph .entitled) lw le e in
+    quiet-by rows writes entry earlier ph (none .0) (none .1) lh

@@ -285,6 +285,18 @@ fn refuse(refusal: Refusal, state: State) -> Answered
     }
 }
 
+// The phases of a new request where nobody else is active: it holds, read or write, and no row has to be looked at.
+fn hold_alone(processor: u8) -> Phases
+    requires { ⌜ processor < 16 ⌝ }
+    ensures { λ r. ⌜ r ≡ record { waiting = 0; entitled = 0; holding = 2 ^ processor } ⌝ }
+{
+    Phases {
+        waiting: 0,
+        entitled: 0,
+        holding: add32(0, processor as u32),
+    }
+}
+
 // Processor asks for an entry at a tick. Refused by 10, 11, 12, 13, in that order.
 pub fn issue(board: Board, state: State, processor: u8, entry: u8, tick: u64) -> Answered
     ensures { λ r. ⌜ r ≡ issued board state processor entry tick ⌝ }
@@ -311,6 +323,10 @@ pub fn issue(board: Board, state: State, processor: u8, entry: u8, tick: u64) ->
     entries[processor as usize] = entry;
     let line = put_earlier(earlier, processor, active);
     let p = processor as u32;
+    if active == 0 {
+        let alone = hold_alone(processor);
+        return answer(before, alone, tick, 1 << p, entries, since, line, 0);
+    }
     let rows = board.rows;
     let writes = board.writes;
     let at_once = is_free_read(&rows, writes, &entries, ahead, p);
