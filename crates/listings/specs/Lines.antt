@@ -1,15 +1,13 @@
 -- The lines of a listing: document 01, "A log and its listing". "Fields have one space between them, numbers other than
 -- masks are decimal, and each line ends in a line feed." Bytes are those of ASCII: 32 is a space, 10 a line feed.
-use Prim.Native.Nat.{ℕ, _-_}
-use mathlib.Core.Bool.{_&&_}
+use Prim.Native.Nat.{ℕ}
 use mathlib.Core.List.{List, [], _∷_, _++_}
-use lib.Dec.{leb}
 use lib.ListN.{length}
 use Rattle.refusals.specs.declared.Refusal.{Refusal}
 use Rattle.refusals.specs.Number.{numberOf}
 use Rattle.plans.specs.declared.Plan.{Plan}
 use Rattle.plans.specs.declared.Verdict.{Verdict}
-use Rattle.plans.specs.Acceptance.{due}
+use Rattle.plans.specs.Acceptance.{roomFor}
 use Rattle.plans.specs.Figures.{readFigure, writeFigure}
 use Rattle.plans.specs.Writing.{put}
 use Rattle.arbiter.specs.declared.Reply.{Reply}
@@ -41,6 +39,7 @@ unfoldable pub furtherFields : List (List ℕ) → List ℕ
 furtherFields [] = 10 ∷ []
 furtherFields (field ∷ later) = 32 ∷ field ++ furtherFields later
 
+-- A line from its first field and the further ones.
 abbrev pub line : List ℕ → List (List ℕ) → List ℕ
 line field later = field ++ furtherFields later
 
@@ -76,12 +75,14 @@ callLine (Call.Complete p t) reply = line (decimal t) ((99 ∷ []) ∷ decimal p
 -- The bytes of a line go into a lent buffer from a position. 16, "room": fewer bytes from the position than the line needs,
 -- or the position past the end.
 abbrev pub lineFault : List ℕ → ℕ → ℕ → Verdict
-lineFault bytes size at = due (leb at size && leb (length bytes) (size - at)) Refusal.Room
+lineFault bytes size at = roomFor (length bytes) size at
 
+-- The size of a line that has room; "a refusal gives its number only".
 abbrev pub answerBy : Verdict → List ℕ → LineAnswer
 answerBy Verdict.Accepted bytes = LineAnswer.Bytes (length bytes)
 answerBy (Verdict.Refused r) bytes = LineAnswer.Refused r
 
+-- A refusal writes nothing.
 abbrev pub bufferBy : Verdict → List ℕ → List ℕ → ℕ → List ℕ
 bufferBy Verdict.Accepted bytes buffer at = put buffer at bytes
 bufferBy (Verdict.Refused r) bytes buffer at = buffer

@@ -13,6 +13,7 @@ use Rattle.logs.specs.declared.Call.{Call}
 use Rattle.logs.specs.declared.CountAnswer.{CountAnswer}
 use Rattle.logs.specs.declared.RecordAnswer.{RecordAnswer}
 
+-- "A refusal gives its number only."
 abbrev pub countBy : Verdict → ℕ → CountAnswer
 countBy Verdict.Accepted n = CountAnswer.Calls n
 countBy (Verdict.Refused r) n = CountAnswer.Refused r
@@ -39,10 +40,12 @@ verbFault s = due (eqb (verbOf s) 0 || (eqb (verbOf s) 1 && eqb (entryOf s) 0)) 
 unfoldable pub recordFault : List ℕ → Verdict
 recordFault s = firstOf (enough 8 s) (verbFault s)
 
+-- The call of a record that is not refused: "verb (0 issue, 1 complete)".
 unfoldable pub callOf : List ℕ → Call
 callOf s =
     cond (eqb (verbOf s) 0) (Call.Issue (getD s 1 0) (entryOf s) (tickOf s)) (Call.Complete (getD s 1 0) (tickOf s))
 
+-- "A refusal gives its number only."
 abbrev pub recordBy : Verdict → Call → RecordAnswer
 recordBy Verdict.Accepted c = RecordAnswer.Is c
 recordBy (Verdict.Refused r) c = RecordAnswer.Refused r

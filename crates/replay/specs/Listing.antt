@@ -37,6 +37,7 @@ callsListing b st zero s = verdictLine (tailFault s)
 callsListing b st (suc n) s =
     recordLines (readRecord s) (λ c. callLine c (answer b st c .reply) ++ callsListing b (answer b st c .state) n (drop 8 s))
 
+-- The call count, and its calls; "short" is a line of its own.
 abbrev pub countedListing : CountAnswer → Board → State → List ℕ → List ℕ
 countedListing (CountAnswer.Calls n) b st s = callsListing b st n (drop 2 s)
 countedListing (CountAnswer.Refused r) b st s = refusalLine r
