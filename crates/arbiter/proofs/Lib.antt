@@ -14,3 +14,4 @@ pub mod Bounds
 pub mod Idle
 pub mod CallParts
 pub mod PlanEntries
+pub mod BoardReads

@@ -2,22 +2,51 @@
 use mathlib.Core.Path.{_≡_, refl, sym, ap, _∙_}
 use mathlib.Core.Bool.{Bool, true, false, cond, not, _&&_, and-assoc, and-comm}
 use mathlib.Core.List.{List}
-use Prim.Native.Nat.{ℕ, _^_, _<_}
+use Prim.Native.Nat.{ℕ, _+_, _^_, _≤_, _<_}
 use native.Mathlib.Omega.{arith}
 use lib.Bits.{bitAnd, and-le-r}
 use lib.Dec.{eqb, ltb}
-use lib.ListN.{length, getD, set, length-set}
+use lib.ListN.{length, take, getD, set, length-set}
 use lib.Seq.{getD-set-same, getD-set-other, ext-getD}
 use borrow.Author.Tests.{eqb-true, eqb-false, eq-eqb}
+use borrow.Author.Needs.{read-above}
 use Rattle.masks.specs.Sets.{bit, removed, some, maskOf}
 use Rattle.masks.proofs.Places.{bit-and, bit-removed-if, and-below}
 use Rattle.masks.proofs.Masks.{is-mask}
 use Rattle.masks.proofs.Some.{some-agree}
 use Rattle.conflicts.specs.Conflict.{tabulate}
-use Rattle.conflicts.proofs.Tabulate.{length-tabulate, getD-tabulate}
+use Rattle.conflicts.proofs.Tabulate.{length-tabulate, getD-tabulate, fill-more, filled-whole}
 use Rattle.arbiter.specs.Parts.{putEarlier, freeRead}
 use Rattle.arbiter.specs.Moves.{rowAt, inRow}
 use Rattle.arbiter.proofs.Walks.{bit-slots}
+
+-- ---- the walk through the sets
+
+-- The first q sets have only the places that are kept, and the others are as they were.
+pub record Keeping (keep : ℕ) (first : List ℕ) (q : ℕ) (out : List ℕ) : Type 0 where
+  pub within : q ≤ 16
+  pub full : length out ≡ 16
+  pub kept : take q out ≡ tabulate q (λ k. bitAnd (getD first k 0) keep)
+  pub rest : (k : ℕ) → q ≤ k → getD out k 0 ≡ getD first k 0
+
+pub keeping-first : (keep : ℕ) (first : List ℕ) → length first ≡ 16 → Keeping keep first 0 first
+unfolding tabulate
+keeping-first keep first full = record { within = omega arith; full = full; kept = refl; rest = λ k l. refl }
+
+pub keeping-more : (keep : ℕ) (first : List ℕ) (q : ℕ) (out : List ℕ) → q < 16 → Keeping keep first q out
+    → Keeping keep first (q + 1) (set out q (bitAnd (getD out q 0) keep))
+keeping-more keep first q out l h =
+    record {
+      within = omega arith;
+      full = length-set out q _ ∙ h .full;
+      kept = fill-more out q _ _ (omega (arith, h .full)) (h .kept) (ap (λ (x : ℕ). bitAnd x keep) (h .rest q (omega arith)));
+      rest = λ k m. read-above ℕ out q k _ 0 _ (omega arith) (h .rest k (omega arith));
+    }
+
+pub keeping-last : (keep : ℕ) (first out : List ℕ) → Keeping keep first 16 out → out ≡ tabulate 16 (λ k. bitAnd (getD first k 0) keep)
+keeping-last keep first out h = filled-whole out 16 _ (h .full) (h .kept)
+
+-- ---- the new request's place
 
 -- Every place but p.
 abbrev pub allBut : ℕ → ℕ

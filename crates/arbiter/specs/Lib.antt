@@ -4,3 +4,4 @@ pub mod Phases
 pub mod Moves
 pub mod Calls
 pub mod Parts
+pub mod InPlace

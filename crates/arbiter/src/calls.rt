@@ -1,9 +1,8 @@
-// Issue and complete: document 01, "Grants" and "Refused", 10 to 15.
-use crate::Answered;
-use crate::Board;
+// Issue and complete on the arrays of a state, in place: document 01, "Grants" and "Refused", 10 to 15.
+use crate::Changed;
 use crate::Phases;
 use crate::Reply;
-use crate::State;
+use crate::Terms;
 use crate::settling::ALL;
 use crate::settling::SLOTS;
 use crate::settling::entries_below;
@@ -20,16 +19,18 @@ use plans::Verdict;
 use refusals::Refusal;
 ghost use mathlib.Core.Path.{_≡_};
 ghost use mathlib.Core.Bool.{cond, _&&_};
-ghost use Prim.Native.Nat.{_-_, _^_, _<_};
+ghost use mathlib.Core.List.{List, []};
+ghost use Prim.Native.Nat.{ℕ, _-_, _^_, _<_};
 ghost use lib.Bits.{bitAnd};
 ghost use lib.Dec.{leb, ltb};
-ghost use lib.ListN.{getD};
+ghost use lib.ListN.{getD, length};
 ghost use Rattle.masks.specs.Sets.{maskOf};
 ghost use Rattle.conflicts.specs.Conflict.{tabulate};
-ghost use Rattle.arbiter.specs.Requests.{slots, cleaned};
-ghost use Rattle.arbiter.specs.Phases.{phasesOf, settledPhases};
+ghost use Rattle.arbiter.specs.Requests.{slots};
+ghost use Rattle.arbiter.specs.Phases.{settledPhases};
 ghost use Rattle.arbiter.specs.Parts.{stateOf, countedBy, cleanedPhases, issueFaultBy, completeFaultBy, putEarlier, admittedPhases, takenPhases, freeRead, stampedSince, refusalOf};
 ghost use Rattle.arbiter.specs.Calls.{done, issued, completed};
+ghost use Rattle.arbiter.specs.InPlace.{boardBy, answeredBy};
 
 // "Above 1,099,511,627,775."
 const LAST_TICK: u64 = 1099511627775;
@@ -46,7 +47,7 @@ fn first_of(processors: u8) -> u32
 
 // The phases of the requests that count, each in one of them at most: "a request whose entry or processor is outside
 // the plan [is] taken as none".
-fn clean(processors: u8, count: u8, entry: [u8; 16], phases: Phases) -> Phases
+pub fn clean(processors: u8, count: u8, entry: [u8; 16], phases: Phases) -> Phases
     ensures { λ r. ⌜ r ≡ cleanedPhases processors count entry phases ⌝ }
 {
     let counted = first_of(processors) & entries_below(count, entry);
@@ -55,19 +56,6 @@ fn clean(processors: u8, count: u8, entry: [u8; 16], phases: Phases) -> Phases
         entitled: counted & without32(phases.entitled, phases.holding),
         holding: counted & phases.holding,
     }
-}
-
-// The phases of the requests that count: who waits, who is entitled and who holds.
-pub fn phases_of(board: Board, state: State) -> Phases
-    ensures { λ r. ⌜ r ≡ phasesOf (cleaned board state) ⌝ }
-{
-    let entry = state.entry;
-    let given = Phases {
-        waiting: state.waiting,
-        entitled: state.entitled,
-        holding: state.holding,
-    };
-    clean(board.processors, board.count, entry, given)
 }
 
 // ---- refusals
@@ -142,26 +130,24 @@ fn complete_fault(
 // ---- putting in and taking out
 
 // Each set with just the places that are kept.
-fn keep_each(sets: [u32; 16], keep: u32) -> [u32; 16]
-    ensures { λ r. ⌜ r ≡ tabulate slots (λ q. bitAnd (getD sets q 0) keep) ⌝ }
+fn keep_each(sets: &mut [u32; 16], keep: u32)
+    requires { ⌜ length (now sets) ≡ 16 ⌝ }
+    ensures { λ r. ⌜ now (sets .exit) ≡ tabulate slots (λ q. bitAnd (getD (now (sets .entry)) q 0) keep) ⌝ }
 {
-    let mut out = [0; 16];
     let mut q: usize = 0;
     while q < 16 {
-        out[q] = sets[q] & keep;
+        sets[q] = sets[q] & keep;
         q += 1;
     }
-    out
 }
 
 // All that are active are earlier than the processor's new request, and it is earlier than none.
-fn put_earlier(earlier: [u32; 16], processor: u8, active: u32) -> [u32; 16]
-    requires { ⌜ processor < 16 ⌝ }
-    ensures { λ r. ⌜ r ≡ putEarlier earlier processor active ⌝ }
+fn put_earlier(earlier: &mut [u32; 16], processor: u8, active: u32)
+    requires { ⌜ (processor < 16) × (length (now earlier) ≡ 16) ⌝ }
+    ensures { λ r. ⌜ now (earlier .exit) ≡ putEarlier (now (earlier .entry)) processor active ⌝ }
 {
-    let mut out = keep_each(earlier, remove32(ALL, processor as u32));
-    out[processor as usize] = active;
-    out
+    keep_each(earlier, remove32(ALL, processor as u32));
+    earlier[processor as usize] = active;
 }
 
 // The processor's request is a read and conflicts with no write of the others.
@@ -229,59 +215,50 @@ fn length_at(lengths: &[u16], entry: u32) -> u16
 }
 
 // The ticks with this one for the processors in the mask.
-fn stamp(since: [u64; 16], among: u32, tick: u64) -> [u64; 16]
-    ensures { λ r. ⌜ r ≡ stampedSince since among tick ⌝ }
+fn stamp(since: &mut [u64; 16], among: u32, tick: u64)
+    requires { ⌜ length (now since) ≡ 16 ⌝ }
+    ensures { λ r. ⌜ now (since .exit) ≡ stampedSince (now (since .entry)) among tick ⌝ }
 {
-    let mut out = since;
     let mut left = among & ALL;
     while left != 0 {
-        out[u32::trailing_zeros(left) as usize] = tick;
+        since[u32::trailing_zeros(left) as usize] = tick;
         left = left & (left - 1);
     }
-    out
 }
 
-// The two masks, late, and the state after. Those that began to hold have this tick, and so has the new request.
+// The two masks, late, and the phases after. Those that began to hold have this tick, and so has the new request.
 fn answer(
     before: Phases,
     after: Phases,
     tick: u64,
     new: u32,
-    entry: [u8; 16],
-    since: [u64; 16],
-    earlier: [u32; 16],
+    since: &mut [u64; 16],
     late: u8,
-) -> Answered
-    requires { ⌜ (before .entitled < 2 ^ 16) × (before .holding < 2 ^ 16) × (after .entitled < 2 ^ 16) × (after .holding < 2 ^ 16) ⌝ }
-    ensures { λ r. ⌜ r ≡ done (stateOf tick before entry since earlier) (stateOf tick after entry (stampedSince since new tick) earlier) late ⌝ }
+) -> Changed
+    requires { ⌜ (before .entitled < 2 ^ 16) × (before .holding < 2 ^ 16) × (after .entitled < 2 ^ 16) × (after .holding < 2 ^ 16) × (length (now since) ≡ 16) ⌝ }
+    ensures { λ r. ⌜ ((entry : List ℕ) (earlier : List ℕ) → answeredBy r entry (now (since .exit)) earlier ≡ done (stateOf tick before entry (now (since .entry)) earlier) (stateOf tick after entry (stampedSince (now (since .entry)) new tick) earlier) late) ⌝ }
 {
     let granted = without32(after.holding, before.holding);
-    let stamps = stamp(since, granted | new, tick);
-    Answered {
+    stamp(since, granted | new, tick);
+    Changed {
         reply: Reply::Done {
             granted: granted,
             entitled: without32(after.entitled, before.entitled),
             late: late,
         },
-        state: State {
-            last: tick,
-            waiting: after.waiting,
-            entitled: after.entitled,
-            holding: after.holding,
-            entry: entry,
-            since: stamps,
-            earlier: earlier,
-        },
+        last: tick,
+        phases: after,
     }
 }
 
 // "A refusal gives its number only", and the state is the one given.
-fn refuse(refusal: Refusal, state: State) -> Answered
-    ensures { λ r. ⌜ r ≡ refusalOf refusal state ⌝ }
+fn refuse(refusal: Refusal, last: u64, phases: Phases) -> Changed
+    ensures { λ r. ⌜ ((entry : List ℕ) (since : List ℕ) (earlier : List ℕ) → answeredBy r entry since earlier ≡ refusalOf refusal (stateOf last phases entry since earlier)) ⌝ }
 {
-    Answered {
+    Changed {
         reply: Reply::Refused(refusal),
-        state: state,
+        last: last,
+        phases: phases,
     }
 }
 
@@ -297,82 +274,103 @@ fn hold_alone(processor: u8) -> Phases
     }
 }
 
-// Processor asks for an entry at a tick. Refused by 10, 11, 12, 13, in that order.
-pub fn issue(board: Board, state: State, processor: u8, entry: u8, tick: u64) -> Answered
-    ensures { λ r. ⌜ r ≡ issued board state processor entry tick ⌝ }
+// What the types of two lent arrays say, for the proofs. Compiled, there is nothing left of them.
+fn sixteen_ticks(since: [u64; 16])
+    ensures { λ r. ⌜ length since ≡ 16 ⌝ }
+{}
+
+fn sixteen_sets(earlier: [u32; 16])
+    ensures { λ r. ⌜ length earlier ≡ 16 ⌝ }
+{}
+
+// Processor asks for an entry at a tick. Refused by 10, 11, 12, 13, in that order. What it returns and what it leaves in
+// the three arrays are the answer of `issue`.
+pub fn issue_in_place(
+    terms: Terms,
+    rows: &[u64; 64],
+    last: u64,
+    given: Phases,
+    entries: &mut [u8; 16],
+    since: &mut [u64; 16],
+    earlier: &mut [u32; 16],
+    processor: u8,
+    entry: u8,
+    tick: u64,
+) -> Changed
+    ensures { λ r. ⌜ answeredBy r (now (entries .exit)) (now (since .exit)) (now (earlier .exit)) ≡ issued (boardBy terms (now (rows .entry)) []) (stateOf last given (now (entries .entry)) (now (since .entry)) (now (earlier .entry))) processor entry tick ⌝ }
 {
-    let mut entries = state.entry;
-    let since = state.since;
-    let earlier = state.earlier;
-    let last = state.last;
-    let processors = board.processors;
-    let count = board.count;
-    let given = Phases {
-        waiting: state.waiting,
-        entitled: state.entitled,
-        holding: state.holding,
-    };
-    let before = clean(processors, count, entries, given);
+    sixteen_ticks(*since);
+    sixteen_sets(*earlier);
+    let processors = terms.processors;
+    let count = terms.count;
+    let before = clean(processors, count, *entries, given);
     let ahead = before.entitled | before.holding;
     let active = before.waiting | ahead;
     let verdict = issue_fault(last, processors, count, active, processor, entry, tick);
     match verdict {
         Verdict::Accepted => {}
-        Verdict::Refused(fault) => return refuse(fault, state),
+        Verdict::Refused(fault) => return refuse(fault, last, given),
     }
     entries[processor as usize] = entry;
-    let line = put_earlier(earlier, processor, active);
+    put_earlier(earlier, processor, active);
     let p = processor as u32;
     if active == 0 {
         let alone = hold_alone(processor);
-        return answer(before, alone, tick, 1 << p, entries, since, line, 0);
+        return answer(before, alone, tick, 1 << p, since, 0);
     }
-    let rows = board.rows;
-    let writes = board.writes;
-    let at_once = is_free_read(&rows, writes, &entries, ahead, p);
+    let writes = terms.writes;
+    let at_once = is_free_read(rows, writes, entries, ahead, p);
     let ready = admit(before, processor, at_once);
-    let after = settle(&rows, writes, entries, line, ready);
-    answer(before, after, tick, 1 << p, entries, since, line, 0)
+    let after = settle(rows, writes, entries, earlier, ready);
+    answer(before, after, tick, 1 << p, since, 0)
 }
 
-// Settles what a completion leaves. Where nobody is unsatisfied the rows are not copied to be lent.
-fn settle_rest(board: Board, entry: [u8; 16], earlier: [u32; 16], phases: Phases) -> Phases
+// Settles what a completion leaves. Where nobody is unsatisfied there is no call to make.
+fn settle_rest(
+    rows: &[u64; 64],
+    writes: u64,
+    entry: &[u8; 16],
+    earlier: &[u32; 16],
+    phases: Phases,
+) -> Phases
     requires { ⌜ (phases .waiting < 2 ^ 16) × (phases .entitled < 2 ^ 16) × (phases .holding < 2 ^ 16) ⌝ }
-    ensures { λ r. ⌜ r ≡ settledPhases (board .rows) (board .writes) entry earlier phases ⌝ }
+    ensures { λ r. ⌜ r ≡ settledPhases (now (rows .entry)) writes (now (entry .entry)) (now (earlier .entry)) phases ⌝ }
 {
     if phases.waiting | phases.entitled == 0 {
         return phases;
     }
-    let rows = board.rows;
-    settle(&rows, board.writes, entry, earlier, phases)
+    settle(rows, writes, entry, earlier, phases)
 }
 
-// Processor gives its request back at a tick. Refused by 10, 11, 14, 15, in that order.
-pub fn complete(board: Board, state: State, processor: u8, tick: u64) -> Answered
-    ensures { λ r. ⌜ r ≡ completed board state processor tick ⌝ }
+// Processor gives its request back at a tick. Refused by 10, 11, 14, 15, in that order. What it returns and what it leaves
+// in the ticks are the answer of `complete`.
+pub fn complete_in_place(
+    terms: Terms,
+    rows: &[u64; 64],
+    lengths: &[u16; 64],
+    last: u64,
+    given: Phases,
+    entries: &[u8; 16],
+    since: &mut [u64; 16],
+    earlier: &[u32; 16],
+    processor: u8,
+    tick: u64,
+) -> Changed
+    ensures { λ r. ⌜ answeredBy r (now (entries .entry)) (now (since .exit)) (now (earlier .entry)) ≡ completed (boardBy terms (now (rows .entry)) (now (lengths .entry))) (stateOf last given (now (entries .entry)) (now (since .entry)) (now (earlier .entry))) processor tick ⌝ }
 {
-    let entry = state.entry;
-    let since = state.since;
-    let earlier = state.earlier;
-    let last = state.last;
-    let processors = board.processors;
-    let given = Phases {
-        waiting: state.waiting,
-        entitled: state.entitled,
-        holding: state.holding,
-    };
-    let before = clean(processors, board.count, entry, given);
+    sixteen_ticks(*since);
+    let processors = terms.processors;
+    let before = clean(processors, terms.count, *entries, given);
     let unsatisfied = before.waiting | before.entitled;
     let active = unsatisfied | before.holding;
     let verdict = complete_fault(last, processors, active, unsatisfied, processor, tick);
     match verdict {
         Verdict::Accepted => {}
-        Verdict::Refused(refusal) => return refuse(refusal, state),
+        Verdict::Refused(refusal) => return refuse(refusal, last, given),
     }
-    let lengths = board.lengths;
-    let length = length_at(&lengths, entry_at(&entry, processor as u32));
+    let length = length_at(lengths, entry_at(entries, processor as u32));
     let late = late_mark(length, ticks_between(since[processor as usize], tick));
     let ready = take_out(before, processor);
-    let after = settle_rest(board, entry, earlier, ready);
-    answer(before, after, tick, 0, entry, since, earlier, late)
+    let after = settle_rest(rows, terms.writes, entries, earlier, ready);
+    answer(before, after, tick, 0, since, late)
 }

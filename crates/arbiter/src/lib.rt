@@ -1,13 +1,18 @@
 // The arbiter: a board made once from an accepted plan, and a state that goes in by value and comes back.
 // Every core's issue and completion goes through `issue` and `complete`; the answer says who began to hold.
+// `issue_in_place` and `complete_in_place` are the same calls on the arrays of a state that the caller lends: no copies.
 mod boards;
+mod by_value;
 mod calls;
 mod settling;
 
 pub use boards::fresh_of;
-pub use calls::complete;
-pub use calls::issue;
-pub use calls::phases_of;
+pub use by_value::complete;
+pub use by_value::issue;
+pub use by_value::phases_of;
+pub use by_value::terms_of;
+pub use calls::complete_in_place;
+pub use calls::issue_in_place;
 use plans::Verdict;
 use refusals::Refusal;
 
@@ -61,4 +66,18 @@ pub struct Phases {
     pub waiting: u32,
     pub entitled: u32,
     pub holding: u32,
+}
+
+// What a call in place goes by, beside the conflict rows and the lengths: the counts, and which entries are writes.
+pub struct Terms {
+    pub processors: u8,
+    pub count: u8,
+    pub writes: u64,
+}
+
+// What a call in place returns: the reply, and the last accepted tick and the phases after it.
+pub struct Changed {
+    pub reply: Reply,
+    pub last: u64,
+    pub phases: Phases,
 }

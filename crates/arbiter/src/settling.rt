@@ -145,13 +145,7 @@ pub fn in_row(row: u64, entry: &[u8], among: u32) -> bool
 }
 
 // The candidates whose requests conflict with that of no earlier one of the others.
-fn first_in_line<'a>(
-    rows: &[u64],
-    entry: &'a [u8],
-    earlier: &'a [u32],
-    candidates: u32,
-    others: u32,
-) -> u32
+fn first_in_line(rows: &[u64], entry: &[u8], earlier: &[u32], candidates: u32, others: u32) -> u32
     ensures { λ r. ⌜ r ≡ firstInLine (now (rows .entry)) (now (entry .entry)) (now (earlier .entry)) candidates others ⌝ }
 {
     let mut out: u32 = 0;
@@ -172,14 +166,14 @@ fn first_in_line<'a>(
 // The phases after the four steps. Each step goes by the masks that the one before it left, and w is the active
 // processors whose requests are writes. Where nobody is unsatisfied there is nothing to settle.
 pub fn settle(
-    rows: &[u64],
+    rows: &[u64; 64],
     writes: u64,
-    entry: [u8; 16],
-    earlier: [u32; 16],
+    entry: &[u8; 16],
+    earlier: &[u32; 16],
     phases: Phases,
 ) -> Phases
     requires { ⌜ (phases .waiting < 2 ^ slots) × (phases .entitled < 2 ^ slots) × (phases .holding < 2 ^ slots) ⌝ }
-    ensures { λ r. ⌜ r ≡ settledPhases (now (rows .entry)) writes entry earlier phases ⌝ }
+    ensures { λ r. ⌜ r ≡ settledPhases (now (rows .entry)) writes (now (entry .entry)) (now (earlier .entry)) phases ⌝ }
 {
     let waiting = phases.waiting;
     let entitled = phases.entitled;
@@ -187,28 +181,28 @@ pub fn settle(
     if waiting | entitled == 0 {
         return phases;
     }
-    let w = entries_below(64, entry) & write_places(&entry, writes, waiting | entitled | holding);
+    let w = entries_below(64, *entry) & write_places(entry, writes, waiting | entitled | holding);
 
     // 1. Entitled reads with no conflicting holding write hold.
-    let reads = unopposed(rows, &entry, entitled & !w, holding & w);
+    let reads = unopposed(rows, entry, entitled & !w, holding & w);
     let entitled = entitled & !reads;
     let holding = holding | reads;
 
     // 2. A waiting write becomes entitled if no conflicting write holds, no conflicting read is entitled, and no earlier
     // conflicting write is unsatisfied.
-    let clear = unopposed(rows, &entry, waiting & w, (holding & w) | (entitled & !w));
-    let next = first_in_line(rows, &entry, &earlier, clear, (waiting | entitled) & w);
+    let clear = unopposed(rows, entry, waiting & w, (holding & w) | (entitled & !w));
+    let next = first_in_line(rows, entry, earlier, clear, (waiting | entitled) & w);
     let waiting = waiting & !next;
     let entitled = entitled | next;
 
     // 3. Entitled writes with no conflicting holding read hold.
-    let granted = unopposed(rows, &entry, entitled & w, holding & !w);
+    let granted = unopposed(rows, entry, entitled & w, holding & !w);
     let entitled = entitled & !granted;
     let holding = holding | granted;
 
     // 4. A waiting read becomes entitled if a conflicting write holds and none that conflicts is entitled.
-    let free = unopposed(rows, &entry, waiting & !w, holding & w);
-    let behind = unopposed(rows, &entry, waiting & !w & !free, entitled & w);
+    let free = unopposed(rows, entry, waiting & !w, holding & w);
+    let behind = unopposed(rows, entry, waiting & !w & !free, entitled & w);
     Phases {
         waiting: waiting & !behind,
         entitled: entitled | behind,

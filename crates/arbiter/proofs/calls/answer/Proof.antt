@@ -14,10 +14,10 @@ without32-requires-2 : tie.Need-without32-requires-2
 without32-requires-2 c κs = search needs
 
 returns : tie.Need-returns
-returns c =
-    let p = c .before .before .before .pre in
+returns c entry earlier =
+    let p = c .before .before .before .before .pre in
     answer-done _ _ _ _ _ _ _ _ _ _ _ (p .0) (p .1) (p .2) (p .3)
-    (c .before .before .without32 .ensures) (c .without322 .ensures) (c .before .stamp .ensures)
+    (c .before .before .before .without32 .ensures) (c .without322 .ensures) (c .before .stamp .ensures)
 
 pub answer-spec : {M : Type 1} → statement M
 answer-spec = tie.close (tie.spec without32-requires stamp-requires without32-requires-2 returns)

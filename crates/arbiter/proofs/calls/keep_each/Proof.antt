@@ -1,37 +1,32 @@
--- `keep_each` meets its contract. The loop's invariant: the first q places are filled.
--- The measure is how many are left. Assumes nothing.
-use Prim.Native.Nat.{_≤_, _-_}
+-- `keep_each` meets its contract, by the walk through the sets. The measure is how many are left. Assumes nothing.
+use Prim.Native.Nat.{_-_}
 use native.Mathlib.Omega.{arith}
-use mathlib.Core.Path.{_≡_, refl}
-use lib.Bits.{bitAnd}
-use lib.ListN.{length, take, getD, length-set}
+use mathlib.Core.Path.{_≡_}
 use borrow.Author.Needs.{needs}
-use Rattle.conflicts.specs.Conflict.{tabulate}
-use Rattle.conflicts.proofs.Tabulate.{fill-more, filled-whole}
+use Rattle.arbiter.proofs.Newcomers.{Keeping, keeping-first, keeping-more, keeping-last}
 use Rattle.arbiter.proofs.calls.keep_each.Statement.{statement}
 use Rattle.arbiter.proofs.calls.keep_each.Tie as tie
 
 abbrev Inv-loop : tie.InvT-loop
-Inv-loop keep sets out₀ q₀ out q = (q ≤ 16) × (length out ≡ 16) × (take q out ≡ tabulate q (λ q. bitAnd (getD sets q 0) keep))
+Inv-loop sets₀ keep q₀ sets q = Keeping keep sets₀ q sets
 
 abbrev μ-loop : tie.MeasureT-loop
-μ-loop keep sets out₀ q₀ out q = 16 - q
+μ-loop sets₀ keep q₀ sets q = 16 - q
 
 loop-holds : tie.Need-loop-holds Inv-loop μ-loop
-unfolding tabulate
-loop-holds c = (omega arith, refl, refl)
+loop-holds c = keeping-first _ _ (c .pre)
 
-mul-out : tie.Need-mul-out Inv-loop μ-loop
-mul-out c = search needs
+mul-sets : tie.Need-mul-sets Inv-loop μ-loop
+mul-sets c = search needs
 
-array-read-out : tie.Need-array-read-out Inv-loop μ-loop
-array-read-out c = search needs
+element-copy-out-sets : tie.Need-element-copy-out-sets Inv-loop μ-loop
+element-copy-out-sets c = search needs
 
-mul-out-2 : tie.Need-mul-out-2 Inv-loop μ-loop
-mul-out-2 c = search needs
+mul-sets-2 : tie.Need-mul-sets-2 Inv-loop μ-loop
+mul-sets-2 c = search needs
 
-array-write-out : tie.Need-array-write-out Inv-loop μ-loop
-array-write-out c = search needs
+element-write-sets : tie.Need-element-write-sets Inv-loop μ-loop
+element-write-sets c = search needs
 
 add-q : tie.Need-add-q Inv-loop μ-loop
 add-q c = search needs
@@ -40,16 +35,12 @@ loop-less : tie.Need-loop-less Inv-loop μ-loop
 loop-less c = search needs
 
 loop-again : tie.Need-loop-again Inv-loop μ-loop
-loop-again c = (
-  omega arith,
-  simp length-set (c .before .loop .inv .1),
-  fill-more _ _ _ _ (omega arith) (c .before .loop .inv .2) refl,
-)
+loop-again c = keeping-more _ _ _ _ (c .before .loop-test .taken) (c .before .before .loop .inv)
 
 returns : tie.Need-returns Inv-loop μ-loop
 returns c =
-    let last : c .before .loop .q ≡ 16 = omega arith in
-    filled-whole _ 16 _ (c .before .loop .inv .1) (rw last at (c .before .loop .inv .2))
+    let last : c .before .loop .q ≡ 16 = omega (arith, c .before .loop .inv .within) in
+    keeping-last _ _ _ (rw last at (c .before .loop .inv))
 
 pub keep-each-spec : {M : Type 1} → statement M
 keep-each-spec =
@@ -58,10 +49,10 @@ keep-each-spec =
     Inv-loop
     μ-loop
     loop-holds
-    mul-out
-    array-read-out
-    mul-out-2
-    array-write-out
+    mul-sets
+    element-copy-out-sets
+    mul-sets-2
+    element-write-sets
     add-q
     loop-less
     loop-again

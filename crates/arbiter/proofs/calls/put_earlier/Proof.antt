@@ -8,17 +8,18 @@ remove32-requires : tie.Need-remove32-requires
 remove32-requires c κs = search needs
 
 keep-each-requires : tie.Need-keep-each-requires
-keep-each-requires c κs = search needs
+keep-each-requires c κs = c .before .before .pre .1
 
-mul-out : tie.Need-mul-out
-mul-out c = search needs
+mul-earlier : tie.Need-mul-earlier
+mul-earlier c = search needs
 
-array-write-out : tie.Need-array-write-out
-array-write-out c = search needs
+element-write-earlier : tie.Need-element-write-earlier
+element-write-earlier c = search needs
 
 returns : tie.Need-returns
-returns c = earlier-put _ _ _ _ _ (c .before .before .pre) (c .before .remove32 .ensures) (c .keep-each .ensures)
+returns c =
+    earlier-put _ _ _ _ _ (c .before .before .before .pre .0) (c .before .remove32 .ensures) (c .keep-each .ensures)
 
 pub put-earlier-spec : {M : Type 1} → statement M
 put-earlier-spec =
-    tie.close (tie.spec remove32-requires keep-each-requires mul-out array-write-out returns)
+    tie.close (tie.spec remove32-requires keep-each-requires mul-earlier element-write-earlier returns)

@@ -9,9 +9,6 @@ returns c =
     let start = c .before .before in
     quiet _ _ _ _ (start .args .phases) (c .if1 .taken) (start .pre .0) (start .pre .1) (start .pre .2)
 
-slice-aggregate-settle : tie.Need-slice-aggregate-settle
-slice-aggregate-settle c = search needs
-
 settle-requires : tie.Need-settle-requires
 settle-requires c κs = search needs
 
@@ -19,4 +16,4 @@ returns-2 : tie.Need-returns-2
 returns-2 c = search needs
 
 pub settle-rest-spec : {M : Type 1} → statement M
-settle-rest-spec = tie.close (tie.spec returns slice-aggregate-settle settle-requires returns-2)
+settle-rest-spec = tie.close (tie.spec returns settle-requires returns-2)

@@ -8,22 +8,22 @@ use Rattle.arbiter.proofs.calls.stamp.Statement.{statement}
 use Rattle.arbiter.proofs.calls.stamp.Tie as tie
 
 abbrev Inv-loop : tie.InvT-loop
-Inv-loop among tick out₀ left₀ out left = Stamping tick among out₀ left out
+Inv-loop since₀ among tick left₀ since left = Stamping tick among since₀ left since
 
 abbrev μ-loop : tie.MeasureT-loop
-μ-loop among tick out₀ left₀ out left = left
+μ-loop since₀ among tick left₀ since left = left
 
 loop-holds : tie.Need-loop-holds Inv-loop μ-loop
-loop-holds c = stamping-first _ _ _ (search needs)
+loop-holds c = stamping-first _ _ _ (c .pre)
 
-cast-out : tie.Need-cast-out Inv-loop μ-loop
-cast-out c = omega (arith, lowest-slot (c .before .loop .left) (omega arith) (c .before .loop .inv .rest))
+cast-since : tie.Need-cast-since Inv-loop μ-loop
+cast-since c = omega (arith, lowest-slot (c .before .loop .left) (omega arith) (c .before .loop .inv .rest))
 
-mul-out : tie.Need-mul-out Inv-loop μ-loop
-mul-out c = omega (arith, lowest-slot (c .before .loop .left) (omega arith) (c .before .loop .inv .rest))
+mul-since : tie.Need-mul-since Inv-loop μ-loop
+mul-since c = omega (arith, lowest-slot (c .before .loop .left) (omega arith) (c .before .loop .inv .rest))
 
-array-write-out : tie.Need-array-write-out Inv-loop μ-loop
-array-write-out c = omega (arith, lowest-slot (c .before .loop .left) (omega arith) (c .before .loop .inv .rest))
+element-write-since : tie.Need-element-write-since Inv-loop μ-loop
+element-write-since c = omega (arith, lowest-slot (c .before .loop .left) (omega arith) (c .before .loop .inv .rest))
 
 sub-left : tie.Need-sub-left Inv-loop μ-loop
 sub-left c = omega arith
@@ -44,9 +44,9 @@ stamp-spec =
     Inv-loop
     μ-loop
     loop-holds
-    cast-out
-    mul-out
-    array-write-out
+    cast-since
+    mul-since
+    element-write-since
     sub-left
     loop-less
     loop-again

@@ -12,53 +12,29 @@ use Rattle.arbiter.proofs.settling.settle.Tie as tie
 
 returns : tie.Need-returns
 returns c =
-    let start = c .before .before in
+    let start = c .before in
     quiet _ _ _ _ (start .args .phases) (c .if1 .taken) (start .pre .0) (start .pre .1) (start .pre .2)
 
 entries-below-requires : tie.Need-entries-below-requires
 entries-below-requires c κs = search needs
 
-slice-aggregate-write-places : tie.Need-slice-aggregate-write-places
-slice-aggregate-write-places c = search needs
-
 write-places-requires : tie.Need-write-places-requires
 write-places-requires c κs = search needs
-
-slice-aggregate-unopposed : tie.Need-slice-aggregate-unopposed
-slice-aggregate-unopposed c = search needs
 
 unopposed-requires : tie.Need-unopposed-requires
 unopposed-requires c κs = search needs
 
-slice-aggregate-unopposed-2 : tie.Need-slice-aggregate-unopposed-2
-slice-aggregate-unopposed-2 c = search needs
-
 unopposed-requires-2 : tie.Need-unopposed-requires-2
 unopposed-requires-2 c κs = search needs
-
-slice-aggregate-first-in-line : tie.Need-slice-aggregate-first-in-line
-slice-aggregate-first-in-line c = search needs
-
-slice-aggregate-first-in-line-2 : tie.Need-slice-aggregate-first-in-line-2
-slice-aggregate-first-in-line-2 c = search needs
 
 first-in-line-requires : tie.Need-first-in-line-requires
 first-in-line-requires c κs = search needs
 
-slice-aggregate-unopposed-3 : tie.Need-slice-aggregate-unopposed-3
-slice-aggregate-unopposed-3 c = search needs
-
 unopposed-requires-3 : tie.Need-unopposed-requires-3
 unopposed-requires-3 c κs = search needs
 
-slice-aggregate-unopposed-4 : tie.Need-slice-aggregate-unopposed-4
-slice-aggregate-unopposed-4 c = search needs
-
 unopposed-requires-4 : tie.Need-unopposed-requires-4
 unopposed-requires-4 c κs = search needs
-
-slice-aggregate-unopposed-5 : tie.Need-slice-aggregate-unopposed-5
-slice-aggregate-unopposed-5 c = search needs
 
 unopposed-requires-5 : tie.Need-unopposed-requires-5
 unopposed-requires-5 c κs = search needs
@@ -66,26 +42,28 @@ unopposed-requires-5 c κs = search needs
 returns-2 : tie.Need-returns-2
 unfolding step1 step2 step3 step4 settled settledPhases
 returns-2 c =
-    let third = c .before .before .before .before in
-    let second = third .before .before in
-    let first = second .before .before .before .before .before in
-    let places = first .before .before in
+    let fourth = c .before .before .before in
+    let third = fourth .before .before .before in
+    let line = third .before .before .before in
+    let second = line .before .before .before .before in
+    let first = second .before .before .before in
+    let places = first .before .before .before in
     let below = places .before .before in
     let start = below .before .before .before in
     let a = start .args in
     let b = boardWith (a .rows .now) (a .writes) in
-    let s = stateWith (a .t3) (a .t4) (a .phases) in
+    let s = stateWith (a .entry .now) (a .earlier .now) (a .phases) in
     let w =
-    active-writes b s _ (write-mask (a .t3) (a .writes) _ _ _ (omega arith) (below .entries-below .ensures) (places .write-places .ensures)) in
+    active-writes b s _ (write-mask (a .entry .now) (a .writes) _ _ _ (omega arith) (below .entries-below .ensures) (places .write-places .ensures)) in
     let given : Follows s (a .phases .waiting) (a .phases .entitled) (a .phases .holding) =
     record { waiting = own-mask _ (start .pre .0); entitled = own-mask _ (start .pre .1); holding = own-mask _ (start .pre .2) } in
     let w1 = still (active1 b s) w in
     let w2 = still (active2 b (step1 b s)) w1 in
     let w3 = still (active3 b (step2 b (step1 b s))) w2 in
     let one = after1 b s w given (first .unopposed .ensures) in
-    let two = after2 b (step1 b s) w1 one (second .before .before .before .unopposed2 .ensures) (second .first-in-line .ensures) in
+    let two = after2 b (step1 b s) w1 one (second .unopposed2 .ensures) (line .first-in-line .ensures) in
     let three = after3 b (step2 b (step1 b s)) w2 two (third .unopposed3 .ensures) in
-    let four = after4 b (step3 b (step2 b (step1 b s))) w3 three (c .before .before .unopposed4 .ensures) (c .unopposed5 .ensures) in
+    let four = after4 b (step3 b (step2 b (step1 b s))) w3 three (fourth .unopposed4 .ensures) (c .unopposed5 .ensures) in
     follows-settled b s _ four
 
 pub settle-spec : {M : Type 1} → statement M
@@ -94,19 +72,11 @@ settle-spec =
     (tie.spec
     returns
     entries-below-requires
-    slice-aggregate-write-places
     write-places-requires
-    slice-aggregate-unopposed
     unopposed-requires
-    slice-aggregate-unopposed-2
     unopposed-requires-2
-    slice-aggregate-first-in-line
-    slice-aggregate-first-in-line-2
     first-in-line-requires
-    slice-aggregate-unopposed-3
     unopposed-requires-3
-    slice-aggregate-unopposed-4
     unopposed-requires-4
-    slice-aggregate-unopposed-5
     unopposed-requires-5
     returns-2)

@@ -2,8 +2,8 @@
 use borrow.Author.Needs.{needs}
 use Rattle.arbiter.specs.Requests.{isHolding, isEntitled, isWaiting, cleaned}
 use Rattle.arbiter.specs.Parts.{cleanedPhases}
-use Rattle.arbiter.proofs.calls.phases_of.Statement.{statement}
-use Rattle.arbiter.proofs.calls.phases_of.Tie as tie
+use Rattle.arbiter.proofs.by_value.phases_of.Statement.{statement}
+use Rattle.arbiter.proofs.by_value.phases_of.Tie as tie
 
 clean-requires : tie.Need-clean-requires
 clean-requires c κs = search needs
