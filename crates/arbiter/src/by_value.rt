@@ -99,7 +99,7 @@ pub fn complete(board: Board, state: State, processor: u8, tick: u64) -> Answere
         entitled: state.entitled,
         holding: state.holding,
     };
-    let entries = state.entry;
+    let entry = state.entry;
     let mut since = state.since;
     let earlier = state.earlier;
     let changed = complete_in_place(
@@ -108,11 +108,11 @@ pub fn complete(board: Board, state: State, processor: u8, tick: u64) -> Answere
         &lengths,
         state.last,
         given,
-        &entries,
+        &entry,
         &mut since,
         &earlier,
         processor,
         tick,
     );
-    answered(changed, entries, since, earlier)
+    answered(changed, entry, since, earlier)
 }

@@ -1,8 +1,8 @@
-// Accepted calls on a board on which the first so many processors are never idle: each turn completes a holder and issues
-// again at once.
+// Accepted calls, in place, on a board on which the first so many processors are never idle: each turn completes a holder
+// and issues again at once.
 use crate::board::plan;
-use arbiter::Answered;
 use arbiter::Board;
+use arbiter::Phases;
 use arbiter::Reply;
 use arbiter::State;
 ghost use Prim.Native.Nat.{_<_, _≤_};
@@ -51,17 +51,21 @@ fn filled(board: Board, fresh: State, busy: u8) -> State
     state
 }
 
-// The turns, and the checksum of their answers.
+// The turns, and the checksum of their answers. The arrays of the state are lent to each call.
 fn sum_from(board: Board, full: State, turns: u64) -> u64
     requires { ⌜ turns < 1000000000 ⌝ }
 {
-    let mut last = Answered {
-        reply: Reply::Done {
-            granted: 0,
-            entitled: 0,
-            late: 0,
-        },
-        state: full,
+    let terms = arbiter::terms_of(board);
+    let rows = board.rows;
+    let lengths = board.lengths;
+    let mut entries = full.entry;
+    let mut since = full.since;
+    let mut earlier = full.earlier;
+    let mut last = full.last;
+    let mut phases = Phases {
+        waiting: full.waiting,
+        entitled: full.entitled,
+        holding: full.holding,
     };
     let mut seed: u64 = 1;
     let mut sum: u64 = 0;
@@ -69,12 +73,38 @@ fn sum_from(board: Board, full: State, turns: u64) -> u64
     while tick < turns {
         tick += 1;
         seed = next(seed);
-        let p = holder_from(last.state.holding, (seed / 65536 % 16) as u32) as u8;
+        let p = holder_from(phases.holding, (seed / 65536 % 16) as u32) as u8;
         let e = (seed / 1048576 % 64) as u8;
-        let first = arbiter::complete(board, last.state, p, tick);
+        let first = arbiter::complete_in_place(
+            terms,
+            &rows,
+            &lengths,
+            last,
+            phases,
+            &entries,
+            &mut since,
+            &earlier,
+            p,
+            tick,
+        );
+        let left = first.phases;
+        let second = arbiter::issue_in_place(
+            terms,
+            &rows,
+            first.last,
+            left,
+            &mut entries,
+            &mut since,
+            &mut earlier,
+            p,
+            e,
+            tick,
+        );
         let completed = first.reply;
-        last = arbiter::issue(board, first.state, p, e, tick);
-        let issued = last.reply;
+        let issued = second.reply;
+        last = second.last;
+        let settled = second.phases;
+        phases = settled;
         sum = mixed(mixed(sum, completed), issued);
     }
     sum

@@ -1,14 +1,20 @@
 -- `sum_from` is safe and ends. Assumes nothing.
 use Prim.Native.Nat.{_≤_, _-_}
+use native.Mathlib.Omega.{arith}
 use borrow.Author.Needs.{needs}
 use Rattle.library_bench.proofs.calls.sum_from.Statement.{statement}
 use Rattle.library_bench.proofs.calls.sum_from.Tie as tie
 
 abbrev Inv-loop : tie.InvT-loop
-Inv-loop board turns last₀ seed₀ sum₀ tick₀ last seed sum tick = tick ≤ turns
+Inv-loop turns terms rows lengths entries₀ since₀ earlier₀ last₀ phases₀ seed₀ sum₀ tick₀ entries since earlier last phases seed sum tick =
+    tick ≤ turns
 
 abbrev μ-loop : tie.MeasureT-loop
-μ-loop board turns last₀ seed₀ sum₀ tick₀ last seed sum tick = turns - tick
+μ-loop turns terms rows lengths entries₀ since₀ earlier₀ last₀ phases₀ seed₀ sum₀ tick₀ entries since earlier last phases seed sum tick =
+    turns - tick
+
+terms-of-requires : tie.Need-terms-of-requires Inv-loop μ-loop
+terms-of-requires c κs = search needs
 
 loop-holds : tie.Need-loop-holds Inv-loop μ-loop
 loop-holds c = search needs
@@ -31,11 +37,11 @@ cast-p c = search needs
 cast-e : tie.Need-cast-e Inv-loop μ-loop
 cast-e c = search needs
 
-complete-requires : tie.Need-complete-requires Inv-loop μ-loop
-complete-requires c κs = search needs
+complete-in-place-requires : tie.Need-complete-in-place-requires Inv-loop μ-loop
+complete-in-place-requires c κs = search needs
 
-issue-requires : tie.Need-issue-requires Inv-loop μ-loop
-issue-requires c κs = search needs
+issue-in-place-requires : tie.Need-issue-in-place-requires Inv-loop μ-loop
+issue-in-place-requires c κs = search needs
 
 mixed-requires : tie.Need-mixed-requires Inv-loop μ-loop
 mixed-requires c κs = search needs
@@ -44,10 +50,10 @@ mixed-requires-2 : tie.Need-mixed-requires-2 Inv-loop μ-loop
 mixed-requires-2 c κs = search needs
 
 loop-less : tie.Need-loop-less Inv-loop μ-loop
-loop-less c = search needs
+loop-less c = omega (arith, c .before .before .before .before .before .before .before .before .before .before .before .before .before .before .before .before .before .loop-test .taken)
 
 loop-again : tie.Need-loop-again Inv-loop μ-loop
-loop-again c = search needs
+loop-again c = omega (arith, c .before .before .before .before .before .before .before .before .before .before .before .before .before .before .before .before .before .loop-test .taken)
 
 returns : tie.Need-returns Inv-loop μ-loop
 returns c = search needs
@@ -58,6 +64,7 @@ sum-from-spec =
     (tie.spec
     Inv-loop
     μ-loop
+    terms-of-requires
     loop-holds
     add-tick
     next-requires
@@ -65,8 +72,8 @@ sum-from-spec =
     holder-from-requires
     cast-p
     cast-e
-    complete-requires
-    issue-requires
+    complete-in-place-requires
+    issue-in-place-requires
     mixed-requires
     mixed-requires-2
     loop-less
