@@ -21,7 +21,7 @@ ghost use mathlib.Core.Path.{_≡_};
 ghost use mathlib.Core.Bool.{cond, _&&_};
 ghost use mathlib.Core.List.{List, []};
 ghost use Prim.Native.Nat.{ℕ, _-_, _^_, _<_};
-ghost use lib.Bits.{bitAnd};
+ghost use lib.Bits.{bitAnd, bitOr};
 ghost use lib.Dec.{leb, ltb};
 ghost use lib.ListN.{getD, length};
 ghost use Rattle.masks.specs.Sets.{maskOf};
@@ -191,6 +191,62 @@ fn take_out(phases: Phases, processor: u8) -> Phases
     }
 }
 
+// ---- settling
+
+// The phases after the four steps. Where nobody is unsatisfied there is nothing to settle.
+fn settle_if_any(
+    rows: &[u64; 64],
+    writes: u64,
+    entry: &[u8; 16],
+    earlier: &[u32; 16],
+    phases: Phases,
+) -> Phases
+    requires { ⌜ (phases .waiting < 2 ^ 16) × (phases .entitled < 2 ^ 16) × (phases .holding < 2 ^ 16) ⌝ }
+    ensures { λ r. ⌜ r ≡ settledPhases (now (rows .entry)) writes (now (entry .entry)) (now (earlier .entry)) phases ⌝ }
+{
+    if phases.waiting | phases.entitled == 0 {
+        return phases;
+    }
+    settle(rows, writes, entry, earlier, phases)
+}
+
+// The phases of a new request where nobody else is active: it holds, read or write, and no row has to be looked at.
+fn hold_alone(processor: u8) -> Phases
+    requires { ⌜ processor < 16 ⌝ }
+    ensures { λ r. ⌜ r ≡ record { waiting = 0; entitled = 0; holding = 2 ^ processor } ⌝ }
+{
+    Phases {
+        waiting: 0,
+        entitled: 0,
+        holding: add32(0, processor as u32),
+    }
+}
+
+// The phases with the processor's new request put in and settled. On an idle board it holds; a read that holds at once
+// changes nothing for others where nobody is unsatisfied.
+fn settle_new(
+    rows: &[u64; 64],
+    writes: u64,
+    entry: &[u8; 16],
+    earlier: &[u32; 16],
+    before: Phases,
+    processor: u8,
+) -> Phases
+    requires { ⌜ (before .waiting < 2 ^ 16) × (before .entitled < 2 ^ 16) × (before .holding < 2 ^ 16) × (processor < 16) × (getD (now earlier) processor 0 ≡ bitOr (before .waiting) (bitOr (before .entitled) (before .holding))) ⌝ }
+    ensures { λ r. ⌜ r ≡ settledPhases (now (rows .entry)) writes (now (entry .entry)) (now (earlier .entry)) (admittedPhases before processor (freeRead (now (rows .entry)) writes (now (entry .entry)) (bitOr (before .entitled) (before .holding)) processor)) ⌝ }
+{
+    let ahead = before.entitled | before.holding;
+    if before.waiting | ahead == 0 {
+        return hold_alone(processor);
+    }
+    if is_free_read(rows, writes, entry, ahead, processor as u32) {
+        let holds = admit(before, processor, true);
+        return settle_if_any(rows, writes, entry, earlier, holds);
+    }
+    let waits = admit(before, processor, false);
+    settle(rows, writes, entry, earlier, waits)
+}
+
 // ---- the answer
 
 // The ticks from one to the other: "a time that would run backwards [is] taken as 0".
@@ -262,18 +318,6 @@ fn refuse(refusal: Refusal, last: u64, phases: Phases) -> Changed
     }
 }
 
-// The phases of a new request where nobody else is active: it holds, read or write, and no row has to be looked at.
-fn hold_alone(processor: u8) -> Phases
-    requires { ⌜ processor < 16 ⌝ }
-    ensures { λ r. ⌜ r ≡ record { waiting = 0; entitled = 0; holding = 2 ^ processor } ⌝ }
-{
-    Phases {
-        waiting: 0,
-        entitled: 0,
-        holding: add32(0, processor as u32),
-    }
-}
-
 // What the types of two lent arrays say, for the proofs. Compiled, there is nothing left of them.
 fn sixteen_ticks(since: [u64; 16])
     ensures { λ r. ⌜ length since ≡ 16 ⌝ }
@@ -304,8 +348,7 @@ pub fn issue_in_place(
     let processors = terms.processors;
     let count = terms.count;
     let before = clean(processors, count, *entries, given);
-    let ahead = before.entitled | before.holding;
-    let active = before.waiting | ahead;
+    let active = before.waiting | (before.entitled | before.holding);
     let verdict = issue_fault(last, processors, count, active, processor, entry, tick);
     match verdict {
         Verdict::Accepted => {}
@@ -313,33 +356,8 @@ pub fn issue_in_place(
     }
     entries[processor as usize] = entry;
     put_earlier(earlier, processor, active);
-    let p = processor as u32;
-    if active == 0 {
-        let alone = hold_alone(processor);
-        return answer(before, alone, tick, 1 << p, since, 0);
-    }
-    let writes = terms.writes;
-    let at_once = is_free_read(rows, writes, entries, ahead, p);
-    let ready = admit(before, processor, at_once);
-    let after = settle(rows, writes, entries, earlier, ready);
-    answer(before, after, tick, 1 << p, since, 0)
-}
-
-// Settles what a completion leaves. Where nobody is unsatisfied there is no call to make.
-fn settle_rest(
-    rows: &[u64; 64],
-    writes: u64,
-    entry: &[u8; 16],
-    earlier: &[u32; 16],
-    phases: Phases,
-) -> Phases
-    requires { ⌜ (phases .waiting < 2 ^ 16) × (phases .entitled < 2 ^ 16) × (phases .holding < 2 ^ 16) ⌝ }
-    ensures { λ r. ⌜ r ≡ settledPhases (now (rows .entry)) writes (now (entry .entry)) (now (earlier .entry)) phases ⌝ }
-{
-    if phases.waiting | phases.entitled == 0 {
-        return phases;
-    }
-    settle(rows, writes, entry, earlier, phases)
+    let after = settle_new(rows, terms.writes, entries, earlier, before, processor);
+    answer(before, after, tick, 1 << (processor as u32), since, 0)
 }
 
 // Processor gives its request back at a tick. Refused by 10, 11, 14, 15, in that order. What it returns and what it leaves
@@ -371,6 +389,6 @@ pub fn complete_in_place(
     let length = length_at(lengths, entry_at(entries, processor as u32));
     let late = late_mark(length, ticks_between(since[processor as usize], tick));
     let ready = take_out(before, processor);
-    let after = settle_rest(rows, terms.writes, entries, earlier, ready);
+    let after = settle_if_any(rows, terms.writes, entries, earlier, ready);
     answer(before, after, tick, 0, since, late)
 }

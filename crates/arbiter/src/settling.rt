@@ -164,7 +164,7 @@ fn first_in_line(rows: &[u64], entry: &[u8], earlier: &[u32], candidates: u32, o
 }
 
 // The phases after the four steps. Each step goes by the masks that the one before it left, and w is the active
-// processors whose requests are writes. Where nobody is unsatisfied there is nothing to settle.
+// processors whose requests are writes.
 pub fn settle(
     rows: &[u64; 64],
     writes: u64,
@@ -178,9 +178,6 @@ pub fn settle(
     let waiting = phases.waiting;
     let entitled = phases.entitled;
     let holding = phases.holding;
-    if waiting | entitled == 0 {
-        return phases;
-    }
     let w = entries_below(64, *entry) & write_places(entry, writes, waiting | entitled | holding);
 
     // 1. Entitled reads with no conflicting holding write hold.

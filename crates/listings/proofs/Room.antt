@@ -2,30 +2,21 @@
 use Prim.Native.Nat.{ℕ, _+_, _-_, _≤_}
 use native.Mathlib.Omega.{arith}
 use mathlib.Core.Path.{_≡_, refl, ap, _∙_}
-use mathlib.Core.Bool.{Bool, true, false, not, _&&_}
+use mathlib.Core.Bool.{Bool, true, false, not}
 use mathlib.Core.List.{List, _++_, append-assoc}
-use borrow.Author.Tests.{leb-true, le-leb}
+use borrow.Author.Tests.{le-leb}
 use lib.Dec.{leb}
 use lib.ListN.{length, take, drop}
 use lib.Seq.{sets-eq}
 use Rattle.refusals.specs.declared.Refusal.{Refusal}
+use Rattle.plans.specs.Acceptance.{hasRoom}
 use Rattle.plans.proofs.Flags.{passes, fails}
-use Rattle.plans.proofs.Verdicts.{and-left, and-right}
+use Rattle.plans.proofs.Room.{there-is-room}
 use Rattle.listings.specs.Lines.{lineOutcome, lineBuffer}
 use Rattle.listings.specs.Stored.{Stored}
 use Rattle.listings.specs.declared.LineAnswer.{LineAnswer}
 
--- The test of `fits`.
-abbrev pub fitting : ℕ → ℕ → ℕ → Bool
-fitting size at needed = leb at size && leb needed (size - at)
-
-pub there-is-room : (size at needed : ℕ) → fitting size at needed ≡ true → at + needed ≤ size
-there-is-room size at needed test =
-    let reached : at ≤ size = leb-true _ _ (and-left (leb at size) (leb needed (size - at)) test) in
-    let enough : needed ≤ size - at = leb-true _ _ (and-right (leb at size) (leb needed (size - at)) test) in
-    omega arith
-
-module _ (bytes buffer : List ℕ) (at needed : ℕ) (flag : Bool) (size : needed ≡ length bytes) (test : flag ≡ fitting (length buffer) at needed) where
+module _ (bytes buffer : List ℕ) (at needed : ℕ) (flag : Bool) (size : needed ≡ length bytes) (test : flag ≡ hasRoom needed (length buffer) at) where
   pub no-room : not flag ≡ true
       → (LineAnswer.Refused Refusal.Room ≡ lineOutcome bytes (length buffer) at) × (buffer ≡ lineBuffer bytes buffer at)
   unfolding lineOutcome lineBuffer
@@ -35,7 +26,7 @@ module _ (bytes buffer : List ℕ) (at needed : ℕ) (flag : Bool) (size : neede
       → (LineAnswer.Bytes needed ≡ lineOutcome bytes (length buffer) at) × (after ≡ lineBuffer bytes buffer at)
   unfolding lineOutcome lineBuffer
   room next after left s =
-      let most : at + needed ≤ length buffer = there-is-room (length buffer) at needed (passes flag _ test left) in
+      let most : at + needed ≤ length buffer = there-is-room needed (length buffer) at (passes flag _ test left) in
       let within : at + length bytes ≤ length buffer = omega arith in
       let put-in : after ≡ take at buffer ++ (bytes ++ drop (at + length bytes) buffer) =
       s .stores ∙ sets-eq bytes buffer at within ∙ append-assoc (take at buffer) bytes (drop (at + length bytes) buffer) in

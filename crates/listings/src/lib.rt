@@ -4,6 +4,7 @@ use arbiter::Reply;
 use logs::Call;
 use plans::Plan;
 use plans::figures_of;
+use plans::has_room;
 use refusals::Refusal;
 use refusals::number;
 ghost use mathlib.Core.Path.{_≡_};
@@ -211,17 +212,6 @@ fn write_figures(count: u8, read: u32, write: u32, buffer: &mut [u8], at: usize)
     write_last_labelled(b" write", write as u64, buffer, third)
 }
 
-// Whether so many bytes fit into a buffer of that size from position at. Nothing is added to the position: the sum might not fit.
-fn fits(size: usize, at: usize, needed: usize) -> bool
-    ensures is { λ r. ⌜ r ≡ (leb at size && leb needed (size - at)) ⌝ }
-    ensures room { λ r. ⌜ (r ≡ true → at + needed ≤ size) ⌝ }
-{
-    if size < at {
-        return false;
-    }
-    needed <= size - at
-}
-
 // The first line from its numbers.
 fn write_first(
     processors: u8,
@@ -263,7 +253,7 @@ pub fn first_line(plan: Plan, buffer: &mut [u8], at: usize) -> LineAnswer
         figures.read,
         figures.write,
     );
-    if !fits(buffer.len(), at, needed) {
+    if !has_room(needed, buffer.len(), at) {
         return LineAnswer::Refused(Refusal::Room);
     }
     write_first(
@@ -290,7 +280,7 @@ fn parts_line(
     ensures { λ r. ⌜ (r ≡ lineOutcome (partsLine letter processor tick reply) (length (now (buffer .entry))) at) × (now (buffer .exit) ≡ lineBuffer (partsLine letter processor tick reply) (now (buffer .entry)) at) ⌝ }
 {
     let needed = digit_count(tick) + 3 + digit_count(processor as u64) + reply_size(reply);
-    if !fits(buffer.len(), at, needed) {
+    if !has_room(needed, buffer.len(), at) {
         return LineAnswer::Refused(Refusal::Room);
     }
     write_call(letter, processor, tick, reply, buffer, at);
@@ -317,7 +307,7 @@ pub fn refusal_line(refusal: Refusal, buffer: &mut [u8], at: usize) -> LineAnswe
 {
     let n = number(refusal) as u64;
     let needed = 9 + digit_count(n);
-    if !fits(buffer.len(), at, needed) {
+    if !has_room(needed, buffer.len(), at) {
         return LineAnswer::Refused(Refusal::Room);
     }
     write_last_labelled(b"refused", n, buffer, at);

@@ -1,5 +1,6 @@
 pub mod Flags
 pub mod Verdicts
+pub mod Room
 pub mod Counted
 pub mod Entries
 pub mod Longest

@@ -21,8 +21,11 @@ due true r = Verdict.Accepted
 due false r = Verdict.Refused r
 
 -- 16, "room: fewer bytes from the position than" needed, "position past the end", of size bytes and from position at.
+abbrev pub hasRoom : ℕ → ℕ → ℕ → Bool
+hasRoom needed size at = leb at size && leb needed (size - at)
+
 abbrev pub roomFor : ℕ → ℕ → ℕ → Verdict
-roomFor needed size at = due (leb at size && leb needed (size - at)) Refusal.Room
+roomFor needed size at = due (hasRoom needed size at) Refusal.Room
 
 -- The number n is from low to high.
 abbrev pub within : ℕ → ℕ → ℕ → Bool

@@ -5,9 +5,10 @@ use crate::Verdict;
 use masks::below64;
 use refusals::Refusal;
 ghost use mathlib.Core.Path.{_≡_};
-ghost use Prim.Native.Nat.{_≤_};
+ghost use mathlib.Core.Bool.{true};
+ghost use Prim.Native.Nat.{_+_, _≤_};
 ghost use lib.ListN.{take};
-ghost use Rattle.plans.specs.Acceptance.{firstOf, within, roomFor, countsFault, entryFault, entriesFault, planFault};
+ghost use Rattle.plans.specs.Acceptance.{firstOf, within, hasRoom, roomFor, countsFault, entryFault, entriesFault, planFault};
 
 // The earlier of two checks decides.
 pub fn first_of(earlier: Verdict, later: Verdict) -> Verdict
@@ -26,17 +27,27 @@ pub fn is_within(low: u8, high: u8, number: u8) -> bool
     (low <= number) & (number <= high)
 }
 
-// 16, "room". The position can be any number, so nothing is added to it: the sum might not fit.
+// Whether a buffer of that size has so many bytes from a position. The position can be any number, so nothing is added to
+// it: the sum might not fit.
+pub fn has_room(needed: usize, size: usize, at: usize) -> bool
+    ensures is { λ r. ⌜ r ≡ hasRoom needed size at ⌝ }
+    ensures room { λ r. ⌜ (r ≡ true → at + needed ≤ size) ⌝ }
+{
+    if size < at {
+        return false;
+    }
+    needed <= size - at
+}
+
+// 16, "room".
 pub fn check_room(needed: usize, size: usize, at: usize) -> Verdict
     ensures { λ r. ⌜ r ≡ roomFor needed size at ⌝ }
 {
-    if size < at {
-        return Verdict::Refused(Refusal::Room);
+    if has_room(needed, size, at) {
+        Verdict::Accepted
+    } else {
+        Verdict::Refused(Refusal::Room)
     }
-    if size - at < needed {
-        return Verdict::Refused(Refusal::Room);
-    }
-    Verdict::Accepted
 }
 
 // The three counts: 3, 4, 5.

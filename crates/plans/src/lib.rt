@@ -11,6 +11,7 @@ pub use acceptance::check_entry;
 // What other crates' checks are made of.
 pub use acceptance::check_room;
 pub use acceptance::first_of;
+pub use acceptance::has_room;
 pub use acceptance::is_within;
 // How many entries of a plan value count: for loops over them.
 pub use waits::counted_of;

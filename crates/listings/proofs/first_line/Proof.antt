@@ -14,17 +14,17 @@ figures-of-requires c κs = search needs
 first-size-requires : tie.Need-first-size-requires
 first-size-requires c κs = search needs
 
-fits-requires : tie.Need-fits-requires
-fits-requires c κs = search needs
+has-room-requires : tie.Need-has-room-requires
+has-room-requires c κs = search needs
 
 returns : tie.Need-returns
 returns c =
     rw (first-numbers _ _ (c .before .before .before .figures-of .ensures))
-    (no-room _ _ _ _ _ (c .before .before .first-size .ensures .0 ∙ sym (length-numbers _ _ _ _ _)) (c .before .fits2 .ensures .0) (c .if1 .taken))
+    (no-room _ _ _ _ _ (c .before .before .first-size .ensures .0 ∙ sym (length-numbers _ _ _ _ _)) (c .before .has-room .ensures .0) (c .if1 .taken))
 
 write-first-requires : tie.Need-write-first-requires
 write-first-requires c κs =
-    omega (arith, c .before .before .fits2 .ensures .1 (not-false _ (c .before .if1 .left)))
+    omega (arith, c .before .before .has-room .ensures .1 (not-false _ (c .before .if1 .left)))
 
 same-length : tie.Need-same-length
 same-length c = search needs
@@ -32,7 +32,7 @@ same-length c = search needs
 returns-2 : tie.Need-returns-2
 returns-2 c =
     rw (first-numbers _ _ (c .before .before .before .before .before .before .before .figures-of .ensures))
-    (room _ _ _ _ _ (c .before .before .before .before .before .before .first-size .ensures .0 ∙ sym (length-numbers _ _ _ _ _)) (c .before .before .before .before .before .fits2 .ensures .0) _ _ (c .before .before .before .before .if1 .left) (c .before .before .write-first .ensures))
+    (room _ _ _ _ _ (c .before .before .before .before .before .before .first-size .ensures .0 ∙ sym (length-numbers _ _ _ _ _)) (c .before .before .before .before .before .has-room .ensures .0) _ _ (c .before .before .before .before .if1 .left) (c .before .before .write-first .ensures))
 
 pub first-line-spec : {M : Type 1} → statement M
 first-line-spec =
@@ -40,7 +40,7 @@ first-line-spec =
     (tie.spec
     figures-of-requires
     first-size-requires
-    fits-requires
+    has-room-requires
     returns
     write-first-requires
     same-length

@@ -25,23 +25,23 @@ reply-size-requires c κs = search needs
 add-needed-3 : tie.Need-add-needed-3
 add-needed-3 c = search needs
 
-fits-requires : tie.Need-fits-requires
-fits-requires c κs = search needs
+has-room-requires : tie.Need-has-room-requires
+has-room-requires c κs = search needs
 
 returns : tie.Need-returns
 returns c =
-    no-room _ _ _ _ _ (omega (arith, length-parts (c .before .before .before .before .before .before .args .letter) (c .before .before .before .before .before .before .args .processor) (c .before .before .before .before .before .before .args .tick) (c .before .before .before .before .before .before .args .reply))) (c .before .fits2 .ensures .0) (c .if1 .taken)
+    no-room _ _ _ _ _ (omega (arith, length-parts (c .before .before .before .before .before .before .args .letter) (c .before .before .before .before .before .before .args .processor) (c .before .before .before .before .before .before .args .tick) (c .before .before .before .before .before .before .args .reply))) (c .before .has-room .ensures .0) (c .if1 .taken)
 
 write-call-requires : tie.Need-write-call-requires
 write-call-requires c κs =
-    omega (arith, c .before .before .fits2 .ensures .1 (not-false _ (c .before .if1 .left)))
+    omega (arith, c .before .before .has-room .ensures .1 (not-false _ (c .before .if1 .left)))
 
 same-length : tie.Need-same-length
 same-length c = search needs
 
 returns-2 : tie.Need-returns-2
 returns-2 c =
-    room _ _ _ _ _ (omega (arith, length-parts (c .before .before .before .before .before .before .before .before .before .before .args .letter) (c .before .before .before .before .before .before .before .before .before .before .args .processor) (c .before .before .before .before .before .before .before .before .before .before .args .tick) (c .before .before .before .before .before .before .before .before .before .before .args .reply))) (c .before .before .before .before .before .fits2 .ensures .0) _ _ (c .before .before .before .before .if1 .left) (c .before .before .write-call .ensures)
+    room _ _ _ _ _ (omega (arith, length-parts (c .before .before .before .before .before .before .before .before .before .before .args .letter) (c .before .before .before .before .before .before .before .before .before .before .args .processor) (c .before .before .before .before .before .before .before .before .before .before .args .tick) (c .before .before .before .before .before .before .before .before .before .before .args .reply))) (c .before .before .before .before .before .has-room .ensures .0) _ _ (c .before .before .before .before .if1 .left) (c .before .before .write-call .ensures)
 
 pub parts-line-spec : {M : Type 1} → statement M
 parts-line-spec =
@@ -53,7 +53,7 @@ parts-line-spec =
     add-needed-2
     reply-size-requires
     add-needed-3
-    fits-requires
+    has-room-requires
     returns
     write-call-requires
     same-length

@@ -20,19 +20,19 @@ digit-count-requires c κs = search needs
 add-needed : tie.Need-add-needed
 add-needed c = search needs
 
-fits-requires : tie.Need-fits-requires
-fits-requires c κs = search needs
+has-room-requires : tie.Need-has-room-requires
+has-room-requires c κs = search needs
 
 returns : tie.Need-returns
 returns c =
-    no-room (refusalLine (c .before .before .before .before .before .args .refusal)) _ _ _ _ (refusal-size _ _ _ (c .before .before .before .number .ensures) (c .before .before .digit-count .ensures .0)) (c .before .fits2 .ensures .0) (c .if1 .taken)
+    no-room (refusalLine (c .before .before .before .before .before .args .refusal)) _ _ _ _ (refusal-size _ _ _ (c .before .before .before .number .ensures) (c .before .before .digit-count .ensures .0)) (c .before .has-room .ensures .0) (c .if1 .taken)
 
 slice-aggregate-write-last-labelled : tie.Need-slice-aggregate-write-last-labelled
 slice-aggregate-write-last-labelled c = search needs
 
 write-last-labelled-requires : tie.Need-write-last-labelled-requires
 write-last-labelled-requires c κs =
-    omega (arith, c .before .before .before .fits2 .ensures .1 (not-false _ (c .before .before .if1 .left)))
+    omega (arith, c .before .before .before .has-room .ensures .1 (not-false _ (c .before .before .if1 .left)))
 
 same-length : tie.Need-same-length
 same-length c = search needs
@@ -41,7 +41,7 @@ returns-2 : tie.Need-returns-2
 unfolding refusalLine
 returns-2 c =
     let r = c .before .before .before .before .before .before .before .before .before .before .args .refusal in
-    room (refusalLine r) _ _ _ _ (refusal-size r _ _ (c .before .before .before .before .before .before .before .before .number .ensures) (c .before .before .before .before .before .before .before .digit-count .ensures .0)) (c .before .before .before .before .before .before .fits2 .ensures .0) _ _ (c .before .before .before .before .before .if1 .left)
+    room (refusalLine r) _ _ _ _ (refusal-size r _ _ (c .before .before .before .before .before .before .before .before .number .ensures) (c .before .before .before .before .before .before .before .digit-count .ensures .0)) (c .before .before .before .before .before .before .has-room .ensures .0) _ _ (c .before .before .before .before .before .if1 .left)
     (rw (c .before .before .before .before .before .before .before .before .number .ensures) at (c .before .before .write-last-labelled .ensures))
 
 pub refusal-line-spec : {M : Type 1} → statement M
@@ -52,7 +52,7 @@ refusal-line-spec =
     cast-n
     digit-count-requires
     add-needed
-    fits-requires
+    has-room-requires
     returns
     slice-aggregate-write-last-labelled
     write-last-labelled-requires

@@ -57,15 +57,15 @@ late-mark-requires c κs = search needs
 take-out-requires : tie.Need-take-out-requires
 take-out-requires c κs = small (c .before .before .before .before .before .before .before .before .before .before .before .before) .2
 
-settle-rest-requires : tie.Need-settle-rest-requires
-settle-rest-requires c κs =
+settle-if-any-requires : tie.Need-settle-if-any-requires
+settle-if-any-requires c κs =
     let ready = taken-small _ _ _ (c .take-out .ensures) (small (c .before .before .before .before .before .before .before .before .before .before .before .before .before)) in
     (ready .0, ready .1, ready .2)
 
 answer-requires : tie.Need-answer-requires
 answer-requires c κs =
     let before = small (c .before .before .before .before .before .before .before .before .before .before .before .before .before .before .before) in
-    let after = settled-small _ _ _ _ _ _ (c .before .settle-rest .ensures) in
+    let after = settled-small _ _ _ _ _ _ (c .before .settle-if-any .ensures) in
     (before .1, before .2, after .1, after .2, c .before .before .before .before .before .before .before .before .before .before .before .before .before .before .before .before .before .sixteen-ticks .ensures)
 
 returns-2 : tie.Need-returns-2
@@ -74,7 +74,7 @@ returns-2 c =
     let told = marked .before .before .before .before .before .before .before in
     complete-accepted _ _ _ (told .before .before .before .before .before .clean .ensures) _ _ _ (told .before .before .complete-fault .ensures) (told .enum-told .given .1) _ _ _ _ _ _ _
     (marked .before .before .before .before .entry-at .ensures) (marked .before .before .before .length-at .ensures) (marked .before .ticks-between .ensures)
-    (marked .late-mark .ensures) (c .before .before .before .take-out .ensures) (c .before .before .settle-rest .ensures)
+    (marked .late-mark .ensures) (c .before .before .before .take-out .ensures) (c .before .before .settle-if-any .ensures)
     (none-stamped _ _ (told .before .before .before .before .before .before .before .sixteen-ticks .ensures)) (c .answer .ensures _ _)
 
 pub complete-in-place-spec : {M : Type 1} → statement M
@@ -95,6 +95,6 @@ complete-in-place-spec =
     ticks-between-requires
     late-mark-requires
     take-out-requires
-    settle-rest-requires
+    settle-if-any-requires
     answer-requires
     returns-2)

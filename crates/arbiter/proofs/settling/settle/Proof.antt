@@ -1,19 +1,13 @@
--- `settle` meets its contract: its masks follow the four steps, and with nobody unsatisfied there is nothing to settle. Assumes nothing.
+-- `settle` meets its contract: its masks follow the four steps. Assumes nothing.
 use native.Mathlib.Omega.{arith}
 use borrow.Author.Needs.{needs}
 use Rattle.arbiter.specs.Settling.{step1, step2, step3, step4, settled}
 use Rattle.arbiter.specs.Phases.{boardWith, stateWith, settledPhases}
 use Rattle.arbiter.proofs.WriteMasks.{write-mask}
-use Rattle.arbiter.proofs.Quiet.{quiet}
 use Rattle.arbiter.proofs.Busy.{active1, active2, active3}
 use Rattle.arbiter.proofs.Steps.{Follows, own-mask, active-writes, still, after1, after2, after3, after4, follows-settled}
 use Rattle.arbiter.proofs.settling.settle.Statement.{statement}
 use Rattle.arbiter.proofs.settling.settle.Tie as tie
-
-returns : tie.Need-returns
-returns c =
-    let start = c .before in
-    quiet _ _ _ _ (start .args .phases) (c .if1 .taken) (start .pre .0) (start .pre .1) (start .pre .2)
 
 entries-below-requires : tie.Need-entries-below-requires
 entries-below-requires c κs = search needs
@@ -39,9 +33,9 @@ unopposed-requires-4 c κs = search needs
 unopposed-requires-5 : tie.Need-unopposed-requires-5
 unopposed-requires-5 c κs = search needs
 
-returns-2 : tie.Need-returns-2
+returns : tie.Need-returns
 unfolding step1 step2 step3 step4 settled settledPhases
-returns-2 c =
+returns c =
     let fourth = c .before .before .before in
     let third = fourth .before .before .before in
     let line = third .before .before .before in
@@ -49,7 +43,7 @@ returns-2 c =
     let first = second .before .before .before in
     let places = first .before .before .before in
     let below = places .before .before in
-    let start = below .before .before .before in
+    let start = below .before .before in
     let a = start .args in
     let b = boardWith (a .rows .now) (a .writes) in
     let s = stateWith (a .entry .now) (a .earlier .now) (a .phases) in
@@ -70,7 +64,6 @@ pub settle-spec : {M : Type 1} → statement M
 settle-spec =
     tie.close
     (tie.spec
-    returns
     entries-below-requires
     write-places-requires
     unopposed-requires
@@ -79,4 +72,4 @@ settle-spec =
     unopposed-requires-3
     unopposed-requires-4
     unopposed-requires-5
-    returns-2)
+    returns)

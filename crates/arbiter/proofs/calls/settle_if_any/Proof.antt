@@ -1,8 +1,8 @@
--- `settle_rest` meets its contract: with nobody unsatisfied there is nothing to settle. Assumes nothing.
+-- `settle_if_any` meets its contract: with nobody unsatisfied there is nothing to settle. Assumes nothing.
 use borrow.Author.Needs.{needs}
 use Rattle.arbiter.proofs.Quiet.{quiet}
-use Rattle.arbiter.proofs.calls.settle_rest.Statement.{statement}
-use Rattle.arbiter.proofs.calls.settle_rest.Tie as tie
+use Rattle.arbiter.proofs.calls.settle_if_any.Statement.{statement}
+use Rattle.arbiter.proofs.calls.settle_if_any.Tie as tie
 
 returns : tie.Need-returns
 returns c =
@@ -15,5 +15,5 @@ settle-requires c κs = search needs
 returns-2 : tie.Need-returns-2
 returns-2 c = search needs
 
-pub settle-rest-spec : {M : Type 1} → statement M
-settle-rest-spec = tie.close (tie.spec returns settle-requires returns-2)
+pub settle-if-any-spec : {M : Type 1} → statement M
+settle-if-any-spec = tie.close (tie.spec returns settle-requires returns-2)
