@@ -236,7 +236,8 @@ fn settle_new(
     ensures { λ r. ⌜ r ≡ settledPhases (now (rows .entry)) writes (now (entry .entry)) (now (earlier .entry)) (admittedPhases before processor (freeRead (now (rows .entry)) writes (now (entry .entry)) (bitOr (before .entitled) (before .holding)) processor)) ⌝ }
 {
     let ahead = before.entitled | before.holding;
-    if before.waiting | ahead == 0 {
+    let active = before.waiting | ahead;
+    if active == 0 {
         return hold_alone(processor);
     }
     if is_free_read(rows, writes, entry, ahead, processor as u32) {
