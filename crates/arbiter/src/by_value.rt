@@ -14,16 +14,23 @@ ghost use Rattle.arbiter.specs.Phases.{phasesOf};
 ghost use Rattle.arbiter.specs.Calls.{issued, completed};
 ghost use Rattle.arbiter.specs.InPlace.{termsOf, answeredBy};
 
+// The phases as a state has them.
+fn phases_in(state: State) -> Phases
+    ensures { λ r. ⌜ r ≡ phasesOf state ⌝ }
+{
+    Phases {
+        waiting: state.waiting,
+        entitled: state.entitled,
+        holding: state.holding,
+    }
+}
+
 // The phases of the requests that count: who waits, who is entitled and who holds.
 pub fn phases_of(board: Board, state: State) -> Phases
     ensures { λ r. ⌜ r ≡ phasesOf (cleaned board state) ⌝ }
 {
     let entry = state.entry;
-    let given = Phases {
-        waiting: state.waiting,
-        entitled: state.entitled,
-        holding: state.holding,
-    };
+    let given = phases_in(state);
     clean(board.processors, board.count, entry, given)
 }
 
@@ -64,11 +71,7 @@ pub fn issue(board: Board, state: State, processor: u8, entry: u8, tick: u64) ->
 {
     let terms = terms_of(board);
     let rows = board.rows;
-    let given = Phases {
-        waiting: state.waiting,
-        entitled: state.entitled,
-        holding: state.holding,
-    };
+    let given = phases_in(state);
     let mut entries = state.entry;
     let mut since = state.since;
     let mut earlier = state.earlier;
@@ -94,11 +97,7 @@ pub fn complete(board: Board, state: State, processor: u8, tick: u64) -> Answere
     let terms = terms_of(board);
     let rows = board.rows;
     let lengths = board.lengths;
-    let given = Phases {
-        waiting: state.waiting,
-        entitled: state.entitled,
-        holding: state.holding,
-    };
+    let given = phases_in(state);
     let entry = state.entry;
     let mut since = state.since;
     let earlier = state.earlier;

@@ -319,15 +319,6 @@ fn refuse(refusal: Refusal, last: u64, phases: Phases) -> Changed
     }
 }
 
-// What the types of two lent arrays say, for the proofs. Compiled, there is nothing left of them.
-fn sixteen_ticks(since: [u64; 16])
-    ensures { λ r. ⌜ length since ≡ 16 ⌝ }
-{}
-
-fn sixteen_sets(earlier: [u32; 16])
-    ensures { λ r. ⌜ length earlier ≡ 16 ⌝ }
-{}
-
 // Processor asks for an entry at a tick. Refused by 10, 11, 12, 13, in that order. What it returns and what it leaves in
 // the three arrays are the answer of `issue`.
 pub fn issue_in_place(
@@ -393,3 +384,12 @@ pub fn complete_in_place(
     let after = settle_if_any(rows, terms.writes, entries, earlier, ready);
     answer(before, after, tick, 0, since, late)
 }
+
+// What the types of two lent arrays say, for the proofs. Compiled, there is nothing left of them.
+fn sixteen_ticks(since: [u64; 16])
+    ensures { λ r. ⌜ length since ≡ 16 ⌝ }
+{}
+
+fn sixteen_sets(earlier: [u32; 16])
+    ensures { λ r. ⌜ length earlier ≡ 16 ⌝ }
+{}

@@ -185,8 +185,7 @@ pub fn settle(
     let entitled = entitled & !reads;
     let holding = holding | reads;
 
-    // 2. A waiting write becomes entitled if no conflicting write holds, no conflicting read is entitled, and no earlier
-    // conflicting write is unsatisfied.
+    // 2. A waiting write with no conflicting holding write, entitled read or earlier unsatisfied write becomes entitled.
     let clear = unopposed(rows, entry, waiting & w, (holding & w) | (entitled & !w));
     let next = first_in_line(rows, entry, earlier, clear, (waiting | entitled) & w);
     let waiting = waiting & !next;

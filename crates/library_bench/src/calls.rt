@@ -2,7 +2,6 @@
 // and issues again at once.
 use crate::board::plan;
 use arbiter::Board;
-use arbiter::Phases;
 use arbiter::Reply;
 use arbiter::State;
 ghost use Prim.Native.Nat.{_<_, _≤_};
@@ -62,11 +61,7 @@ fn sum_from(board: Board, full: State, turns: u64) -> u64
     let mut since = full.since;
     let mut earlier = full.earlier;
     let mut last = full.last;
-    let mut phases = Phases {
-        waiting: full.waiting,
-        entitled: full.entitled,
-        holding: full.holding,
-    };
+    let mut phases = arbiter::phases_of(board, full);
     let mut seed: u64 = 1;
     let mut sum: u64 = 0;
     let mut tick: u64 = 0;

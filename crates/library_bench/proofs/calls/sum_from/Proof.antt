@@ -16,6 +16,9 @@ abbrev μ-loop : tie.MeasureT-loop
 terms-of-requires : tie.Need-terms-of-requires Inv-loop μ-loop
 terms-of-requires c κs = search needs
 
+phases-of-requires : tie.Need-phases-of-requires Inv-loop μ-loop
+phases-of-requires c κs = search needs
+
 loop-holds : tie.Need-loop-holds Inv-loop μ-loop
 loop-holds c = search needs
 
@@ -65,6 +68,7 @@ sum-from-spec =
     Inv-loop
     μ-loop
     terms-of-requires
+    phases-of-requires
     loop-holds
     add-tick
     next-requires
