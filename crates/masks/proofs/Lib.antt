@@ -7,3 +7,7 @@ pub mod Masks
 pub mod Meets
 pub mod Lowest
 pub mod Shifts
+pub mod Walks
+pub mod Gathers
+pub mod Tests
+pub mod Stores

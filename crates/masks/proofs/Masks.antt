@@ -1,18 +1,19 @@
 -- Laws of `maskOf`: the set of the numbers below n that pass a test, place by place. Assumes nothing.
 use mathlib.Core.Path.{_≡_, refl, sym, ap, ap₂, _∙_}
 use mathlib.Core.Bool.{Bool, true, false, cond, not, _&&_, _||_, or-false}
-use Prim.Native.Nat.{ℕ, zero, suc, _+_, _*_, _^_, _<_, _≤_}
-use native.Mathlib.Nat.{one-mul, lt-of-lt-of-le}
+use Prim.Native.Nat.{ℕ, zero, suc, _+_, _*_, _%_, _^_, _<_, _≤_}
+use native.Mathlib.Nat.{one-mul}
 use native.Mathlib.Numerals.{add-one}
 use native.Mathlib.Omega.{arith}
 use lib.Bits.{bitAnd, bitOr, or-shifted-r}
 use lib.Dec.{eqb, ltb}
-use lib.Pow.{pow-pos, pow-mono}
+use lib.Pow.{pow-pos}
 use borrow.Author.Tests.{eqb-true, eqb-false, ltb-true, ltb-false, lt-ltb, le-ltb}
 use Rattle.masks.specs.Sets.{bit, added, without, maskOf}
 use Rattle.masks.proofs.Digits.{ltb-none}
-use Rattle.masks.proofs.Places.{bit-zero, bit-and, bit-or, bit-without, bit-added-if, and-below, or-below}
+use Rattle.masks.proofs.Places.{bit-zero, bit-and, bit-or, bit-without, bit-added-if, and-below, or-below, wider}
 use Rattle.masks.proofs.Equal.{same-places}
+use Rattle.masks.proofs.Shifts.{one-shifted}
 
 -- ---- the width
 
@@ -26,7 +27,7 @@ mask-below zero p = pow-pos 0
 mask-below (suc n) p = more-below n (maskOf n p) (p n) (mask-below n p)
 
 pub mask-below-width : (w n : ℕ) (p : ℕ → Bool) → n ≤ w → maskOf n p < 2 ^ w
-mask-below-width w n p l = lt-of-lt-of-le (mask-below n p) (pow-mono l)
+mask-below-width w n p l = wider l (mask-below n p)
 
 -- ---- one more place, at the code's n + 1
 
@@ -49,6 +50,12 @@ pub mask-next : (n : ℕ) (p : ℕ → Bool) (m r : ℕ) (t : Bool) → r ≡ co
     → r ≡ maskOf (n + 1) p
 mask-next n p m r t next made e =
     next ∙ ap₂ (λ t (m : ℕ). cond t (added m n) m) e made ∙ sym (mask-more-added n p)
+
+-- The same where the code shifts the place, in a word of w bits.
+pub mask-shifted : (w n : ℕ) (p : ℕ → Bool) (m r : ℕ) → n < w → m ≡ maskOf n p → r ≡ cond (p n) (bitOr m (1 * 2 ^ n % 2 ^ w)) m
+    → r ≡ maskOf (n + 1) p
+mask-shifted w n p m r l made e =
+    mask-next n p m r (p n) (e ∙ ap (λ (x : ℕ). cond (p n) (bitOr m x) m) (one-shifted w n l)) made refl
 
 -- ---- the places
 

@@ -4,10 +4,10 @@ use mathlib.Core.Bool.{Bool, true, false, cond, not, _&&_, _||_, and-true, and-f
 use Prim.Native.Nat.{ℕ, zero, suc, _-_, _/_, _%_, _^_, _<_, _≤_, min, max}
 use native.Mathlib.Nat.{div-eq-of-lt, zero-div, lt-of-lt-of-le, lt-of-le-of-lt}
 use native.Mathlib.Omega.{arith}
-use lib.Bits.{bitAnd, bitOr, and-step, or-step, and-le-l, or-lt}
+use lib.Bits.{bitAnd, bitOr, and-step, or-step, and-le-l, and-le-r, or-lt}
 use lib.Dec.{eqb, ltb, eqb·zero-suc, eqb·suc-zero, eqb·suc-suc}
-use lib.Pow.{pow-mono, pow-lt, ones-sub-lt}
-use borrow.Author.Tests.{eqb-true, ltb-true, ltb-false}
+use lib.Pow.{pow-pos, pow-mono, pow-lt, ones-sub-lt}
+use borrow.Author.Tests.{eqb-true, ltb-true, ltb-false, lt-ltb}
 use Rattle.masks.specs.Sets.{bit, complement, without, added, removed}
 use Rattle.masks.proofs.Digits.{bit-lowest, bit-suc, by-digit, by-digits, digit-lt, half-lt, ltb-none, ltb-first, ltb-suc}
 
@@ -57,6 +57,11 @@ bit-and = by-places bitAnd min _&&_ and-low and-rest min-test
 
 pub bit-or : (a b k : ℕ) → bit (bitOr a b) k ≡ (bit a k || bit b k)
 bit-or = by-places bitOr max _||_ or-low or-rest max-test
+
+-- One set joined to another where a test says so.
+pub bit-or-if : (a b k : ℕ) (t : Bool) → bit (cond t (bitOr a b) a) k ≡ (bit a k || (t && bit b k))
+bit-or-if a b k true = bit-or a b k
+bit-or-if a b k false = sym (or-false (bit a k))
 
 -- ---- complement, without
 
@@ -133,6 +138,9 @@ bit-removed-if w n p k h = go (ltb p w) refl
 
 -- ---- the results keep to the width
 
+pub wider : {w W n : ℕ} → w ≤ W → n < 2 ^ w → n < 2 ^ W
+wider fit h = lt-of-lt-of-le h (pow-mono fit)
+
 pub and-below : (w a b : ℕ) → a < 2 ^ w → bitAnd a b < 2 ^ w
 and-below w a b h = lt-of-le-of-lt (and-le-l a b) h
 
@@ -161,3 +169,19 @@ added-if-below w n p h = go (ltb p w) refl
 pub removed-if-below : (w n p : ℕ) (t : Bool) → n < 2 ^ w → cond t (removed w n p) n < 2 ^ w
 removed-if-below w n p true h = removed-below w n p h
 removed-if-below w n p false h = h
+
+-- ---- the first w places: 2 ^ w - 1
+
+pub bit-ones : (w k : ℕ) → bit (2 ^ w - 1) k ≡ ltb k w
+bit-ones w k =
+    let none : 2 ^ w - 1 ≡ complement w 0 = omega arith in
+    ap (λ (x : ℕ). bit x k) none ∙ bit-complement w 0 k (pow-pos w) ∙ ap (λ t. ltb k w && not t) (bit-zero k) ∙ and-true (ltb k w)
+
+pub bit-first : (w n k : ℕ) → k < w → bit (bitAnd n (2 ^ w - 1)) k ≡ bit n k
+bit-first w n k l = bit-and n (2 ^ w - 1) k ∙ ap (λ t. bit n k && t) (bit-ones w k ∙ lt-ltb k w l) ∙ and-true (bit n k)
+
+pub ones-below : (w : ℕ) → 2 ^ w - 1 < 2 ^ w
+ones-below w = omega (arith, pow-pos w)
+
+pub first-below : (w n : ℕ) → bitAnd n (2 ^ w - 1) < 2 ^ w
+first-below w n = lt-of-le-of-lt (and-le-r n (2 ^ w - 1)) (ones-below w)

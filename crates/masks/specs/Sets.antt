@@ -1,5 +1,5 @@
--- Sets of small numbers, as the bits of one number: document 01's sets of resources ("bit r names resource r") and masks of
--- processors ("bit p is processor p"). The set of width w is a number below 2 ^ w.
+-- Clauses 1.6 and 2.6: sets of small numbers as the bits of one number. A mask has bit p for processor p, an entry's
+-- names bit r for resource r. A set of width w is a number below 2 ^ w.
 use Prim.Native.Nat.{ℕ, zero, suc, _+_, _-_, _/_, _%_, _^_}
 use mathlib.Core.Bool.{Bool, true, false, cond, not, _||_}
 use lib.Bits.{bitAnd, bitOr}

@@ -39,19 +39,7 @@ pub fn remove32(set: u32, k: u32) -> u32
     if k < 32 { set & !(1 << k) } else { set }
 }
 
-pub fn remove64(set: u64, k: u32) -> u64
-    ensures { λ r. ⌜ r ≡ cond (ltb k 64) (removed 64 set k) set ⌝ }
-{
-    if k < 64 { set & !(1 << k) } else { set }
-}
-
 // Whether the two sets share a place.
-pub fn meet32(a: u32, b: u32) -> bool
-    ensures { λ r. ⌜ r ≡ meets a b ⌝ }
-{
-    a & b != 0
-}
-
 pub fn meet64(row: u64, set: u64) -> bool
     ensures { λ r. ⌜ r ≡ meets row set ⌝ }
 {
@@ -63,12 +51,6 @@ pub fn without32(a: u32, b: u32) -> u32
     ensures { λ r. ⌜ r ≡ without 32 a b ⌝ }
 {
     a & !b
-}
-
-pub fn without64(row: u64, set: u64) -> u64
-    ensures { λ r. ⌜ r ≡ without 64 row set ⌝ }
-{
-    row & !set
 }
 
 // Whether every place of the set is below the count. With 64 or more every place is.
