@@ -1,46 +1,42 @@
 -- What an accepted plan tells of each of its entries: kind, and a set that is not empty and names only counted resources.
 -- Assumes nothing.
 use Prim.Native.Nat.{ℕ, zero, suc, _^_, _<_}
-use native.Mathlib.Omega.{arith}
 use mathlib.Core.Path.{_≡_, refl}
-use mathlib.Core.Bool.{true, not, false≢true, and-eq-true-iff}
+use mathlib.Core.Bool.{true, not, _||_, false≢true, and-eq-true-iff}
+use mathlib.Core.Logic.{⊎-elim}
 use mathlib.Core.List.{List, [], _∷_}
-use lib.Dec.{eqb, leb, ltb}
+use lib.Dec.{eqb, ltb, lit<}
 use lib.ListN.{getD}
 use lib.Pow.{pow-pos}
-use borrow.Author.Tests.{leb-true, ltb-true}
-use Rattle.refusals.specs.declared.Refusal.{Refusal}
+use borrow.Author.Tests.{eqb-true, ltb-true}
 use Rattle.plans.specs.declared.Entry.{Entry}
 use Rattle.plans.specs.declared.Plan.{Plan}
-use Rattle.plans.specs.declared.Verdict.{Verdict}
-use Rattle.plans.specs.Acceptance.{kindFault, setFault, lengthFault, countsFault, entryFault, entriesFault, counted, planFault}
-use Rattle.plans.specs.Reading.{blankEntry}
-use Rattle.plans.proofs.Verdicts.{first-accepted, due-accepted}
-use Rattle.conflicts.specs.Conflict.{isRead, isWrite, entryAt}
+use Rattle.plans.specs.Acceptance.{kindFault, setFault, lengthFault, countsFault, entryFault, entriesFault, planFault}
+use Rattle.plans.specs.Entries.{isRead, isWrite, countedEntries, blankEntry, entryAt}
+use Rattle.masks.proofs.Truth.{or-cases}
+use Rattle.refusals.proofs.Numbers.{first-accepted, due-accepted}
 
 -- ---- an entry
 
-module _ (resources : ℕ) (e : Entry) (taken : entryFault resources e ≡ Verdict.Accepted) where
-  kind-taken : leb (e .kind) 1 ≡ true
+module _ (resources : ℕ) (e : Entry) (taken : entryFault resources e ≡ 0) where
+  kind-taken : (isRead e || isWrite e) ≡ true
   unfolding entryFault
-  kind-taken = due-accepted (leb (e .kind) 1) Refusal.Kind (first-accepted (kindFault e) _ taken .first)
+  kind-taken = due-accepted (isRead e || isWrite e) 6 (lit< tt) (first-accepted (kindFault e) _ taken .first)
 
   set-taken : (not (eqb (e .set) 0) ≡ true) × (ltb (e .set) (2 ^ resources) ≡ true)
   unfolding entryFault
   set-taken =
       and-eq-true-iff (not (eqb (e .set) 0)) (ltb (e .set) (2 ^ resources)) .0
-      (due-accepted _ Refusal.Set (first-accepted (setFault resources e) (lengthFault e) (first-accepted (kindFault e) _ taken .later) .first))
+      (due-accepted _ 7 (lit< tt) (first-accepted (setFault resources e) (lengthFault e) (first-accepted (kindFault e) _ taken .later) .first))
 
-one-kind : (k : ℕ) → leb k 1 ≡ true → eqb k 0 ≡ not (eqb k 1)
-one-kind zero h = refl
-one-kind (suc zero) h = refl
-one-kind (suc (suc k)) h = absurd (omega (arith, leb-true (suc (suc k)) 1 h))
+one-kind : (k : ℕ) → (eqb k 0 || eqb k 1) ≡ true → eqb k 0 ≡ not (eqb k 1)
+one-kind k h = ⊎-elim (λ e. rw (eqb-true k 0 e)) (λ e. rw (eqb-true k 1 e)) (or-cases (eqb k 0) (eqb k 1) h)
 
 -- ---- the entries
 
 -- What holds of the blank entry and of each entry without a fault holds of the entry at each place.
-by-accepted : (P : Entry → Type 0) (resources : ℕ) → P blankEntry → ((e : Entry) → entryFault resources e ≡ Verdict.Accepted → P e)
-    → (es : List Entry) → entriesFault resources es ≡ Verdict.Accepted → (i : ℕ) → P (getD es i blankEntry)
+by-accepted : (P : Entry → Type 0) (resources : ℕ) → P blankEntry → ((e : Entry) → entryFault resources e ≡ 0 → P e)
+    → (es : List Entry) → entriesFault resources es ≡ 0 → (i : ℕ) → P (getD es i blankEntry)
 unfolding entriesFault
 by-accepted P resources blank each [] h i = blank
 by-accepted P resources blank each (e ∷ later) h zero =
@@ -48,11 +44,11 @@ by-accepted P resources blank each (e ∷ later) h zero =
 by-accepted P resources blank each (e ∷ later) h (suc i) =
     by-accepted P resources blank each later (first-accepted (entryFault resources e) (entriesFault resources later) h .later) i
 
-module _ (p : Plan) (taken : planFault p ≡ Verdict.Accepted) (i : ℕ) where
-  by-plan : (P : Entry → Type 0) → P blankEntry → ((e : Entry) → entryFault (p .resources) e ≡ Verdict.Accepted → P e) → P (entryAt p i)
+module _ (p : Plan) (taken : planFault p ≡ 0) (i : ℕ) where
+  by-plan : (P : Entry → Type 0) → P blankEntry → ((e : Entry) → entryFault (p .resources) e ≡ 0 → P e) → P (entryAt p i)
   unfolding planFault
   by-plan P blank each =
-      by-accepted P (p .resources) blank each (counted p)
+      by-accepted P (p .resources) blank each (countedEntries p)
       (first-accepted (countsFault (p .processors) (p .resources) (p .count)) _ taken .later) i
 
   pub read-or-write : isRead (entryAt p i) ≡ not (isWrite (entryAt p i))

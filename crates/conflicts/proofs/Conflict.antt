@@ -1,5 +1,5 @@
--- Conflict is symmetric, two reads never conflict, a write conflicts with itself, and a read that conflicts with two writes bridges them:
--- the writes conflict with each other. Assumes nothing.
+-- Conflict is symmetric, two reads never conflict, a write conflicts with itself, and a read that conflicts with two writes
+-- bridges them: the writes conflict with each other. Assumes nothing.
 use Prim.Native.Nat.{ℕ, zero, suc, _^_, _<_}
 use native.Mathlib.Omega.{arith}
 use mathlib.Core.Path.{_≡_, sym, ap, ap₂, _∙_}
@@ -15,10 +15,9 @@ use Rattle.masks.proofs.Some.{some-found}
 use Rattle.masks.proofs.Meets.{not-empty, meets-share, share-meets, meets-comm}
 use Rattle.plans.specs.declared.Entry.{Entry}
 use Rattle.plans.specs.declared.Plan.{Plan}
-use Rattle.plans.specs.declared.Verdict.{Verdict}
-use Rattle.plans.specs.Acceptance.{counted, planFault}
-use Rattle.plans.specs.Reading.{blankEntry}
-use Rattle.conflicts.specs.Conflict.{isRead, isWrite, widen, widenedSet, conflict, entryAt, inConflict}
+use Rattle.plans.specs.Entries.{isRead, isWrite, countedEntries, blankEntry, entryAt}
+use Rattle.plans.specs.Acceptance.{planFault}
+use Rattle.conflicts.specs.Conflict.{widen, widenedSet, conflict, inConflict}
 use Rattle.conflicts.proofs.Widening.{broughtTo}
 use Rattle.conflicts.proofs.Accepted.{write-not-empty}
 
@@ -103,39 +102,39 @@ module _ (p : Plan) where
   pub conflict-symmetric : (i j : ℕ) → inConflict p i j ≡ inConflict p j i
   unfolding inConflict
   conflict-symmetric i j =
-      ap₂ _&&_ (and-comm (ltb i (p .count)) (ltb j (p .count))) (conflict-comm (counted p) (entryAt p i) (entryAt p j))
+      ap₂ _&&_ (and-comm (ltb i (p .count)) (ltb j (p .count))) (conflict-comm (countedEntries p) (entryAt p i) (entryAt p j))
 
   parts : (i j : ℕ) → inConflict p i j ≡ true
-      → ((ltb i (p .count) && ltb j (p .count)) ≡ true) × (conflict (counted p) (entryAt p i) (entryAt p j) ≡ true)
+      → ((ltb i (p .count) && ltb j (p .count)) ≡ true) × (conflict (countedEntries p) (entryAt p i) (entryAt p j) ≡ true)
   unfolding inConflict
-  parts i j h = and-eq-true-iff (ltb i (p .count) && ltb j (p .count)) (conflict (counted p) (entryAt p i) (entryAt p j)) .0 h
+  parts i j h = and-eq-true-iff (ltb i (p .count) && ltb j (p .count)) (conflict (countedEntries p) (entryAt p i) (entryAt p j)) .0 h
 
   pub both-counted : (i j : ℕ) → inConflict p i j ≡ true → (i < p .count) × (j < p .count)
   both-counted i j h =
       let both = and-eq-true-iff (ltb i (p .count)) (ltb j (p .count)) .0 (parts i j h .0) in
       (ltb-true i (p .count) (both .0), ltb-true j (p .count) (both .1))
 
-  counted-conflict : (i j : ℕ) → i < p .count → j < p .count → conflict (counted p) (entryAt p i) (entryAt p j) ≡ true → inConflict p i j ≡ true
+  counted-conflict : (i j : ℕ) → i < p .count → j < p .count → conflict (countedEntries p) (entryAt p i) (entryAt p j) ≡ true → inConflict p i j ≡ true
   unfolding inConflict
   counted-conflict i j hi hj h = ap₂ _&&_ (ap₂ _&&_ (lt-ltb i (p .count) hi) (lt-ltb j (p .count) hj)) h
 
   pub reads-never-conflict : (i j : ℕ) → isRead (entryAt p i) ≡ true → isRead (entryAt p j) ≡ true → inConflict p i j ≡ false
   unfolding inConflict
   reads-never-conflict i j hi hj =
-      ap (λ t. (ltb i (p .count) && ltb j (p .count)) && t) (reads-apart (counted p) (entryAt p i) (entryAt p j) hi hj)
+      ap (λ t. (ltb i (p .count) && ltb j (p .count)) && t) (reads-apart (countedEntries p) (entryAt p i) (entryAt p j) hi hj)
       ∙ and-false (ltb i (p .count) && ltb j (p .count))
 
-  -- An edge of document 01: a read may be held by several processors at once.
+  -- Clause 3.2: so several processors may hold one read entry at once.
   pub read-never-conflicts-itself : (i : ℕ) → isRead (entryAt p i) ≡ true → inConflict p i i ≡ false
   read-never-conflicts-itself i h = reads-never-conflict i i h h
 
-  pub write-conflicts-itself : planFault p ≡ Verdict.Accepted → (i : ℕ) → i < p .count → isWrite (entryAt p i) ≡ true → inConflict p i i ≡ true
+  pub write-conflicts-itself : planFault p ≡ 0 → (i : ℕ) → i < p .count → isWrite (entryAt p i) ≡ true → inConflict p i i ≡ true
   write-conflicts-itself taken i l h =
-      counted-conflict i i l l (write-itself (counted p) (entryAt p i) h (write-not-empty p taken i h))
+      counted-conflict i i l l (write-itself (countedEntries p) (entryAt p i) h (write-not-empty p taken i h))
 
   -- The bridge, also for w and v the same.
   pub read-bridges-writes : (r w v : ℕ) → isRead (entryAt p r) ≡ true → isWrite (entryAt p w) ≡ true → isWrite (entryAt p v) ≡ true
       → inConflict p r w ≡ true → inConflict p r v ≡ true → inConflict p w v ≡ true
   read-bridges-writes r w v hr hw hv cw cv =
       counted-conflict w v (both-counted r w cw .1) (both-counted r v cv .1)
-      (bridged (counted p) r (entryAt p w) (entryAt p v) hr hw hv (parts r w cw .1) (parts r v cv .1))
+      (bridged (countedEntries p) r (entryAt p w) (entryAt p v) hr hw hv (parts r w cw .1) (parts r v cv .1))

@@ -11,9 +11,8 @@ use Rattle.masks.specs.Sets.{added, meets, maskOf}
 use Rattle.masks.proofs.Masks.{mask-next}
 use Rattle.plans.specs.declared.Entry.{Entry}
 use Rattle.plans.specs.declared.Plan.{Plan}
-use Rattle.plans.specs.Acceptance.{counted}
-use Rattle.plans.specs.Reading.{blankEntry}
-use Rattle.conflicts.specs.Conflict.{isRead, isWrite, widenedSet, conflict, entryAt, inConflict, conflictsOf}
+use Rattle.plans.specs.Entries.{mostEntries, isRead, isWrite, countedEntries, blankEntry, entryAt}
+use Rattle.conflicts.specs.Conflict.{widenedSet, conflict, inConflict, conflictsOf}
 use Rattle.conflicts.proofs.Widening.{entry-at, widened-counted, widened-at}
 
 -- Conflict of two entries by their widened sets a and b.
@@ -21,10 +20,10 @@ abbrev pub pair : Entry → ℕ → Entry → ℕ → Bool
 pair e a f b = cond (isWrite e && isWrite f) (meets a b) (cond (isRead e && isRead f) false (meets (e .set) (f .set)))
 
 module _ (p : Plan) (sets : List ℕ) (made : sets ≡ conflictsOf p .widened) where
-  set-read : (i : ℕ) → i < 64 → i < p .count → getD sets i 0 ≡ widenedSet (counted p) (getD (p .entries) i blankEntry)
+  set-read : (i : ℕ) → i < mostEntries → i < p .count → getD sets i 0 ≡ widenedSet (countedEntries p) (getD (p .entries) i blankEntry)
   set-read i l h = ap (λ s. getD s i 0) made ∙ widened-at p i l ∙ widened-counted p i h
 
-  pair-in-conflict : (i j : ℕ) → i < 64 → j < 64
+  pair-in-conflict : (i j : ℕ) → i < mostEntries → j < mostEntries
       → ((ltb i (p .count) && ltb j (p .count))
       && pair (getD (p .entries) i blankEntry) (getD sets i 0) (getD (p .entries) j blankEntry) (getD sets j 0))
       ≡ inConflict p i j
@@ -33,7 +32,7 @@ module _ (p : Plan) (sets : List ℕ) (made : sets ≡ conflictsOf p .widened) w
     where
       go : (t u : Bool) → ltb i (p .count) ≡ t → ltb j (p .count) ≡ u
           → ((t && u) && pair (getD (p .entries) i blankEntry) (getD sets i 0) (getD (p .entries) j blankEntry) (getD sets j 0))
-          ≡ ((t && u) && conflict (counted p) (entryAt p i) (entryAt p j))
+          ≡ ((t && u) && conflict (countedEntries p) (entryAt p i) (entryAt p j))
       go true true hi hj =
           let ci : i < p .count = ltb-true i (p .count) hi in
           let cj : j < p .count = ltb-true j (p .count) hj in
@@ -42,7 +41,7 @@ module _ (p : Plan) (sets : List ℕ) (made : sets ≡ conflictsOf p .widened) w
       go false u hi hj = refl
 
   -- The row of entry i with column j, where the pair was found to conflict or not.
-  pub row-next : (i j row next : ℕ) (found : Bool) → i < 64 → j < 64 → row ≡ maskOf j (inConflict p i)
+  pub row-next : (i j row next : ℕ) (found : Bool) → i < mostEntries → j < mostEntries → row ≡ maskOf j (inConflict p i)
       → found ≡ pair (getD (p .entries) i blankEntry) (getD sets i 0) (getD (p .entries) j blankEntry) (getD sets j 0)
       → next ≡ cond ((ltb i (p .count) && ltb j (p .count)) && found) (added row j) row
       → next ≡ maskOf (j + 1) (inConflict p i)

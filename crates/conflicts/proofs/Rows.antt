@@ -9,22 +9,23 @@ use borrow.Author.Tests.{ltb-true, ltb-false}
 use Rattle.masks.specs.Sets.{bit, maskOf}
 use Rattle.masks.proofs.Masks.{bit-mask-at, mask-below}
 use Rattle.plans.specs.declared.Plan.{Plan}
+use Rattle.plans.specs.Entries.{mostEntries}
 use Rattle.conflicts.specs.Conflict.{inConflict, conflictsOf}
 use Rattle.conflicts.proofs.Tabulate.{getD-tabulate, getD-tabulate-past}
 
 module _ (p : Plan) where
-  pub row-is : (i : ℕ) → i < 64 → getD (conflictsOf p .rows) i 0 ≡ maskOf 64 (inConflict p i)
+  pub row-is : (i : ℕ) → i < mostEntries → getD (conflictsOf p .rows) i 0 ≡ maskOf mostEntries (inConflict p i)
   unfolding conflictsOf
-  row-is i l = getD-tabulate 64 (λ i. maskOf 64 (inConflict p i)) i 0 l
+  row-is i l = getD-tabulate mostEntries (λ i. maskOf mostEntries (inConflict p i)) i 0 l
 
-  pub bit-row : (i j : ℕ) → i < 64 → j < 64 → bit (getD (conflictsOf p .rows) i 0) j ≡ inConflict p i j
-  bit-row i j li lj = ap (λ (r : ℕ). bit r j) (row-is i li) ∙ bit-mask-at 64 (inConflict p i) j lj
+  pub bit-row : (i j : ℕ) → i < mostEntries → j < mostEntries → bit (getD (conflictsOf p .rows) i 0) j ≡ inConflict p i j
+  bit-row i j li lj = ap (λ (r : ℕ). bit r j) (row-is i li) ∙ bit-mask-at mostEntries (inConflict p i) j lj
 
   -- Past the last row the row is empty.
   pub row-below : (i : ℕ) → getD (conflictsOf p .rows) i 0 < 2 ^ 64
   unfolding conflictsOf
-  row-below i = go (ltb i 64) refl
+  row-below i = go (ltb i mostEntries) refl
     where
-      go : (t : Bool) → ltb i 64 ≡ t → getD (conflictsOf p .rows) i 0 < 2 ^ 64
-      go true e = rw (row-is i (ltb-true i 64 e)) (mask-below 64 (inConflict p i))
-      go false e = rw (getD-tabulate-past 64 (λ i. maskOf 64 (inConflict p i)) i 0 (ltb-false i 64 e)) (pow-pos 64)
+      go : (t : Bool) → ltb i mostEntries ≡ t → getD (conflictsOf p .rows) i 0 < 2 ^ 64
+      go true e = rw (row-is i (ltb-true i mostEntries e)) (mask-below mostEntries (inConflict p i))
+      go false e = rw (getD-tabulate-past mostEntries (λ i. maskOf mostEntries (inConflict p i)) i 0 (ltb-false i mostEntries e)) (pow-pos mostEntries)

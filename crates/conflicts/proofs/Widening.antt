@@ -12,9 +12,8 @@ use borrow.Author.Tests.{lt-ltb}
 use Rattle.masks.specs.Sets.{meets}
 use Rattle.plans.specs.declared.Entry.{Entry}
 use Rattle.plans.specs.declared.Plan.{Plan}
-use Rattle.plans.specs.Acceptance.{counted}
-use Rattle.plans.specs.Reading.{blankEntry}
-use Rattle.conflicts.specs.Conflict.{isRead, widen, widenedSet, entryAt, conflictsOf}
+use Rattle.plans.specs.Entries.{mostEntries, isRead, countedEntries, blankEntry, entryAt}
+use Rattle.conflicts.specs.Conflict.{widen, widenedSet, conflictsOf}
 use Rattle.conflicts.proofs.Tabulate.{getD-tabulate}
 
 -- What an entry brings to the names.
@@ -23,35 +22,35 @@ broughtTo names e = cond (isRead e && meets (e .set) names) (e .set) 0
 
 -- The widened set of entry i, empty past the count.
 abbrev pub widenedAt : Plan → ℕ → ℕ
-widenedAt p i = cond (ltb i (p .count)) (widenedSet (counted p) (entryAt p i)) 0
+widenedAt p i = cond (ltb i (p .count)) (widenedSet (countedEntries p) (entryAt p i)) 0
 
-module _ (p : Plan) (names : ℕ) (full : length (p .entries) ≡ 64) where
-  pub widened-by-none : widen names (drop (min (p .count) 64) (counted p)) ≡ names
+module _ (p : Plan) (names : ℕ) (full : length (p .entries) ≡ mostEntries) where
+  pub widened-by-none : widen names (drop (min (p .count) mostEntries) (countedEntries p)) ≡ names
   unfolding widen
   widened-by-none =
       ap (widen names)
-      (drop-of-length-le (counted p) {i = min (p .count) 64} (omega (arith, length-take (p .count) (p .entries))))
+      (drop-of-length-le (countedEntries p) {i = min (p .count) mostEntries} (omega (arith, length-take (p .count) (p .entries))))
 
   -- The entry before place i, where it stands in the plan's array, brings its part to what is made so far.
-  pub widened-by-next : (i out more : ℕ) → 0 < i → i ≤ min (p .count) 64 → out ≡ widen names (drop i (counted p))
-      → more ≡ broughtTo names (getD (p .entries) (i - 1) blankEntry) → bitOr out more ≡ widen names (drop (i - 1) (counted p))
+  pub widened-by-next : (i out more : ℕ) → 0 < i → i ≤ min (p .count) mostEntries → out ≡ widen names (drop i (countedEntries p))
+      → more ≡ broughtTo names (getD (p .entries) (i - 1) blankEntry) → bitOr out more ≡ widen names (drop (i - 1) (countedEntries p))
   unfolding widen
   widened-by-next i out more h l made brings =
       let next : i ≡ suc (i - 1) = omega arith in
-      let here : getD (p .entries) (i - 1) blankEntry ≡ getD (counted p) (i - 1) blankEntry =
+      let here : getD (p .entries) (i - 1) blankEntry ≡ getD (countedEntries p) (i - 1) blankEntry =
       sym (getD-take (p .count) (p .entries) (i - 1) blankEntry (omega arith)) in
-      ap₂ bitOr (made ∙ ap (λ (k : ℕ). widen names (drop k (counted p))) next) (brings ∙ ap (broughtTo names) here)
-      ∙ ap (widen names) (sym (drop-cons (counted p) (i - 1) blankEntry (omega (arith, length-take (p .count) (p .entries)))))
+      ap₂ bitOr (made ∙ ap (λ (k : ℕ). widen names (drop k (countedEntries p))) next) (brings ∙ ap (broughtTo names) here)
+      ∙ ap (widen names) (sym (drop-cons (countedEntries p) (i - 1) blankEntry (omega (arith, length-take (p .count) (p .entries)))))
 
 module _ (p : Plan) (i : ℕ) (h : i < p .count) where
   -- A counted entry, where it stands in the plan's array.
   pub entry-at : entryAt p i ≡ getD (p .entries) i blankEntry
   entry-at = getD-take (p .count) (p .entries) i blankEntry h
 
-  pub widened-counted : widenedAt p i ≡ widenedSet (counted p) (getD (p .entries) i blankEntry)
-  widened-counted = ap₂ (λ t e. cond t (widenedSet (counted p) e) 0) (lt-ltb i (p .count) h) entry-at
+  pub widened-counted : widenedAt p i ≡ widenedSet (countedEntries p) (getD (p .entries) i blankEntry)
+  widened-counted = ap₂ (λ t e. cond t (widenedSet (countedEntries p) e) 0) (lt-ltb i (p .count) h) entry-at
 
 -- The sets of an array that holds them all.
-pub widened-at : (p : Plan) (i : ℕ) → i < 64 → getD (conflictsOf p .widened) i 0 ≡ widenedAt p i
+pub widened-at : (p : Plan) (i : ℕ) → i < mostEntries → getD (conflictsOf p .widened) i 0 ≡ widenedAt p i
 unfolding conflictsOf
-widened-at p i l = getD-tabulate 64 (widenedAt p) i 0 l
+widened-at p i l = getD-tabulate mostEntries (widenedAt p) i 0 l

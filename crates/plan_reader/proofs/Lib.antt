@@ -1,4 +1,4 @@
 pub mod Entries
 pub mod Head
-pub mod Numbers
+pub mod Answers
 pub mod Section

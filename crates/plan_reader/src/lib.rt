@@ -1,22 +1,32 @@
 // From bytes to a plan. A log's reader begins with it, and so does the viewer.
+use encoding::Outcome;
+use encoding::byte_at;
+use encoding::check_due;
+use encoding::read_number;
 use plans::ENTRIES;
+use plans::ENTRY_BYTES;
 use plans::Entry;
-use plans::Outcome;
+use plans::HEAD_BYTES;
 use plans::Plan;
 use plans::Read;
-use plans::Verdict;
 use plans::check_entry;
-use plans::is_within;
+use plans::check_entry_count;
+use plans::check_processors;
+use plans::check_resources;
 use refusals::Refusal;
+use refusals::Verdict;
+use refusals::first_of;
 ghost use mathlib.Core.Path.{_≡_};
-ghost use Prim.Native.Nat.{_^_, _≤_, _<_};
-ghost use lib.ListN.{length};
-ghost use Rattle.plans.specs.Acceptance.{firstOf};
-ghost use Rattle.plans.specs.Reading.{number, entryOf, readFault, readBy, readPlan, blankPlan};
-ghost use Rattle.plan_reader.specs.Body.{bodyFault, Counted};
-
-// The bytes that an entry takes.
-const ENTRY_BYTES: usize = 11;
+ghost use mathlib.Core.Bool.{cond};
+ghost use Prim.Native.Nat.{_≤_};
+ghost use lib.Dec.{eqb};
+ghost use lib.ListN.{length, getD};
+ghost use Rattle.refusals.specs.Number.{verdictNumber};
+ghost use Rattle.refusals.specs.Due.{firstOf, said};
+ghost use Rattle.encoding.specs.Buffers.{outcomeSays};
+ghost use Rattle.plans.specs.Entries.{entrySize, planSize};
+ghost use Rattle.plans.specs.Reading.{entryIn, readFault, blankPlan, planIn, readSays, planRead};
+ghost use Rattle.plan_reader.specs.inner.Body.{bodyFault, CountsThere};
 
 // What fills the places past the count, and a plan that was not read.
 const BLANK: Entry = Entry {
@@ -25,36 +35,13 @@ const BLANK: Entry = Entry {
     length: 0,
 };
 
-fn wide(byte: u8) -> u64
-    ensures { λ r. ⌜ (r ≡ byte) × (r < 256) ⌝ }
-{
-    byte as u64
-}
-
-// "Numbers are unsigned, low byte first": from the high byte down.
-fn number_of(bytes: &[u8]) -> u64
-    requires { ⌜ length (now bytes) ≤ 8 ⌝ }
-    ensures value { λ r. ⌜ r ≡ number (now (bytes .entry)) ⌝ }
-    ensures bound { λ r. ⌜ r < 256 ^ length (now (bytes .entry)) ⌝ }
-{
-    let size = bytes.len();
-    let mut sum: u64 = 0;
-    let mut done = 0;
-    while done < size {
-        let next = size - 1 - done;
-        sum = wide(bytes[next]) + 256 * sum;
-        done += 1;
-    }
-    sum
-}
-
-// "Each entry is 11 bytes: kind, set (8 bytes), length (2 bytes)."
+// Clause 2.6: the entry in 11 bytes.
 fn entry_of(bytes: &[u8]) -> Entry
-    requires { ⌜ 11 ≤ length (now bytes) ⌝ }
-    ensures { λ r. ⌜ r ≡ entryOf (now (bytes .entry)) ⌝ }
+    requires { ⌜ entrySize ≤ length (now bytes) ⌝ }
+    ensures { λ r. ⌜ r ≡ entryIn (now (bytes .entry)) ⌝ }
 {
-    let set = number_of(&bytes[1..9]);
-    let length = number_of(&bytes[9..11]);
+    let set = read_number(&bytes[1..9]);
+    let length = read_number(&bytes[9..ENTRY_BYTES]);
     Entry {
         kind: bytes[0],
         set: set,
@@ -62,7 +49,7 @@ fn entry_of(bytes: &[u8]) -> Entry
     }
 }
 
-// "A refusal gives its number only."
+// Clause 2.9: a refusal has the blank plan beside it.
 fn refused(refusal: Refusal) -> Read
     ensures { λ r. ⌜ r ≡ record { outcome = Outcome.Refused refusal; plan = blankPlan } ⌝ }
 {
@@ -77,41 +64,36 @@ fn refused(refusal: Refusal) -> Read
     }
 }
 
-// The three counts in file order, each due before it is checked.
+// Clause 2.9: the three counts in the order of their bytes, each due before it is checked.
 fn check_head(bytes: &[u8]) -> Verdict
-    ensures first { λ r. ⌜ readFault (now (bytes .entry)) ≡ firstOf r (bodyFault (now (bytes .entry))) ⌝ }
-    ensures counted { λ r. ⌜ (r ≡ Verdict.Accepted → Counted (now (bytes .entry))) ⌝ }
+    ensures first { λ r. ⌜
+        readFault (now (bytes .entry)) ≡ firstOf (verdictNumber r) (bodyFault (now (bytes .entry)))
+        ⌝ }
+    ensures there { λ r. ⌜ (verdictNumber r ≡ 0 → CountsThere (now (bytes .entry))) ⌝ }
 {
-    if bytes.len() < 1 {
-        return Verdict::Refused(Refusal::Short);
-    }
-    if !is_within(1, 16, bytes[0]) {
-        return Verdict::Refused(Refusal::Processors);
-    }
-    if bytes.len() < 2 {
-        return Verdict::Refused(Refusal::Short);
-    }
-    if !is_within(1, 64, bytes[1]) {
-        return Verdict::Refused(Refusal::Resources);
-    }
-    if bytes.len() < 3 {
-        return Verdict::Refused(Refusal::Short);
-    }
-    if !is_within(1, 64, bytes[2]) {
-        return Verdict::Refused(Refusal::Entries);
-    }
-    Verdict::Accepted
+    let processors = first_of(check_due(1, bytes), check_processors(byte_at(bytes, 0)));
+    let resources = first_of(check_due(2, bytes), check_resources(byte_at(bytes, 1)));
+    let count = first_of(
+        check_due(HEAD_BYTES, bytes),
+        check_entry_count(byte_at(bytes, 2)),
+    );
+    first_of(processors, first_of(resources, count))
 }
 
-// The entries after good counts. Each is checked as it is met, and the first fault ends the reading.
+// Clause 2.9: the entries after good counts. Each is checked as it is met, and the first fault ends the reading.
 fn read_entries(bytes: &[u8]) -> Read
-    requires { ⌜ Counted (now bytes) ⌝ }
-    ensures { λ r. ⌜ r ≡ readBy (bodyFault (now (bytes .entry))) (now (bytes .entry)) ⌝ }
+    requires { ⌜ CountsThere (now bytes) ⌝ }
+    ensures outcome { λ r. ⌜
+        outcomeSays (r .outcome) ≡ said (bodyFault (now (bytes .entry))) (planSize (getD (now (bytes .entry)) 2 0))
+        ⌝ }
+    ensures plan { λ r. ⌜
+        r .plan ≡ cond (eqb (bodyFault (now (bytes .entry))) 0) (planIn (now (bytes .entry))) blankPlan
+        ⌝ }
 {
     let resources = bytes[1];
     let count = bytes[2] as usize;
     let mut entries = [BLANK; ENTRIES];
-    let mut at: usize = 3;
+    let mut at: usize = HEAD_BYTES;
     let mut i: usize = 0;
     let verdict = loop {
         if i == count {
@@ -143,9 +125,10 @@ fn read_entries(bytes: &[u8]) -> Read
     }
 }
 
-// The plan and the number of bytes it took, or the refusal alone. Bytes after the plan are not its concern.
+// Clause 2.8: the plan and the number of bytes that it took, or the refusal. What stands behind it is left alone.
 pub fn read(bytes: &[u8]) -> Read
-    ensures { λ r. ⌜ r ≡ readPlan (now (bytes .entry)) ⌝ }
+    ensures outcome { λ r. ⌜ outcomeSays (r .outcome) ≡ readSays (now (bytes .entry)) ⌝ }
+    ensures plan { λ r. ⌜ r .plan ≡ planRead (now (bytes .entry)) ⌝ }
 {
     let verdict = check_head(bytes);
     match verdict {

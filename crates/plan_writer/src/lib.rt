@@ -1,92 +1,84 @@
 // Plan values to bytes, into a lent buffer. `plan_reader` takes the same bytes back.
+use encoding::Outcome;
+use encoding::check_room;
+use encoding::write_number;
+use plans::ENTRIES;
+use plans::ENTRY_BYTES;
 use plans::Entry;
-use plans::Outcome;
+use plans::HEAD_BYTES;
 use plans::Plan;
-use plans::Verdict;
-use plans::check_room;
-use plans::first_of;
+use plans::plan_size;
+use refusals::Verdict;
+use refusals::first_of;
 ghost use mathlib.Core.Path.{_≡_};
 ghost use Prim.Native.Nat.{_+_, _*_, _≤_};
 ghost use lib.ListN.{length, take};
 ghost use lib.Seq.{sets};
-ghost use Rattle.plans.specs.Reading.{sizeOf};
-ghost use Rattle.plans.specs.Writing.{bytesOf, entryBytes, sectionBytes, planBytes, put, writeFault, writeOutcome, writtenBuffer};
-
-// Stores a number from position at as size bytes, low byte first.
-fn write_number(value: u64, size: usize, section: &mut [u8], at: usize)
-    requires { ⌜ at + size ≤ length (now section) ⌝ }
-    ensures { λ _. ⌜ now (section .exit) ≡ sets (now (section .entry)) at (bytesOf size value) ⌝ }
-{
-    let mut rest = value;
-    let mut i = 0;
-    while i < size {
-        section[at + i] = (rest % 256) as u8;
-        rest = rest / 256;
-        i += 1;
-    }
-}
+ghost use Rattle.refusals.specs.Number.{verdictNumber};
+ghost use Rattle.encoding.specs.Buffers.{overwritten, outcomeSays};
+ghost use Rattle.plans.specs.Entries.{mostEntries, entrySize, planSize};
+ghost use Rattle.plans.specs.Writing.{entryBytes, sectionBytes, planBytes, writeFault, writeSays, writtenBuffer};
 
 // Stores an entry's 11 bytes from position at: kind, set, length.
 fn write_entry(entry: Entry, section: &mut [u8], at: usize)
-    requires { ⌜ at + 11 ≤ length (now section) ⌝ }
+    requires { ⌜ at + entrySize ≤ length (now section) ⌝ }
     ensures { λ _. ⌜ now (section .exit) ≡ sets (now (section .entry)) at (entryBytes entry) ⌝ }
 {
-    let length = entry.length;
-    let low = (length % 256) as u8;
-    let high = (length / 256) as u8;
     section[at] = entry.kind;
     write_number(entry.set, 8, section, at + 1);
-    section[at + 9] = low;
-    section[at + 10] = high;
+    write_number(entry.length as u64, 2, section, at + 9);
 }
 
 // Stores the first count entries from the start of the section.
-fn write_section(entries: [Entry; 64], count: usize, section: &mut [u8])
-    requires { ⌜ (count ≤ 64) × (11 * count ≤ length (now section)) ⌝ }
+fn write_section(entries: [Entry; ENTRIES], count: usize, section: &mut [u8])
+    requires { ⌜ (count ≤ mostEntries) × (entrySize * count ≤ length (now section)) ⌝ }
     ensures { λ _. ⌜ now (section .exit) ≡ sets (now (section .entry)) 0 (sectionBytes (take count entries)) ⌝ }
 {
     let mut i = 0;
     while i < count {
         let entry = entries[i];
-        write_entry(entry, section, 11 * i);
+        write_entry(entry, section, ENTRY_BYTES * i);
         i += 1;
     }
 }
 
-// Stores the plan from position at, where there is room for it: the counts, then the entries into the rest of the buffer.
-fn write_plan(plan: Plan, buffer: &mut [u8], at: usize) -> usize
-    requires { ⌜ (plan .count ≤ 64) × (at + sizeOf (plan .count) ≤ length (now buffer)) ⌝ }
-    ensures { λ r. ⌜ (r ≡ sizeOf (plan .count)) × (now (buffer .exit) ≡ put (now (buffer .entry)) at (planBytes plan)) ⌝ }
+// Stores the plan from position at, where there is room for it: the counts, then the entries into the rest of the
+// buffer.
+fn write_plan(plan: Plan, buffer: &mut [u8], at: usize)
+    requires { ⌜ (plan .count ≤ mostEntries) × (at + planSize (plan .count) ≤ length (now buffer)) ⌝ }
+    ensures { λ _. ⌜ now (buffer .exit) ≡ overwritten (now (buffer .entry)) at (planBytes plan) ⌝ }
 {
     let count = plan.count as usize;
     let entries = plan.entries;
     buffer[at] = plan.processors;
     buffer[at + 1] = plan.resources;
     buffer[at + 2] = plan.count;
-    let start = at + 3;
+    let start = at + HEAD_BYTES;
     write_section(entries, count, &mut buffer[start..]);
-    3 + 11 * count
 }
 
-// "Writing a plan: 3 to 8 as above, then 16."
+// Clause 8.2: first 3 to 8 for the plan, then 16 for the room.
 fn check_writing(plan: Plan, size: usize, at: usize) -> Verdict
-    ensures { λ r. ⌜ r ≡ writeFault plan size at ⌝ }
+    ensures { λ r. ⌜ verdictNumber r ≡ writeFault plan size at ⌝ }
 {
-    let count = plan.count as usize;
-    let needed = 3 + 11 * count;
     let value = plans::check(plan);
-    let room = check_room(needed, size, at);
+    let room = check_room(plan_size(plan.count), size, at);
     first_of(value, room)
 }
 
-// Writes the plan's bytes into the buffer from position at; other bytes stay.
+// Clause 2.12: writes the plan's bytes into the buffer from position at; other bytes stay.
 // Refuses by 3 to 8 a plan value that the reader would not take, then by 16; a refusal writes nothing.
 pub fn write(plan: Plan, buffer: &mut [u8], at: usize) -> Outcome
-    ensures { λ r. ⌜ (r ≡ writeOutcome plan (now (buffer .entry)) at) × (now (buffer .exit) ≡ writtenBuffer plan (now (buffer .entry)) at) ⌝ }
+    ensures outcome { λ r. ⌜ outcomeSays r ≡ writeSays plan (now (buffer .entry)) at ⌝ }
+    ensures bytes { λ _. ⌜ now (buffer .exit) ≡ writtenBuffer plan (now (buffer .entry)) at ⌝ }
 {
     let verdict = check_writing(plan, buffer.len(), at);
+    let size = plan_size(plan.count);
     match verdict {
-        Verdict::Accepted => Outcome::Bytes(write_plan(plan, buffer, at)),
+        Verdict::Accepted => {
+            write_plan(plan, buffer, at);
+            Outcome::Bytes(size)
+        }
         Verdict::Refused(refusal) => Outcome::Refused(refusal),
     }
 }

@@ -1,15 +1,11 @@
--- What the Rattle types say of a list of bytes, of an entry and of a plan: each number fits its type. Assumes nothing.
+-- What the Rattle types say of an entry and of a plan: each number fits its type. Assumes nothing.
 use Prim.Native.Nat.{ℕ, _^_, _<_}
 use mathlib.Core.Path.{_≡_}
 use mathlib.Core.List.{List}
 use lib.ListN.{length, getD}
-use Rattle.plans.specs.Reading.{blankEntry}
+use Rattle.plans.specs.Entries.{mostEntries, blankEntry}
 use Rattle.plans.specs.declared.Entry.{Entry}
 use Rattle.plans.specs.declared.Plan.{Plan}
-
--- A slice of u8.
-abbrev pub AreBytes : List ℕ → Type 0
-AreBytes s = (i : ℕ) → i < length s → getD s i 0 < 2 ^ 8
 
 pub record Fits-entry (e : Entry) : Type 0 where
   pub kind : e .kind < 2 ^ 8
@@ -24,5 +20,5 @@ pub record Fits-plan (p : Plan) : Type 0 where
   pub processors : p .processors < 2 ^ 8
   pub resources : p .resources < 2 ^ 8
   pub count : p .count < 2 ^ 8
-  pub size : length (p .entries) ≡ 64
+  pub size : length (p .entries) ≡ mostEntries
   pub entries : (i : ℕ) → i < p .count → Fits-entry (getD (p .entries) i blankEntry)

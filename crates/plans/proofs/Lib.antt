@@ -1,12 +1,8 @@
 pub mod Flags
-pub mod Verdicts
-pub mod Room
 pub mod Counted
 pub mod Entries
 pub mod Longest
 pub mod Fits
-pub mod Numbers
-pub mod Stores
 pub mod EntryBytes
 pub mod Faults
 pub mod PlanBytes

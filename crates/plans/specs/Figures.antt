@@ -1,31 +1,30 @@
--- The two figures of a plan: document 01, "A viewer in C calls with plan bytes and gets numbers".
+-- The longest lengths and the two figures of a plan. Specification, clauses 1.7 and 6.7.
 use Prim.Native.Nat.{ℕ, _+_, _-_, _*_, max}
-use mathlib.Core.Bool.{cond}
+use mathlib.Core.Bool.{Bool, cond}
 use mathlib.Core.List.{List, [], _∷_}
-use lib.Dec.{eqb}
-use Rattle.plans.specs.Acceptance.{counted}
+use Rattle.plans.specs.Entries.{isRead, isWrite, countedEntries}
 use Rattle.plans.specs.declared.Entry.{Entry}
 use Rattle.plans.specs.declared.Plan.{Plan}
 use Rattle.plans.specs.declared.Figures.{Figures}
 
--- The longest length of the entries of a kind, 0 where there is none.
-unfoldable pub longest : ℕ → List Entry → ℕ
-longest kind [] = 0
-longest kind (e ∷ later) = max (cond (eqb (e .kind) kind) (e .length) 0) (longest kind later)
+-- The longest length of the entries that pass the test, 0 where there is none.
+unfoldable pub longest : (Entry → Bool) → List Entry → ℕ
+longest test [] = 0
+longest test (e ∷ later) = max (cond (test e) (e .length) 0) (longest test later)
 
--- Lr, the longest length of a counted read (kind 0).
+-- Clause 1.7: Lr, over the counted reads.
 abbrev pub longestRead : Plan → ℕ
-longestRead p = longest 0 (counted p)
+longestRead p = longest isRead (countedEntries p)
 
--- Lw, the longest length of a counted write (kind 1).
+-- Clause 1.7: Lw, over the counted writes.
 abbrev pub longestWrite : Plan → ℕ
-longestWrite p = longest 1 (counted p)
+longestWrite p = longest isWrite (countedEntries p)
 
--- "The read figure Lr + Lw."
+-- Clause 6.7: the read figure.
 abbrev pub readFigure : Plan → ℕ
 readFigure p = longestRead p + longestWrite p
 
--- "The write figure (m − 1) × (Lr + Lw)."
+-- Clause 6.7: the write figure, one read figure for each processor but one.
 abbrev pub writeFigure : Plan → ℕ
 writeFigure p = (p .processors - 1) * readFigure p
 

@@ -1,3 +1,4 @@
+pub mod Entries
 pub mod Acceptance
 pub mod Figures
 pub mod Reading

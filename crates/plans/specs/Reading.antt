@@ -1,78 +1,62 @@
--- What reading a plan means: document 01, "Plan and log bytes" and "Refused", 1 and 3 to 8.
-use Prim.Native.Nat.{ℕ, zero, suc, _+_, _-_, _*_}
+-- What reading a plan means, and when it is refused: 1 and 3 to 8. Specification, section 2.
+use Prim.Native.Nat.{ℕ, zero, suc, _-_}
+use mathlib.Core.Bool.{cond}
 use mathlib.Core.List.{List, [], _∷_, _++_}
-use lib.Dec.{leb}
-use lib.ListN.{length, getD, drop, replicate}
+use lib.Dec.{eqb}
+use lib.ListN.{getD, drop, replicate}
 use lib.Seq.{slice}
-use Rattle.refusals.specs.declared.Refusal.{Refusal}
-use Rattle.plans.specs.Acceptance.{firstOf, due, processorsFault, resourcesFault, countFault, entryFault}
+use Rattle.refusals.specs.Due.{Said, firstOf, said}
+use Rattle.encoding.specs.Numbers.{number}
+use Rattle.encoding.specs.Buffers.{shortFault}
+use Rattle.plans.specs.Entries.{mostEntries, headSize, entrySize, planSize, blankEntry}
+use Rattle.plans.specs.Acceptance.{processorsFault, resourcesFault, countFault, entryFault}
 use Rattle.plans.specs.declared.Entry.{Entry}
 use Rattle.plans.specs.declared.Plan.{Plan}
-use Rattle.plans.specs.declared.Verdict.{Verdict}
-use Rattle.plans.specs.declared.Outcome.{Outcome}
-use Rattle.plans.specs.declared.Read.{Read}
 
--- "Numbers are unsigned, low byte first."
-unfoldable pub number : List ℕ → ℕ
-number [] = 0
-number (b ∷ higher) = b + 256 * number higher
-
--- "Each entry is 11 bytes: kind (0 read, 1 write), set (8 bytes, bit r names resource r), length (2 bytes, 1 to 65,535 ticks)."
-unfoldable pub entryOf : List ℕ → Entry
-entryOf s = record { kind = getD s 0 0; set = number (slice 1 9 s); length = number (slice 9 11 s) }
+-- Clause 2.6: the entry at the start of the bytes s.
+unfoldable pub entryIn : List ℕ → Entry
+entryIn s = record { kind = getD s 0 0; set = number (slice 1 9 s); length = number (slice 9 entrySize s) }
 
 -- The first n entries of the bytes s.
-unfoldable pub entriesOf : ℕ → List ℕ → List Entry
-entriesOf zero s = []
-entriesOf (suc n) s = entryOf s ∷ entriesOf n (drop 11 s)
+unfoldable pub entriesIn : ℕ → List ℕ → List Entry
+entriesIn zero s = []
+entriesIn (suc n) s = entryIn s ∷ entriesIn n (drop entrySize s)
 
--- 1, "short: bytes end before a due count, entry or call".
-abbrev pub enough : ℕ → List ℕ → Verdict
-enough n s = due (leb n (length s)) Refusal.Short
-
--- The first fault of n entries in the bytes s: "within an entry 1, 6, 7, 8".
-unfoldable pub sectionFault : ℕ → ℕ → List ℕ → Verdict
-sectionFault resources zero s = Verdict.Accepted
+-- Clauses 2.9 and 8.2: the first fault of n entries in the bytes s. Each entry is due (1) before it is looked at.
+unfoldable pub sectionFault : ℕ → ℕ → List ℕ → ℕ
+sectionFault resources zero s = 0
 sectionFault resources (suc n) s =
-    firstOf (enough 11 s) (firstOf (entryFault resources (entryOf s)) (sectionFault resources n (drop 11 s)))
+    firstOf (shortFault entrySize s)
+    (firstOf (entryFault resources (entryIn s)) (sectionFault resources n (drop entrySize s)))
 
--- "The first fault in file order decides, and reading stops there."
-unfoldable pub readFault : List ℕ → Verdict
+-- Clauses 2.9 and 8.2: the first fault of the bytes s. Each count is due (1) before it is looked at, then the entries.
+unfoldable pub readFault : List ℕ → ℕ
 readFault s =
-    firstOf (enough 1 s)
+    firstOf (shortFault 1 s)
     (firstOf (processorsFault (getD s 0 0))
-    (firstOf (enough 2 s)
+    (firstOf (shortFault 2 s)
     (firstOf (resourcesFault (getD s 1 0))
-    (firstOf (enough 3 s)
-    (firstOf (countFault (getD s 2 0)) (sectionFault (getD s 1 0) (getD s 2 0) (drop 3 s)))))))
+    (firstOf (shortFault headSize s)
+    (firstOf (countFault (getD s 2 0)) (sectionFault (getD s 1 0) (getD s 2 0) (drop headSize s)))))))
 
--- What fills the places past the count.
-abbrev pub blankEntry : Entry
-blankEntry = record { kind = 0; set = 0; length = 0 }
-
--- What stands beside a refusal.
+-- Clause 2.9: the plan beside a refusal.
 abbrev pub blankPlan : Plan
-blankPlan = record { processors = 0; resources = 0; count = 0; entries = replicate 64 blankEntry }
+blankPlan = record { processors = 0; resources = 0; count = 0; entries = replicate mostEntries blankEntry }
 
--- "A plan is the first three sections, at most 707 bytes": a byte for each count, and n entries.
-abbrev pub sizeOf : ℕ → ℕ
-sizeOf n = 3 + 11 * n
-
--- The plan that stands in the bytes s.
-unfoldable pub planOf : List ℕ → Plan
-planOf s =
+-- Clauses 2.2 and 2.6: the plan that stands in the bytes s.
+unfoldable pub planIn : List ℕ → Plan
+planIn s =
     record {
       processors = getD s 0 0;
       resources = getD s 1 0;
       count = getD s 2 0;
-      entries = entriesOf (getD s 2 0) (drop 3 s) ++ replicate (64 - getD s 2 0) blankEntry;
+      entries = entriesIn (getD s 2 0) (drop headSize s) ++ replicate (mostEntries - getD s 2 0) blankEntry;
     }
 
--- "The plan reader also gives the number of bytes it took." "A refusal gives its number only."
-abbrev pub readBy : Verdict → List ℕ → Read
-readBy Verdict.Accepted s = record { outcome = Outcome.Bytes (sizeOf (getD s 2 0)); plan = planOf s }
-readBy (Verdict.Refused r) s = record { outcome = Outcome.Refused r; plan = blankPlan }
+-- Clause 2.8: how many bytes the plan took, or the refusal. Bytes behind the plan play no part.
+abbrev pub readSays : List ℕ → Said
+readSays s = said (readFault s) (planSize (getD s 2 0))
 
--- What the reader gives for the bytes s. "Bytes after a plan are not its concern."
-unfoldable pub readPlan : List ℕ → Read
-readPlan s = readBy (readFault s) s
+-- Clause 2.9: the plan beside it, the blank one where the bytes are refused.
+unfoldable pub planRead : List ℕ → Plan
+planRead s = cond (eqb (readFault s) 0) (planIn s) blankPlan

@@ -1,20 +1,16 @@
--- What writing a plan means: document 01, "Plan and log bytes" and "Refused", 3 to 8 and 16.
-use Prim.Native.Nat.{ℕ, zero, suc, _+_, _/_, _%_}
+-- What writing a plan means, and when it is refused: 3 to 8 and 16. Specification, section 2.
+use Prim.Native.Nat.{ℕ}
 use mathlib.Core.List.{List, [], _∷_, _++_}
-use lib.ListN.{length, take, drop}
-use Rattle.plans.specs.Acceptance.{firstOf, roomFor, counted, planFault}
-use Rattle.plans.specs.Reading.{sizeOf}
+use lib.ListN.{length}
+use Rattle.refusals.specs.Due.{Said, firstOf, said}
+use Rattle.encoding.specs.Numbers.{bytesOf}
+use Rattle.encoding.specs.Buffers.{roomFault, bufferAfter}
+use Rattle.plans.specs.Entries.{planSize, countedEntries}
+use Rattle.plans.specs.Acceptance.{planFault}
 use Rattle.plans.specs.declared.Entry.{Entry}
 use Rattle.plans.specs.declared.Plan.{Plan}
-use Rattle.plans.specs.declared.Verdict.{Verdict}
-use Rattle.plans.specs.declared.Outcome.{Outcome}
 
--- A number as n bytes, "low byte first".
-unfoldable pub bytesOf : ℕ → ℕ → List ℕ
-bytesOf zero x = []
-bytesOf (suc n) x = x % 256 ∷ bytesOf n (x / 256)
-
--- "Each entry is 11 bytes: kind (0 read, 1 write), set (8 bytes, bit r names resource r), length (2 bytes, 1 to 65,535 ticks)."
+-- Clause 2.6: an entry in bytes is its kind in one, its names in eight and its length in two.
 unfoldable pub entryBytes : Entry → List ℕ
 entryBytes e = e .kind ∷ bytesOf 8 (e .set) ++ bytesOf 2 (e .length)
 
@@ -23,36 +19,19 @@ unfoldable pub sectionBytes : List Entry → List ℕ
 sectionBytes [] = []
 sectionBytes (e ∷ later) = entryBytes e ++ sectionBytes later
 
--- "Sections in a fixed order, each after its count."
+-- Clause 2.2: the counts of the three sections, a byte each, and behind the last the counted entries.
 unfoldable pub planBytes : Plan → List ℕ
-planBytes p = p .processors ∷ p .resources ∷ p .count ∷ sectionBytes (counted p)
+planBytes p = p .processors ∷ p .resources ∷ p .count ∷ sectionBytes (countedEntries p)
 
--- 16, "room: fewer bytes from the position than the plan needs, position past the end".
-abbrev pub roomFault : Plan → ℕ → ℕ → Verdict
-roomFault p size at = roomFor (sizeOf (p .count)) size at
+-- Clauses 2.12 and 8.2: first 3 to 8 for the plan, then 16 for the room. The buffer has size bytes and the plan goes to
+-- position at.
+unfoldable pub writeFault : Plan → ℕ → ℕ → ℕ
+writeFault p size at = firstOf (planFault p) (roomFault (planSize (p .count)) size at)
 
--- "Writing a plan: 3 to 8 as above, then 16." The buffer has size bytes and the plan goes to position at.
-unfoldable pub writeFault : Plan → ℕ → ℕ → Verdict
-writeFault p size at = firstOf (planFault p) (roomFault p size at)
+-- Clause 2.12: how many bytes were written, or the refusal.
+abbrev pub writeSays : Plan → List ℕ → ℕ → Said
+writeSays p buffer at = said (writeFault p (length buffer) at) (planSize (p .count))
 
--- "The plan is written into the caller's buffer from a position the caller gives; other bytes stay."
-abbrev pub put : List ℕ → ℕ → List ℕ → List ℕ
-put buffer at new = take at buffer ++ (new ++ drop (at + length new) buffer)
-
--- The size of a plan that is accepted; "a refusal gives its number only".
-abbrev pub outcomeBy : Verdict → Plan → Outcome
-outcomeBy Verdict.Accepted p = Outcome.Bytes (sizeOf (p .count))
-outcomeBy (Verdict.Refused r) p = Outcome.Refused r
-
--- A refusal writes nothing.
-abbrev pub bufferBy : Verdict → Plan → List ℕ → ℕ → List ℕ
-bufferBy Verdict.Accepted p buffer at = put buffer at (planBytes p)
-bufferBy (Verdict.Refused r) p buffer at = buffer
-
--- How many bytes were written, or the refusal.
-unfoldable pub writeOutcome : Plan → List ℕ → ℕ → Outcome
-writeOutcome p buffer at = outcomeBy (writeFault p (length buffer) at) p
-
--- The buffer after writing: on a refusal the buffer as it was.
+-- Clause 2.12: the buffer after writing. Bytes beside the plan stay, and on a refusal all do.
 unfoldable pub writtenBuffer : Plan → List ℕ → ℕ → List ℕ
-writtenBuffer p buffer at = bufferBy (writeFault p (length buffer) at) p buffer at
+writtenBuffer p buffer at = bufferAfter (writeFault p (length buffer) at) (planBytes p) buffer at

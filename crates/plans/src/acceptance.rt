@@ -1,94 +1,73 @@
-// Document 01, "Refused", 3 to 8 and 16: which plan values are taken, and whether there is room.
+// Which plan values are taken, and by which number the others are refused: 3 to 8. Specification, section 2.
+use crate::ENTRIES;
 use crate::Entry;
 use crate::Plan;
-use crate::Verdict;
+use crate::RESOURCES;
+use crate::SLOTS;
+use crate::is_read;
+use crate::is_write;
 use masks::below64;
 use refusals::Refusal;
+use refusals::Verdict;
+use refusals::first_of;
+use refusals::refuse_unless;
 ghost use mathlib.Core.Path.{_≡_};
-ghost use mathlib.Core.Bool.{true};
-ghost use Prim.Native.Nat.{_+_, _≤_};
+ghost use Prim.Native.Nat.{_≤_};
 ghost use lib.ListN.{take};
-ghost use Rattle.plans.specs.Acceptance.{firstOf, within, hasRoom, roomFor, countsFault, entryFault, entriesFault, planFault};
+ghost use Rattle.refusals.specs.Number.{verdictNumber};
+ghost use Rattle.plans.specs.Entries.{mostEntries};
+ghost use Rattle.plans.specs.Acceptance.{processorsFault, resourcesFault, countFault};
+ghost use Rattle.plans.specs.Acceptance.{countsFault, entryFault, entriesFault, planFault};
 
-// The earlier of two checks decides.
-pub fn first_of(earlier: Verdict, later: Verdict) -> Verdict
-    ensures { λ r. ⌜ r ≡ firstOf earlier later ⌝ }
+// Clause 2.3: refuses by 3.
+pub fn check_processors(count: u8) -> Verdict
+    ensures { λ r. ⌜ verdictNumber r ≡ processorsFault count ⌝ }
 {
-    match earlier {
-        Verdict::Accepted => later,
-        Verdict::Refused(refusal) => Verdict::Refused(refusal),
-    }
+    refuse_unless((1 <= count) & (count <= SLOTS as u8), Refusal::Processors)
 }
 
-// Whether the number is from low to high.
-pub fn is_within(low: u8, high: u8, number: u8) -> bool
-    ensures { λ r. ⌜ r ≡ within low high number ⌝ }
+// Clause 2.4: refuses by 4.
+pub fn check_resources(count: u8) -> Verdict
+    ensures { λ r. ⌜ verdictNumber r ≡ resourcesFault count ⌝ }
 {
-    (low <= number) & (number <= high)
+    refuse_unless(
+        (1 <= count) & (count <= RESOURCES as u8),
+        Refusal::Resources,
+    )
 }
 
-// Whether a buffer of that size has so many bytes from a position. The position can be any number, so nothing is added to
-// it: the sum might not fit.
-pub fn has_room(needed: usize, size: usize, at: usize) -> bool
-    ensures is { λ r. ⌜ r ≡ hasRoom needed size at ⌝ }
-    ensures room { λ r. ⌜ (r ≡ true → at + needed ≤ size) ⌝ }
+// Clause 2.5: refuses by 5.
+pub fn check_entry_count(count: u8) -> Verdict
+    ensures { λ r. ⌜ verdictNumber r ≡ countFault count ⌝ }
 {
-    if size < at {
-        return false;
-    }
-    needed <= size - at
+    refuse_unless((1 <= count) & (count <= ENTRIES as u8), Refusal::Entries)
 }
 
-// 16, "room".
-pub fn check_room(needed: usize, size: usize, at: usize) -> Verdict
-    ensures { λ r. ⌜ r ≡ roomFor needed size at ⌝ }
+// The three counts in the order of their bytes.
+fn check_counts(processors: u8, resources: u8, count: u8) -> Verdict
+    ensures { λ r. ⌜ verdictNumber r ≡ countsFault processors resources count ⌝ }
 {
-    if has_room(needed, size, at) {
-        Verdict::Accepted
-    } else {
-        Verdict::Refused(Refusal::Room)
-    }
-}
-
-// The three counts: 3, 4, 5.
-pub fn check_counts(processors: u8, resources: u8, count: u8) -> Verdict
-    ensures { λ r. ⌜ r ≡ countsFault processors resources count ⌝ }
-{
-    if !is_within(1, 16, processors) {
-        return Verdict::Refused(Refusal::Processors);
-    }
-    if !is_within(1, 64, resources) {
-        return Verdict::Refused(Refusal::Resources);
-    }
-    if !is_within(1, 64, count) {
-        return Verdict::Refused(Refusal::Entries);
-    }
-    Verdict::Accepted
+    let first = check_processors(processors);
+    let second = check_resources(resources);
+    let third = check_entry_count(count);
+    first_of(first, first_of(second, third))
 }
 
 // An entry of a plan with so many resources: 6, 7, 8.
 pub fn check_entry(entry: Entry, resources: u8) -> Verdict
-    ensures { λ r. ⌜ r ≡ entryFault resources entry ⌝ }
+    ensures { λ r. ⌜ verdictNumber r ≡ entryFault resources entry ⌝ }
 {
-    if 1 < entry.kind {
-        return Verdict::Refused(Refusal::Kind);
-    }
-    if entry.set == 0 {
-        return Verdict::Refused(Refusal::Set);
-    }
-    if !below64(entry.set, resources as u32) {
-        return Verdict::Refused(Refusal::Set);
-    }
-    if entry.length == 0 {
-        return Verdict::Refused(Refusal::Length);
-    }
-    Verdict::Accepted
+    let kind = refuse_unless(is_read(entry) | is_write(entry), Refusal::Kind);
+    let named = (entry.set != 0) & below64(entry.set, resources as u32);
+    let set = refuse_unless(named, Refusal::Set);
+    let length = refuse_unless(0 < entry.length, Refusal::Length);
+    first_of(kind, first_of(set, length))
 }
 
 // The first fault of the counted entries, in their order.
-fn check_entries(entries: [Entry; 64], count: u8, resources: u8) -> Verdict
-    requires { ⌜ count ≤ 64 ⌝ }
-    ensures { λ r. ⌜ r ≡ entriesFault resources (take count entries) ⌝ }
+fn check_entries(entries: [Entry; ENTRIES], count: u8, resources: u8) -> Verdict
+    requires { ⌜ count ≤ mostEntries ⌝ }
+    ensures { λ r. ⌜ verdictNumber r ≡ entriesFault resources (take count entries) ⌝ }
 {
     let mut i: u8 = 0;
     loop {
@@ -104,9 +83,9 @@ fn check_entries(entries: [Entry; 64], count: u8, resources: u8) -> Verdict
     }
 }
 
-// Any plan value: "refused there by the same number, 3 to 8". A count above 64 is refused before an entry is looked at.
+// Clause 2.10: any plan value, by the reader's number. A count above 64 is refused before an entry is looked at.
 pub fn check(plan: Plan) -> Verdict
-    ensures { λ r. ⌜ r ≡ planFault plan ⌝ }
+    ensures { λ r. ⌜ verdictNumber r ≡ planFault plan ⌝ }
 {
     let entries = plan.entries;
     let verdict = check_counts(plan.processors, plan.resources, plan.count);

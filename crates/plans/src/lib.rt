@@ -1,24 +1,38 @@
 // Plan values: three counts and up to 64 entries, by value, so that a caller can make any of them.
 // Which values are taken, and the two figures of a plan. `plan_reader` and `plan_writer` carry plans from and to bytes.
-use refusals::Refusal;
+use encoding::Outcome;
 
 mod acceptance;
+mod shape;
 mod waits;
 
 pub use acceptance::check;
-pub use acceptance::check_counts;
 pub use acceptance::check_entry;
-// What other crates' checks are made of.
-pub use acceptance::check_room;
-pub use acceptance::first_of;
-pub use acceptance::has_room;
-pub use acceptance::is_within;
+// The three counts by themselves, for a reader that meets them one by one.
+pub use acceptance::check_entry_count;
+pub use acceptance::check_processors;
+pub use acceptance::check_resources;
 // How many entries of a plan value count: for loops over them.
-pub use waits::counted_of;
+pub use shape::counted_of;
+pub use shape::is_read;
+pub use shape::is_write;
+pub use shape::plan_size;
 pub use waits::figures_of;
+
+// The most processors of a plan: so many requests a state holds.
+pub const SLOTS: usize = 16;
+
+// The most resources that a plan has.
+pub const RESOURCES: usize = 64;
 
 // The most entries that a plan has.
 pub const ENTRIES: usize = 64;
+
+// The bytes of the three counts.
+pub const HEAD_BYTES: usize = 3;
+
+// The bytes of an entry.
+pub const ENTRY_BYTES: usize = 11;
 
 // What a request asks for: kind 0 reads and kind 1 writes, bit r of the set names resource r, length is in ticks.
 pub struct Entry {
@@ -32,19 +46,7 @@ pub struct Plan {
     pub processors: u8,
     pub resources: u8,
     pub count: u8,
-    pub entries: [Entry; 64],
-}
-
-// Whether a plan, a count or an entry is taken.
-pub enum Verdict {
-    Accepted,
-    Refused(Refusal),
-}
-
-// What reading or writing a plan answers: how many bytes it took, or the refusal.
-pub enum Outcome {
-    Bytes(usize),
-    Refused(Refusal),
+    pub entries: [Entry; ENTRIES],
 }
 
 // A plan that was read. Where the outcome is a refusal, the plan is the blank one.

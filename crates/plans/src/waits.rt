@@ -1,20 +1,17 @@
 // The figures of a plan: the longest that a read and a write wait.
+use crate::ENTRIES;
 use crate::Entry;
 use crate::Figures;
 use crate::Plan;
+use crate::counted_of;
+use crate::is_read;
+use crate::is_write;
 ghost use mathlib.Core.Path.{_≡_};
 ghost use mathlib.Core.Bool.{cond};
-ghost use Prim.Native.Nat.{_-_, _<_, _≤_, min, max};
-ghost use lib.Dec.{eqb};
+ghost use Prim.Native.Nat.{_-_, _<_, _≤_, max};
 ghost use lib.ListN.{take};
+ghost use Rattle.plans.specs.Entries.{mostEntries, isRead, isWrite};
 ghost use Rattle.plans.specs.Figures.{longest, figuresOf};
-
-// How many entries count: a plan has no more than 64.
-pub fn counted_of(count: u8) -> u8
-    ensures { λ r. ⌜ r ≡ min count 64 ⌝ }
-{
-    if count < 64 { count } else { 64 }
-}
 
 // The longer of two lengths.
 fn longer(a: u32, b: u32) -> u32
@@ -23,28 +20,36 @@ fn longer(a: u32, b: u32) -> u32
     if a < b { b } else { a }
 }
 
-// The length of an entry of the kind, 0 for another.
-fn length_as(entry: Entry, kind: u8) -> u32
-    ensures is { λ r. ⌜ r ≡ cond (eqb (entry .kind) kind) (entry .length) 0 ⌝ }
-    ensures small { λ r. ⌜ r < 65536 ⌝ }
+// Whether the entry is a write, or whether it is a read.
+fn is_asked(entry: Entry, writes: bool) -> bool
+    ensures { λ r. ⌜ r ≡ cond writes isWrite isRead entry ⌝ }
 {
-    if entry.kind == kind {
-        entry.length as u32
+    if writes {
+        is_write(entry)
     } else {
-        0
+        is_read(entry)
     }
 }
 
-// The longest length of the counted entries of a kind, 0 where there is none.
-fn longest_of(entries: [Entry; 64], count: u8, kind: u8) -> u32
-    requires { ⌜ count ≤ 64 ⌝ }
-    ensures is { λ r. ⌜ r ≡ longest kind (take count entries) ⌝ }
+// The length of an entry that is asked for, 0 for another.
+fn length_if(asked: bool, entry: Entry) -> u32
+    ensures is { λ r. ⌜ r ≡ cond asked (entry .length) 0 ⌝ }
+    ensures small { λ r. ⌜ r < 65536 ⌝ }
+{
+    if asked { entry.length as u32 } else { 0 }
+}
+
+// The longest length of the counted writes, or of the counted reads; 0 where there is none.
+fn longest_of(entries: [Entry; ENTRIES], count: u8, writes: bool) -> u32
+    requires { ⌜ count ≤ mostEntries ⌝ }
+    ensures is { λ r. ⌜ r ≡ longest (cond writes isWrite isRead) (take count entries) ⌝ }
     ensures small { λ r. ⌜ r < 65536 ⌝ }
 {
     let mut best: u32 = 0;
     let mut i: u8 = 0;
     while i < count {
-        best = longer(best, length_as(entries[i as usize], kind));
+        let entry = entries[i as usize];
+        best = longer(best, length_if(is_asked(entry, writes), entry));
         i += 1;
     }
     best
@@ -63,8 +68,8 @@ pub fn figures_of(plan: Plan) -> Figures
 {
     let entries = plan.entries;
     let count = counted_of(plan.count);
-    let longest_read = longest_of(entries, count, 0);
-    let longest_write = longest_of(entries, count, 1);
+    let longest_read = longest_of(entries, count, false);
+    let longest_write = longest_of(entries, count, true);
     let read = longest_read + longest_write;
     let others = one_less(plan.processors);
     let write = others as u32 * read;

@@ -1,8 +1,10 @@
--- Document 01, "Refused": the number of each word of the table.
+-- The numbers of the words of refusal. Specification, section 8.
 use Prim.Native.Nat.{ℕ}
 use Rattle.refusals.specs.declared.Refusal.{Refusal}
 use Rattle.refusals.specs.declared.Refusal.the-variants.{Short, Tail, Processors, Resources, Entries, Kind, Set, Length, Verb, Tick, Processor, Entry, Busy, Idle, Unheld, Room}
+use Rattle.refusals.specs.declared.Verdict.{Verdict}
 
+-- Clause 8.1: one number for each word of the table.
 abbrev pub numberOf : Refusal → ℕ
 numberOf Short = 1
 numberOf Tail = 2
@@ -20,3 +22,8 @@ numberOf Busy = 13
 numberOf Idle = 14
 numberOf Unheld = 15
 numberOf Room = 16
+
+-- A verdict in numbers: 0 if accepted, else the refusal's number.
+abbrev pub verdictNumber : Verdict → ℕ
+verdictNumber Verdict.Accepted = 0
+verdictNumber (Verdict.Refused r) = numberOf r

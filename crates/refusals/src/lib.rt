@@ -1,43 +1,50 @@
-// Why a plan, a log record, a query or a call is refused: a variant for each word of document 01's table, and its number.
+// Why a plan, a log record, a query or a call is refused: a variant and a number for each word of clause 8.1.
 ghost use mathlib.Core.Path.{_≡_};
-ghost use Rattle.refusals.specs.Number.{numberOf};
+ghost use Rattle.refusals.specs.Number.{numberOf, verdictNumber};
+ghost use Rattle.refusals.specs.Due.{due, firstOf};
 
 pub enum Refusal {
-    // Bytes end before a due count, entry or call.
+    // Bytes end before a count, an entry or a call that is due.
     Short,
-    // Bytes follow the last call of a log.
+    // Bytes stand behind the last call of a log.
     Tail,
-    // A processor count outside 1 to 16.
+    // A count of processors that is not 1 to 16.
     Processors,
-    // A resource count outside 1 to 64.
+    // A count of resources that is not 1 to 64.
     Resources,
-    // An entry count outside 1 to 64.
+    // A count of entries that is not 1 to 64.
     Entries,
-    // A kind above 1.
+    // A kind that is neither 0 nor 1.
     Kind,
-    // A set that is empty, or names a resource not counted.
+    // No names, or one that is not counted.
     Set,
     // A length of 0.
     Length,
-    // A verb above 1, or complete with a nonzero entry.
+    // A verb that is neither 0 nor 1, or a completion with an entry.
     Verb,
-    // A tick below the last accepted one, or above 1,099,511,627,775.
+    // A tick below the last accepted one, or above the largest.
     Tick,
-    // A processor that is m or above.
+    // A processor that is not the plan's.
     Processor,
-    // An entry that is not in the plan.
+    // An entry that is not the plan's.
     Entry,
     // An issue while the processor's request is active.
     Busy,
     // A completion with no active request.
     Idle,
-    // A completion while unsatisfied.
+    // A completion while the request is unsatisfied.
     Unheld,
-    // Too few bytes from the position, a position past the end, or a scratch below 256.
+    // Too few bytes from the position, a position past the end, or a scratch that is too short.
     Room,
 }
 
-// The number of a refusal in document 01's table.
+// Whether something is taken: a plan, an entry, a record, a call.
+pub enum Verdict {
+    Accepted,
+    Refused(Refusal),
+}
+
+// Clause 8.1: the number of a refusal.
 pub fn number(refusal: Refusal) -> u8
     ensures { λ r. ⌜ r ≡ numberOf refusal ⌝ }
 {
@@ -58,5 +65,26 @@ pub fn number(refusal: Refusal) -> u8
         Refusal::Idle => 14,
         Refusal::Unheld => 15,
         Refusal::Room => 16,
+    }
+}
+
+// Refuses unless the test holds.
+pub fn refuse_unless(holds: bool, refusal: Refusal) -> Verdict
+    ensures { λ r. ⌜ verdictNumber r ≡ due holds (numberOf refusal) ⌝ }
+{
+    if holds {
+        Verdict::Accepted
+    } else {
+        Verdict::Refused(refusal)
+    }
+}
+
+// The earlier of two checks decides.
+pub fn first_of(earlier: Verdict, later: Verdict) -> Verdict
+    ensures { λ r. ⌜ verdictNumber r ≡ firstOf (verdictNumber earlier) (verdictNumber later) ⌝ }
+{
+    match earlier {
+        Verdict::Accepted => later,
+        Verdict::Refused(refusal) => Verdict::Refused(refusal),
     }
 }

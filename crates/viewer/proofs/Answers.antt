@@ -2,28 +2,29 @@
 use Prim.Native.Nat.{ℕ}
 use mathlib.Core.Path.{_≡_, ap, _∙_}
 use mathlib.Core.List.{List}
+use Rattle.refusals.specs.declared.Refusal.{Refusal}
+use Rattle.refusals.specs.Due.{said}
+use Rattle.refusals.proofs.Numbers.{number-not-zero}
+use Rattle.encoding.specs.declared.Outcome.{Outcome}
+use Rattle.encoding.specs.Buffers.{outcomeSays}
 use Rattle.plans.specs.Figures.{figuresOf}
-use Rattle.plans.specs.Reading.{readPlan}
+use Rattle.plans.specs.Reading.{readFault, readSays, planRead}
 use Rattle.plans.specs.declared.Figures.{Figures}
 use Rattle.plans.specs.declared.Read.{Read}
-use Rattle.viewer.specs.Viewer.{numberBy, figureBy, planRefusal, planReadFigure, planWriteFigure}
 
-module _ (s : List ℕ) (read : Read) (is-read : read ≡ readPlan s) where
-  pub is-refusal : (x : ℕ) → x ≡ numberBy (read .outcome) → x ≡ planRefusal s
-  unfolding planRefusal
-  is-refusal x e = e ∙ ap (λ r. numberBy (r .outcome)) is-read
+-- A value beside an outcome that is known.
+pub value-read : (o : Outcome) (n x : ℕ) → o ≡ Outcome.Bytes n → x ≡ said (outcomeSays o .number) x .value
+value-read o n x e = rw e
 
-  module _ (figures : Figures) (are-figures : figures ≡ figuresOf (read .plan)) where
-    pub is-read-figure : (x : ℕ) → x ≡ figureBy (read .outcome) (figures .read) → x ≡ planReadFigure s
-    unfolding planReadFigure figuresOf
-    is-read-figure x e =
-        e
-        ∙ ap (λ f. figureBy (read .outcome) (f .read)) are-figures
-        ∙ ap (λ r. figureBy (r .outcome) (figuresOf (r .plan) .read)) is-read
+pub value-refused : (o : Outcome) (r : Refusal) (x : ℕ) → o ≡ Outcome.Refused r → 0 ≡ said (outcomeSays o .number) x .value
+value-refused o r x e = rw (e, number-not-zero r)
 
-    pub is-write-figure : (x : ℕ) → x ≡ figureBy (read .outcome) (figures .write) → x ≡ planWriteFigure s
-    unfolding planWriteFigure figuresOf
-    is-write-figure x e =
-        e
-        ∙ ap (λ f. figureBy (read .outcome) (f .write)) are-figures
-        ∙ ap (λ r. figureBy (r .outcome) (figuresOf (r .plan) .write)) is-read
+-- Whichever figure is picked, of the plan that was read.
+pub is-figure : (s : List ℕ) (read : Read) → outcomeSays (read .outcome) ≡ readSays s
+    → (pick : Figures → ℕ) (figures : Figures) → read .plan ≡ planRead s → figures ≡ figuresOf (read .plan)
+    → (x : ℕ) → x ≡ said (outcomeSays (read .outcome) .number) (pick figures) .value
+    → x ≡ said (readFault s) (pick (figuresOf (planRead s))) .value
+is-figure s read says pick figures plan are x e =
+    e
+    ∙ ap (λ n. said n (pick figures) .value) (ap (λ a. a .number) says)
+    ∙ ap (λ f. said (readFault s) (pick f) .value) (are ∙ ap figuresOf plan)

@@ -1,29 +1,18 @@
--- Document 01, "Queries": "A viewer in C calls with plan bytes and gets numbers."
+-- What the viewer's functions answer of the plan in some bytes. Specification, clause 7.6.
 use Prim.Native.Nat.{ℕ}
 use mathlib.Core.List.{List}
-use Rattle.refusals.specs.Number.{numberOf}
-use Rattle.plans.specs.declared.Outcome.{Outcome}
+use Rattle.refusals.specs.Due.{said}
 use Rattle.plans.specs.Figures.{readFigure, writeFigure}
-use Rattle.plans.specs.Reading.{readPlan}
+use Rattle.plans.specs.Reading.{readFault, planRead}
 
--- "The refusal number (0 if accepted)."
-abbrev pub numberBy : Outcome → ℕ
-numberBy (Outcome.Bytes n) = 0
-numberBy (Outcome.Refused r) = numberOf r
+-- Clause 7.6: the refusal number, 0 if the plan is accepted.
+abbrev pub planRefusal : List ℕ → ℕ
+planRefusal s = readFault s
 
--- "A refused plan has figures 0; an accepted one can too."
-abbrev pub figureBy : Outcome → ℕ → ℕ
-figureBy (Outcome.Bytes n) figure = figure
-figureBy (Outcome.Refused r) figure = 0
-
--- The refusal number of the plan in the bytes.
-unfoldable pub planRefusal : List ℕ → ℕ
-planRefusal s = numberBy (readPlan s .outcome)
-
--- "The read figure Lr + Lw" of the plan in the bytes.
+-- Clause 7.6: the read figure, and 0 for a refused plan. The figure of an accepted plan can be 0 too.
 unfoldable pub planReadFigure : List ℕ → ℕ
-planReadFigure s = figureBy (readPlan s .outcome) (readFigure (readPlan s .plan))
+planReadFigure s = said (readFault s) (readFigure (planRead s)) .value
 
--- "The write figure (m − 1) × (Lr + Lw)" of the plan in the bytes.
+-- Clause 7.6: the write figure, and 0 for a refused plan.
 unfoldable pub planWriteFigure : List ℕ → ℕ
-planWriteFigure s = figureBy (readPlan s .outcome) (writeFigure (readPlan s .plan))
+planWriteFigure s = said (readFault s) (writeFigure (planRead s)) .value

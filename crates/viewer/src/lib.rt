@@ -1,12 +1,14 @@
 // What a viewer in C calls: plan bytes in, a number out. include/bittmelon.h declares these functions.
 // A refused plan has figures 0, and an accepted one can too: ask for the refusal number first.
-use plans::Outcome;
+use encoding::Outcome;
 ghost use mathlib.Core.Path.{_≡_};
-ghost use Rattle.viewer.specs.Viewer.{numberBy, figureBy, planRefusal, planReadFigure, planWriteFigure};
+ghost use Rattle.refusals.specs.Due.{said};
+ghost use Rattle.encoding.specs.Buffers.{outcomeSays};
+ghost use Rattle.viewer.specs.Viewer.{planRefusal, planReadFigure, planWriteFigure};
 
 // 0 where the plan was read, else the refusal's number.
 fn number_of(outcome: Outcome) -> u32
-    ensures { λ r. ⌜ r ≡ numberBy outcome ⌝ }
+    ensures { λ r. ⌜ r ≡ outcomeSays outcome .number ⌝ }
 {
     match outcome {
         Outcome::Bytes(_) => 0,
@@ -16,7 +18,7 @@ fn number_of(outcome: Outcome) -> u32
 
 // The figure where the plan was read, else 0.
 fn figure_or_zero(outcome: Outcome, figure: u32) -> u32
-    ensures { λ r. ⌜ r ≡ figureBy outcome figure ⌝ }
+    ensures { λ r. ⌜ r ≡ said (outcomeSays outcome .number) figure .value ⌝ }
 {
     match outcome {
         Outcome::Bytes(_) => figure,

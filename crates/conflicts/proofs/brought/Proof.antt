@@ -3,14 +3,11 @@ use borrow.Author.Needs.{needs}
 use Rattle.conflicts.proofs.brought.Statement.{statement}
 use Rattle.conflicts.proofs.brought.Tie as tie
 
-meet64-requires : tie.Need-meet64-requires
-meet64-requires c κs = search needs
-
 returns : tie.Need-returns
-returns c = rw (← c .before .meet64 .ensures, c .if1 .taken)
+returns c = rw (← c .before .before .is-read .ensures, ← c .before .meet64 .ensures, c .if1 .taken)
 
 returns-2 : tie.Need-returns-2
-returns-2 c = rw (← c .before .meet64 .ensures, c .if1 .left)
+returns-2 c = rw (← c .before .before .is-read .ensures, ← c .before .meet64 .ensures, c .if1 .left)
 
 pub brought-spec : {M : Type 1} → statement M
-brought-spec = tie.close (tie.spec meet64-requires returns returns-2)
+brought-spec = tie.close (tie.spec (λ c κs. search needs) (λ c κs. search needs) returns returns-2)

@@ -3,21 +3,47 @@ use borrow.Author.Needs.{needs}
 use Rattle.conflicts.proofs.pair_conflicts.Statement.{statement}
 use Rattle.conflicts.proofs.pair_conflicts.Tie as tie
 
-meet64-requires : tie.Need-meet64-requires
-meet64-requires c κs = search needs
-
 returns : tie.Need-returns
-returns c = rw (c .before .if1 .taken) (c .meet64 .ensures)
+returns c =
+    rw (← c .before .before .before .is-write .ensures, ← c .before .before .is-write2 .ensures, c .before .if1 .taken)
+    (c .meet64 .ensures)
 
 returns-2 : tie.Need-returns-2
-returns-2 c = rw (c .before .before .before .if1 .left, c .if2 .taken)
-
-meet64-requires-2 : tie.Need-meet64-requires-2
-meet64-requires-2 c κs = search needs
+returns-2 c =
+    let writes = c .before .before .before in
+    rw (
+      ← writes .before .before .is-write .ensures,
+      ← writes .before .is-write2 .ensures,
+      writes .if1 .left,
+      ← c .before .before .is-read .ensures,
+      ← c .before .is-read2 .ensures,
+      c .if2 .taken,
+    )
 
 returns-3 : tie.Need-returns-3
-returns-3 c = rw (c .before .before .before .before .if1 .left, c .before .if2 .left) (c .meet642 .ensures)
+returns-3 c =
+    let reads = c .before in
+    let writes = reads .before .before .before in
+    rw (
+      ← writes .before .before .is-write .ensures,
+      ← writes .before .is-write2 .ensures,
+      writes .if1 .left,
+      ← reads .before .before .is-read .ensures,
+      ← reads .before .is-read2 .ensures,
+      reads .if2 .left,
+    )
+    (c .meet642 .ensures)
 
 pub pair-conflicts-spec : {M : Type 1} → statement M
 pair-conflicts-spec =
-    tie.close (tie.spec meet64-requires returns returns-2 meet64-requires-2 returns-3)
+    tie.close
+    (tie.spec
+    (λ c κs. search needs)
+    (λ c κs. search needs)
+    (λ c κs. search needs)
+    returns
+    (λ c κs. search needs)
+    (λ c κs. search needs)
+    returns-2
+    (λ c κs. search needs)
+    returns-3)

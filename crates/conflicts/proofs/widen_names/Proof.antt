@@ -4,7 +4,7 @@ use Prim.Native.Nat.{_≤_, min}
 use native.Mathlib.Omega.{arith}
 use mathlib.Core.Path.{_≡_, sym}
 use lib.ListN.{length, drop, length-map}
-use Rattle.plans.specs.Acceptance.{counted}
+use Rattle.plans.specs.Entries.{mostEntries, countedEntries}
 use Rattle.conflicts.specs.Conflict.{widen}
 use Rattle.conflicts.proofs.Widening.{widened-by-none, widened-by-next}
 use borrow.Author.Needs.{needs}
@@ -12,41 +12,20 @@ use Rattle.conflicts.proofs.widen_names.Statement.{statement}
 use Rattle.conflicts.proofs.widen_names.Tie as tie
 
 abbrev Inv-loop : tie.InvT-loop
-Inv-loop names plan out₀ i₀ out i = (i ≤ min (plan .count) 64) × (out ≡ widen names (drop i (counted plan)))
+Inv-loop names plan out₀ i₀ out i = (i ≤ min (plan .count) mostEntries) × (out ≡ widen names (drop i (countedEntries plan)))
 
 abbrev μ-loop : tie.MeasureT-loop
 μ-loop names plan out₀ i₀ out i = i
 
-counted-of-requires : tie.Need-counted-of-requires Inv-loop μ-loop
-counted-of-requires c κs = search needs
-
 loop-holds : tie.Need-loop-holds Inv-loop μ-loop
 loop-holds c =
-    let full : length (c .before .args .t1 .entries) ≡ 64 =
+    let full : length (c .before .args .t1 .entries) ≡ mostEntries =
     simp length-map at (c .before .good .0 .1 .1 .1 .1 .1 .0 .1 .0 .1) in
     (omega arith, rw (c .counted-of .ensures) (sym (widened-by-none (c .before .args .t1) _ full)))
 
-sub-i : tie.Need-sub-i Inv-loop μ-loop
-sub-i c = search needs
-
-cast-entry : tie.Need-cast-entry Inv-loop μ-loop
-cast-entry c = search needs
-
-mul-entry : tie.Need-mul-entry Inv-loop μ-loop
-mul-entry c = search needs
-
-element-copy-out-entry : tie.Need-element-copy-out-entry Inv-loop μ-loop
-element-copy-out-entry c = search needs
-
-brought-requires : tie.Need-brought-requires Inv-loop μ-loop
-brought-requires c κs = search needs
-
-loop-less : tie.Need-loop-less Inv-loop μ-loop
-loop-less c = search needs
-
 loop-again : tie.Need-loop-again Inv-loop μ-loop
 loop-again c =
-    let full : length (c .before .before .before .before .before .args .t1 .entries) ≡ 64 =
+    let full : length (c .before .before .before .before .before .args .t1 .entries) ≡ mostEntries =
     simp length-map at (c .before .before .before .before .before .good .0 .1 .1 .1 .1 .1 .0 .1 .0 .1) in (
       omega arith,
       widened-by-next (c .before .before .before .before .before .args .t1) _ full _ _ _ (c .before .before .loop-test .taken)
@@ -64,13 +43,13 @@ widen-names-spec =
     (tie.spec
     Inv-loop
     μ-loop
-    counted-of-requires
+    (λ c κs. search needs)
     loop-holds
-    sub-i
-    cast-entry
-    mul-entry
-    element-copy-out-entry
-    brought-requires
-    loop-less
+    (λ c. search needs)
+    (λ c. search needs)
+    (λ c. search needs)
+    (λ c. search needs)
+    (λ c κs. search needs)
+    (λ c. search needs)
     loop-again
     returns)

@@ -1,11 +1,13 @@
 -- `read_entries` reads the entries and stops at the first fault. The invariant is `SoFar`. Assumes nothing.
 use Prim.Native.Nat.{_-_}
-use mathlib.Core.Path.{sym, _∙_}
+use mathlib.Core.Path.{ap, _∙_}
 use mathlib.Core.Logic.{⊎-elim}
 use native.Mathlib.Omega.{arith}
 use borrow.Author.Needs.{needs}
 use lib.ListN.{getD}
-use Rattle.plan_reader.proofs.Section.{SoFar, nothing-read, Left, all-read, too-short, faulty, one-more-read, read-whole, refused-only}
+use Rattle.refusals.specs.Number.{verdictNumber}
+use Rattle.plan_reader.proofs.Answers.{refused-only}
+use Rattle.plan_reader.proofs.Section.{SoFar, nothing-read, Left, all-read, too-short, faulty, one-more-read, read-whole}
 use Rattle.plan_reader.proofs.read_entries.Statement.{statement}
 use Rattle.plan_reader.proofs.read_entries.Tie as tie
 
@@ -40,12 +42,6 @@ part-entry-of-start c = omega arith
 part-entry-of-end : tie.Need-part-entry-of-end Inv-loop μ-loop
 part-entry-of-end c = omega arith
 
-entry-of-requires : tie.Need-entry-of-requires Inv-loop μ-loop
-entry-of-requires c κs = search needs
-
-check-entry-requires : tie.Need-check-entry-requires Inv-loop μ-loop
-check-entry-requires c κs = search needs
-
 enum-known-found : tie.Need-enum-known-found Inv-loop μ-loop
 enum-known-found c = c .match .keys1
 
@@ -71,19 +67,20 @@ loop-again : tie.Need-loop-again Inv-loop μ-loop
 loop-again c =
     let called = c .before .before in
     let at-loop = c .before .before .before .before .before .before .before in
-    one-more-read _ _ _ _ _ _ (at-loop .loop .inv) (omega arith) (omega arith) _
-    (called .before .entry-of .ensures) (omega arith) (sym (called .check-entry .ensures) ∙ c .enum-told .given .1)
+    one-more-read _ _ _ _ _ _ (at-loop .loop .inv) (omega arith) (omega arith) _ (called .before .entry-of .ensures)
+    _ (called .check-entry .ensures) (omega arith) (c .enum-told .given .1)
 
 -- The three ways out: all entries are read, the bytes end, or an entry has a fault.
 left : (c : tie.Joined1 Inv-loop μ-loop)
-    → (let bytes = c .before .before .before .before .before .args .bytes .now in Left (getD bytes 1 0) (getD bytes 2 0) bytes (c .before .loop .i) (c .if1 .verdict))
+    → (let bytes = c .before .before .before .before .before .args .bytes .now in
+    Left (getD bytes 1 0) (getD bytes 2 0) bytes (c .before .loop .i) (c .if1 .verdict))
 left c =
     let h = c .before .loop .inv in
     ⊎-elim
     (λ w. all-read _ _ _ _ _ _ h (w .0 .taken) (w .1))
     (⊎-elim
     (λ w. too-short _ _ _ _ _ _ h (omega arith) (w .1 .taken) (w .2))
-    (λ w. faulty _ _ _ _ _ _ h (omega arith) (w .1 .left) _ (w .3 .ensures) (sym (w .4 .ensures) ∙ w .6 .given .1) (w .8)))
+    (λ w. faulty _ _ _ _ _ _ h (omega arith) (w .1 .left) _ (w .3 .ensures) _ (w .4 .ensures) (w .6 .given .1) (w .8)))
     (c .if1 .came)
 
 enum-told-2 : tie.Need-enum-told-2 Inv-loop μ-loop
@@ -98,14 +95,15 @@ shared-slice-read-t31 c = omega arith
 enum-known-verdict : tie.Need-enum-known-verdict Inv-loop μ-loop
 enum-known-verdict c = c .match2 .keys2
 
-refused-requires : tie.Need-refused-requires Inv-loop μ-loop
-refused-requires c κs = search needs
-
 returns : tie.Need-returns Inv-loop μ-loop
-returns c = read-whole _ _ _ (left (c .before .before .before .before)) _ _ (c .before .before .before .before .before .loop .inv) (c .before .before .enum-told2 .given .1)
+returns c =
+    read-whole _ _ _ (left (c .before .before .before .before)) _ _ (c .before .before .before .before .before .loop .inv)
+    (c .before .before .enum-told2 .given .1)
 
 returns-2 : tie.Need-returns-2 Inv-loop μ-loop
-returns-2 c = refused-only _ _ _ (left (c .before .before .before .before)) _ _ (c .refused .ensures) (c .before .before .verdict .given .1)
+returns-2 c =
+    let fault = left (c .before .before .before .before) .whole ∙ ap verdictNumber (c .before .before .verdict .given .1) in
+    refused-only _ _ (c .refused .ensures) _ fault _ _
 
 pub read-entries-spec : {M : Type 1} → statement M
 read-entries-spec =
@@ -121,8 +119,8 @@ read-entries-spec =
     sub-entry-of
     part-entry-of-start
     part-entry-of-end
-    entry-of-requires
-    check-entry-requires
+    (λ c κs. search needs)
+    (λ c κs. search needs)
     enum-known-found
     enum-told
     mul-entries
@@ -135,6 +133,6 @@ read-entries-spec =
     shared-slice-read-t29
     shared-slice-read-t31
     enum-known-verdict
-    refused-requires
+    (λ c κs. search needs)
     returns
     returns-2)

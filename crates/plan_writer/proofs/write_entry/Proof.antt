@@ -1,55 +1,31 @@
--- `plan_writer::write_entry` meets its contract: its stores are the entry's 11 bytes. Assumes nothing.
-use native.Mathlib.Omega.{arith}
+-- `write_entry` meets its contract: its stores are the entry's 11 bytes. Assumes nothing.
+use mathlib.Core.Path.{_∙_}
 use lib.ListN.{length-set}
-use Rattle.plan_writer.proofs.Stores.{entry-stores}
+use Rattle.plan_writer.proofs.Stores.{entry-written}
+use borrow.Author.Needs.{needs}
 use Rattle.plan_writer.proofs.write_entry.Statement.{statement}
 use Rattle.plan_writer.proofs.write_entry.Tie as tie
 
-cast-low : tie.Need-cast-low
-cast-low c = omega arith
-
-cast-high : tie.Need-cast-high
-cast-high c = omega arith
-
-slice-write-section : tie.Need-slice-write-section
-slice-write-section c = omega arith
-
-add-write-number : tie.Need-add-write-number
-add-write-number c = omega arith
-
-write-number-requires : tie.Need-write-number-requires
-write-number-requires c κs = simp length-set (omega arith)
-
-add-section : tie.Need-add-section
-add-section c = omega arith
-
-slice-write-section-2 : tie.Need-slice-write-section-2
-slice-write-section-2 c = omega (arith, simp length-set at (c .before .before .write-number .kept .1 .1 .0))
-
-add-section-2 : tie.Need-add-section-2
-add-section-2 c = omega arith
-
-slice-write-section-3 : tie.Need-slice-write-section-3
-slice-write-section-3 c = simp length-set (omega (arith, simp length-set at (c .before .before .write-number .kept .1 .1 .0)))
-
 same-length : tie.Need-same-length
-same-length c = simp length-set (simp length-set at (c .before .before .write-number .kept .1 .1 .0))
+same-length c =
+    let first = c .before .before .before .before .before .before .before in
+    c .before .before .write-number2 .kept .1 .1 .0 ∙ simp length-set at (first .write-number .kept .1 .1 .0)
 
 returns : tie.Need-returns
-returns c = rw (c .before .before .write-number .ensures) (entry-stores _ _ _ (omega arith))
+returns c =
+    let first = c .before .before .before .before .before .before .before in
+    let start = first .before .before .before in
+    entry-written _ _ (start .args .entry) _ _ (start .pre) (first .write-number .ensures .1) (c .before .before .write-number2 .ensures .1)
 
 pub write-entry-spec : {M : Type 1} → statement M
 write-entry-spec =
     tie.close
     (tie.spec
-    cast-low
-    cast-high
-    slice-write-section
-    add-write-number
-    write-number-requires
-    add-section
-    slice-write-section-2
-    add-section-2
-    slice-write-section-3
+    (λ c. search needs)
+    (λ c. search needs)
+    (λ c κs. search needs)
+    (λ c. search needs)
+    (λ c. search needs)
+    (λ c κs. search needs)
     same-length
     returns)

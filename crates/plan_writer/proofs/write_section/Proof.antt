@@ -1,9 +1,11 @@
--- `plan_writer::write_section` meets its contract. The invariant: storing the entries that are left from here on gives the whole section. Assumes nothing.
+-- `write_section` meets its contract. The invariant: storing the entries that are left from here on gives the whole section.
+-- Assumes nothing.
 use Prim.Native.Nat.{_*_, _-_, _≤_}
 use native.Mathlib.Omega.{arith}
 use mathlib.Core.Path.{_≡_, refl, sym, _∙_}
 use lib.ListN.{length, take, drop}
 use lib.Seq.{sets}
+use Rattle.plans.specs.Entries.{entrySize}
 use Rattle.plans.specs.Writing.{sectionBytes}
 use Rattle.plan_writer.proofs.Stores.{section-turn, section-end}
 use Rattle.plan_writer.proofs.write_section.Statement.{statement}
@@ -11,7 +13,9 @@ use Rattle.plan_writer.proofs.write_section.Tie as tie
 
 abbrev Inv-loop : tie.InvT-loop
 Inv-loop count section₀ entries i₀ section i =
-    (i ≤ count) × ((length section ≡ length section₀) × (sets section (11 * i) (sectionBytes (drop i (take count entries))) ≡ sets section₀ 0 (sectionBytes (take count entries))))
+    (i ≤ count)
+    × ((length section ≡ length section₀)
+    × (sets section (entrySize * i) (sectionBytes (drop i (take count entries))) ≡ sets section₀ 0 (sectionBytes (take count entries))))
 
 abbrev μ-loop : tie.MeasureT-loop
 μ-loop count section₀ entries i₀ section i = count - i

@@ -1,0 +1,6 @@
+pub mod Bytes
+pub mod Numbers
+pub mod Top
+pub mod Stores
+pub mod Room
+pub mod Outcomes

@@ -1,0 +1,58 @@
+-- The shape of a plan and of its entries. Specification, sections 1 and 2.
+use Prim.Native.Nat.{ℕ, _+_, _*_}
+use mathlib.Core.Path.{_≡_}
+use mathlib.Core.Bool.{Bool}
+use mathlib.Core.List.{List}
+use lib.Dec.{eqb}
+use lib.ListN.{take, getD}
+use Rattle.plans.specs.declared.Entry.{Entry}
+use Rattle.plans.specs.declared.Plan.{Plan}
+
+-- Clauses 1.1 and 2.3: the most processors of a plan. A state has a place for each, and so has a mask.
+abbrev pub slots : ℕ
+slots = 16
+
+-- Clauses 1.2 and 2.4: the most resources.
+abbrev pub mostResources : ℕ
+mostResources = 64
+
+-- Clause 2.5: the most entries.
+abbrev pub mostEntries : ℕ
+mostEntries = 64
+
+-- Clauses 1.3 and 2.6: an entry of kind 0 reads, and one of kind 1 writes.
+abbrev pub isRead : Entry → Bool
+isRead e = eqb (e .kind) 0
+
+abbrev pub isWrite : Entry → Bool
+isWrite e = eqb (e .kind) 1
+
+-- Clauses 2.2 and 2.6: the bytes of the three counts, and those of an entry.
+abbrev pub headSize : ℕ
+headSize = 3
+
+abbrev pub entrySize : ℕ
+entrySize = 11
+
+-- Clause 2.6: the bytes of a plan of n entries.
+abbrev pub planSize : ℕ → ℕ
+planSize n = headSize + entrySize * n
+
+-- Clause 2.10: the counted entries. The others play no part.
+abbrev pub countedEntries : Plan → List Entry
+countedEntries p = take (p .count) (p .entries)
+
+-- What fills the places past the count.
+abbrev pub blankEntry : Entry
+blankEntry = record { kind = 0; set = 0; length = 0 }
+
+-- Entry i of the plan; past the count the blank one.
+abbrev pub entryAt : Plan → ℕ → Entry
+entryAt p i = getD (countedEntries p) i blankEntry
+
+-- Clause 2.11: the two plans are the same.
+pub record Same (p q : Plan) : Type 0 where
+  pub processors : p .processors ≡ q .processors
+  pub resources : p .resources ≡ q .resources
+  pub count : p .count ≡ q .count
+  pub entries : countedEntries p ≡ countedEntries q
