@@ -1,0 +1,18 @@
+// The vocabulary of the arbiter: a call, and the reply to it. Logs are read to calls; listings are written from both.
+use refusals::Refusal;
+
+// A processor asks for an entry, or gives its request back, at a tick.
+pub enum Call {
+    Issue { processor: u8, entry: u8, tick: u64 },
+    Complete { processor: u8, tick: u64 },
+}
+
+// An accepted call's masks and late mark, or the refusal. Bit p of a mask is processor p.
+pub enum Reply {
+    Done {
+        granted: u32,
+        entitled: u32,
+        late: u8,
+    },
+    Refused(Refusal),
+}

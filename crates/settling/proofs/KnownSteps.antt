@@ -1,0 +1,44 @@
+-- The four steps by the masks that the code goes by: of the reads, the known ones. Assumes nothing.
+use mathlib.Core.Path.{_≡_, refl, ap, _∙_}
+use mathlib.Core.Bool.{false, _&&_, and-false}
+use Prim.Native.Nat.{ℕ, _^_, _<_}
+use lib.Bits.{bitAnd, bitOr}
+use lib.Dec.{ltb}
+use Rattle.masks.specs.Sets.{bit, without, maskOf}
+use Rattle.masks.proofs.Tests.{and-is}
+use Rattle.plans.specs.Entries.{slots, mostEntries}
+use Rattle.settling.specs.Requests.{Facts, entryOf, active, isWriter}
+use Rattle.settling.specs.Settling.{step1, step2, step3, step4}
+use Rattle.settling.specs.inner.Moves.{Table, knownIn, unopposedIn, firstInLine, Follows}
+use Rattle.settling.specs.declared.Phases.{Phases}
+use Rattle.settling.proofs.FourSteps.{activeWrite, At, at-first, after1, after2, after3, after4}
+use Rattle.settling.proofs.Known.{unknown-read, known-writers, known1, known2, known3, known4}
+
+module _ (f : Facts) (small : f .writes < 2 ^ mostEntries) (table : Table (f .rows)) {k : ℕ} (all : k ≡ knownIn (f .entry)) where
+  pub at-known : {ph : Phases} {w x e h : ℕ} → Follows ph x e h
+      → w ≡ maskOf slots (λ p. bit (bitAnd (bitOr (bitOr x e) h) k) p && isWriter f p) → At f ph w x e h
+  at-known given are = at-first given (are ∙ known-writers f small _ all)
+
+  module _ {ph : Phases} {w x e h : ℕ} (at : At f ph w x e h) where
+    none : (p : ℕ) → ltb (entryOf f p) mostEntries ≡ false → activeWrite f ph p ≡ false
+    none p n = ap (λ t. active ph p && t) (unknown-read f small p n) ∙ and-false (active ph p)
+
+    pub known-after1 : {g : ℕ} → g ≡ unopposedIn f (bitAnd e (without 32 k w)) (bitAnd h w)
+        → At f (step1 f ph) w x (without 32 e (bitOr (without 32 e k) g)) (bitOr h (bitOr (without 32 e k) g))
+    known-after1 eg = after1 at (known1 f table all (at .writes) none _ (at .entitles) eg)
+
+    pub known-after2 : {o g : ℕ} → o ≡ unopposedIn f (bitAnd x w) (bitOr (bitAnd h w) (bitAnd e (without 32 k w)))
+        → g ≡ firstInLine f o (bitAnd (bitOr x e) w) → At f (step2 f ph) w (without 32 x g) (bitOr e g) h
+    known-after2 eo eg =
+        after2 at (eo ∙ known2 f table all (at .writes) none _ (and-is (at .holds) (at .writes)) (at .entitles)) eg
+
+    pub known-after3 : {g : ℕ} → g ≡ unopposedIn f (bitAnd e w) (bitAnd h (without 32 k w))
+        → At f (step3 f ph) w x (without 32 e g) (bitOr h g)
+    known-after3 eg = after3 at (eg ∙ known3 f table all (at .writes) none _ (at .holds))
+
+    pub known-after4 : {o g : ℕ} → o ≡ unopposedIn f (bitAnd x (without 32 k w)) (bitAnd h w)
+        → g ≡ unopposedIn f (without 32 (bitAnd x (without 32 k w)) o) (bitAnd e w) → At f (step4 f ph) w (without 32 x g) (bitOr e g) h
+    known-after4 eo eg =
+        after4 at refl
+        (eg ∙ ap (λ (o : ℕ). unopposedIn f (without 32 (bitAnd x (without 32 k w)) o) (bitAnd e w)) eo
+        ∙ known4 f table all (at .writes) none _ _ (at .waits))

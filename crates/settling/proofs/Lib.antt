@@ -1,0 +1,8 @@
+pub mod Active
+pub mod FourSteps
+pub mod Known
+pub mod KnownSteps
+pub mod Quiet
+pub mod AtOnce
+pub mod Idle
+pub mod Bounds

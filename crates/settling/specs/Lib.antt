@@ -1,0 +1,3 @@
+pub mod Requests
+pub mod Settling
+pub mod inner
