@@ -1,7 +1,7 @@
 pub mod Requests
-pub mod Settling
-pub mod Phases
-pub mod Moves
+pub mod Faults
+pub mod Acts
 pub mod Calls
-pub mod Parts
+pub mod Fresh
 pub mod InPlace
+pub mod inner

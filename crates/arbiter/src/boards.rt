@@ -1,37 +1,44 @@
-// A fresh arbiter of a plan: document 01, "Whole runs" and "Refused", 3 to 8.
+// A fresh arbiter of a plan. Specification, clause 4.3.
 use crate::Board;
 use crate::Fresh;
 use crate::State;
+use crate::Terms;
 use conflicts::conflicts_of;
 use masks::add64;
+use plans::ENTRIES;
 use plans::Entry;
 use plans::Plan;
-use plans::Verdict;
+use plans::SLOTS;
 use plans::check;
+use plans::is_write;
+use refusals::Verdict;
+use settling::Phases;
 ghost use mathlib.Core.Path.{_≡_};
 ghost use mathlib.Core.Bool.{cond, _&&_};
 ghost use lib.Dec.{ltb};
-ghost use Rattle.conflicts.specs.Conflict.{isWrite};
-ghost use Rattle.arbiter.specs.Calls.{freshState, boardOf, blankBoard, freshOf};
+ghost use Rattle.refusals.specs.Number.{verdictNumber};
+ghost use Rattle.plans.specs.Entries.{mostEntries, isWrite};
+ghost use Rattle.plans.specs.Acceptance.{planFault};
+ghost use Rattle.arbiter.specs.Fresh.{freshState, boardOf, blankBoard, freshBoard};
 
 // The place of entry i in the set of writes, and past every place where it is no write or is not counted.
 fn write_place(entry: Entry, i: u8, count: u8) -> u32
-    ensures { λ r. ⌜ r ≡ cond (ltb i count && isWrite entry) i 64 ⌝ }
+    ensures { λ r. ⌜ r ≡ cond (ltb i count && isWrite entry) i mostEntries ⌝ }
 {
-    if (i < count) & (entry.kind == 1) {
+    if (i < count) & is_write(entry) {
         i as u32
     } else {
-        64
+        ENTRIES as u32
     }
 }
 
 // Which entries are writes.
 fn writes_of(plan: Plan) -> u64
-    ensures { λ r. ⌜ r ≡ boardOf plan .writes ⌝ }
+    ensures { λ r. ⌜ r ≡ boardOf plan .terms .writes ⌝ }
 {
     let mut out: u64 = 0;
     let mut i: u8 = 0;
-    while i < 64 {
+    while i < ENTRIES as u8 {
         let entry = plan.entries[i as usize];
         out = add64(out, write_place(entry, i, plan.count));
         i += 1;
@@ -46,12 +53,12 @@ fn counted_length(entry: Entry, i: u8, count: u8) -> u16
     if i < count { entry.length } else { 0 }
 }
 
-fn lengths_of(plan: Plan) -> [u16; 64]
+fn lengths_of(plan: Plan) -> [u16; ENTRIES]
     ensures { λ r. ⌜ r ≡ boardOf plan .lengths ⌝ }
 {
-    let mut out = [0; 64];
+    let mut out = [0; ENTRIES];
     let mut i: u8 = 0;
-    while i < 64 {
+    while i < ENTRIES as u8 {
         let entry = plan.entries[i as usize];
         out[i as usize] = counted_length(entry, i, plan.count);
         i += 1;
@@ -59,7 +66,7 @@ fn lengths_of(plan: Plan) -> [u16; 64]
     out
 }
 
-// "Conflict between two entries is worked out once."
+// Clause 3.3: conflict is worked out here, once for all calls.
 fn board_of(plan: Plan) -> Board
     ensures { λ r. ⌜ r ≡ boardOf plan ⌝ }
 {
@@ -68,9 +75,11 @@ fn board_of(plan: Plan) -> Board
     let widened = worked.widened;
     let rows = worked.rows;
     Board {
-        processors: plan.processors,
-        count: plan.count,
-        writes: writes_of(plan),
+        terms: Terms {
+            processors: plan.processors,
+            count: plan.count,
+            writes: writes_of(plan),
+        },
         lengths: lengths,
         widened: widened,
         rows: rows,
@@ -81,40 +90,46 @@ fn board_of(plan: Plan) -> Board
 fn blank_board() -> Board
     ensures { λ r. ⌜ r ≡ blankBoard ⌝ }
 {
-    let lengths = [0; 64];
-    let widened = [0; 64];
-    let rows = [0; 64];
+    let lengths = [0; ENTRIES];
+    let widened = [0; ENTRIES];
+    let rows = [0; ENTRIES];
     Board {
-        processors: 0,
-        count: 0,
-        writes: 0,
+        terms: Terms {
+            processors: 0,
+            count: 0,
+            writes: 0,
+        },
         lengths: lengths,
         widened: widened,
         rows: rows,
     }
 }
 
-// "No request active, last accepted tick 0."
+// Clause 4.3: nobody is active, and the last accepted tick is 0.
 fn fresh_state() -> State
     ensures { λ r. ⌜ r ≡ freshState ⌝ }
 {
-    let entry = [0; 16];
-    let since = [0; 16];
-    let earlier = [0; 16];
+    let since = [0; SLOTS];
+    let earlier = [0; SLOTS];
+    let entry = [0; SLOTS];
     State {
         last: 0,
-        waiting: 0,
-        entitled: 0,
-        holding: 0,
-        entry: entry,
+        phases: Phases {
+            waiting: 0,
+            entitled: 0,
+            holding: 0,
+        },
         since: since,
         earlier: earlier,
+        entry: entry,
     }
 }
 
 // A fresh arbiter of the plan, or its refusal by 3 to 8.
 pub fn fresh_of(plan: Plan) -> Fresh
-    ensures { λ r. ⌜ r ≡ freshOf plan ⌝ }
+    ensures verdict { λ r. ⌜ verdictNumber (r .verdict) ≡ planFault plan ⌝ }
+    ensures board { λ r. ⌜ r .board ≡ freshBoard plan ⌝ }
+    ensures state { λ r. ⌜ r .state ≡ freshState ⌝ }
 {
     let state = fresh_state();
     let verdict = check(plan);

@@ -1,4 +1,4 @@
--- `fresh_state` meets its contract: no bit, no entry and no tick. Assumes nothing.
+-- `fresh_state` meets its contract: the fields as they stand. Assumes nothing.
 use mathlib.Core.Path.{refl}
 use Rattle.arbiter.proofs.boards.fresh_state.Statement.{statement}
 use Rattle.arbiter.proofs.boards.fresh_state.Tie as tie

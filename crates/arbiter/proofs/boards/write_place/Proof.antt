@@ -1,12 +1,13 @@
 -- `write_place` meets its contract. Assumes nothing.
+use borrow.Author.Needs.{needs}
 use Rattle.arbiter.proofs.boards.write_place.Statement.{statement}
 use Rattle.arbiter.proofs.boards.write_place.Tie as tie
 
 returns : tie.Need-returns
-returns c = rw (c .if1 .taken)
+returns c = rw (← c .before .is-write .ensures, c .if1 .taken)
 
 returns-2 : tie.Need-returns-2
-returns-2 c = rw (c .if1 .left)
+returns-2 c = rw (← c .before .is-write .ensures, c .if1 .left)
 
 pub write-place-spec : {M : Type 1} → statement M
-write-place-spec = tie.close (tie.spec returns returns-2)
+write-place-spec = tie.close (tie.spec (λ c κs. search needs) (λ c. search needs) returns returns-2)

@@ -1,0 +1,47 @@
+-- The two acts that calls are made of: a request is put in, or taken out. Specification, section 4.
+use Prim.Native.Nat.{ℕ}
+use mathlib.Core.Bool.{Bool, cond, not, _&&_, _||_}
+use mathlib.Core.List.{List}
+use lib.Dec.{eqb}
+use lib.ListN.{getD}
+use Rattle.masks.specs.Sets.{bit, maskOf}
+use Rattle.plans.specs.Entries.{slots}
+use Rattle.conflicts.specs.Conflict.{tabulate}
+use Rattle.settling.specs.declared.Phases.{Phases}
+use Rattle.settling.specs.Requests.{active}
+
+-- Clauses 4.4 and 5.1: the phases with processor p's request put in, waiting.
+unfoldable pub putIn : Phases → ℕ → Phases
+putIn ph p =
+    record {
+      waiting = maskOf slots (λ q. bit (ph .waiting) q || eqb q p);
+      entitled = ph .entitled;
+      holding = ph .holding;
+    }
+
+-- Clause 4.2: who is earlier, with p's request put in last: all that are active are earlier than it, and it than none.
+unfoldable pub putLast : List ℕ → Phases → ℕ → List ℕ
+putLast earlier ph p =
+    tabulate slots
+    (λ q. cond (eqb q p) (maskOf slots (active ph)) (maskOf slots (λ r. bit (getD earlier q 0) r && not (eqb r p))))
+
+-- Clause 4.4: the phases with processor p's request taken out, in whatever phase it is.
+unfoldable pub takenOut : Phases → ℕ → Phases
+takenOut ph p =
+    record {
+      waiting = maskOf slots (λ q. bit (ph .waiting) q && not (eqb q p));
+      entitled = maskOf slots (λ q. bit (ph .entitled) q && not (eqb q p));
+      holding = maskOf slots (λ q. bit (ph .holding) q && not (eqb q p));
+    }
+
+-- Clause 4.7: processor p began to hold: `before` is with the request put in or taken out, `after` is settled.
+abbrev pub began : Phases → Phases → ℕ → Bool
+began before after p = bit (after .holding) p && not (bit (before .holding) p)
+
+-- Clause 4.7: processor p became entitled, and still is once all is settled.
+abbrev pub became : Phases → Phases → ℕ → Bool
+became before after p = bit (after .entitled) p && not (bit (before .entitled) p)
+
+-- Clause 4.8: the tick of the call for those that began to hold by it, and the old one for all others.
+unfoldable pub stamped : List ℕ → Phases → Phases → ℕ → List ℕ
+stamped since before after t = tabulate slots (λ p. cond (began before after p) t (getD since p 0))

@@ -1,0 +1,52 @@
+-- The fresh arbiter of a plan, and when there is none: 3 to 8. Specification, section 4.
+use Prim.Native.Nat.{ℕ}
+use mathlib.Core.Bool.{cond, _&&_}
+use lib.Dec.{eqb, ltb}
+use lib.ListN.{replicate}
+use Rattle.masks.specs.Sets.{maskOf}
+use Rattle.plans.specs.declared.Plan.{Plan}
+use Rattle.plans.specs.Entries.{slots, mostEntries, isWrite, entryAt}
+use Rattle.plans.specs.Acceptance.{planFault}
+use Rattle.conflicts.specs.Conflict.{tabulate, conflictsOf}
+use Rattle.arbiter.specs.declared.Board.{Board}
+use Rattle.arbiter.specs.declared.State.{State}
+
+-- Clauses 4.3 and 1.5: no request is active, and the last accepted tick is 0. A processor has room for one request.
+abbrev pub freshState : State
+freshState =
+    record {
+      last = 0;
+      phases = record { waiting = 0; entitled = 0; holding = 0 };
+      since = replicate slots 0;
+      earlier = replicate slots 0;
+      entry = replicate slots 0;
+    }
+
+-- Clause 3.3: the board of a plan: its counts, which entries are writes, their lengths, and conflict worked out once.
+unfoldable pub boardOf : Plan → Board
+boardOf p =
+    record {
+      terms =
+          record {
+            processors = p .processors;
+            count = p .count;
+            writes = maskOf mostEntries (λ i. ltb i (p .count) && isWrite (entryAt p i));
+          };
+      lengths = tabulate mostEntries (λ i. entryAt p i .length);
+      widened = conflictsOf p .widened;
+      rows = conflictsOf p .rows;
+    }
+
+-- What a refused plan leaves beside its refusal.
+abbrev pub blankBoard : Board
+blankBoard =
+    record {
+      terms = record { processors = 0; count = 0; writes = 0 };
+      lengths = replicate mostEntries 0;
+      widened = replicate mostEntries 0;
+      rows = replicate mostEntries 0;
+    }
+
+-- Clauses 4.3 and 2.10: a plan value that is not accepted leaves the blank board.
+unfoldable pub freshBoard : Plan → Board
+freshBoard p = cond (eqb (planFault p) 0) (boardOf p) blankBoard
