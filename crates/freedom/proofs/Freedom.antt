@@ -1,4 +1,4 @@
--- Freedom from deadlock, for every accepted plan and every list of calls. Assumes nothing.
+-- Clause 6.10: freedom from deadlock, for every accepted plan and every list of calls. Assumes nothing.
 use Prim.Native.Nat.{ℕ, _<_}
 use mathlib.Core.Path.{_≡_, sym, ap, _∙_}
 use mathlib.Core.Bool.{true, false}
@@ -8,20 +8,22 @@ use native.Mathlib.Omega.{arith}
 use Rattle.masks.specs.Sets.{bit, maskOf}
 use Rattle.masks.proofs.Masks.{bit-mask-at}
 use Rattle.plans.specs.declared.Plan.{Plan}
-use Rattle.plans.specs.declared.Verdict.{Verdict}
+use Rattle.plans.specs.Entries.{slots}
 use Rattle.plans.specs.Acceptance.{planFault}
+use Rattle.calls.specs.declared.Call.{Call}
+use Rattle.settling.specs.Requests.{unsatisfied}
 use Rattle.arbiter.specs.declared.Board.{Board}
 use Rattle.arbiter.specs.declared.State.{State}
-use Rattle.arbiter.specs.Requests.{slots, isHolding, cleaned, unsatisfied}
-use Rattle.arbiter.specs.Calls.{boardOf}
-use Rattle.runs.specs.Calls.{Call}
-use Rattle.runs.proofs.history.Slots.{tidy-of-clean}
+use Rattle.arbiter.specs.Requests.{isHolding, cleaned}
+use Rattle.arbiter.specs.Calls.{phasesOf}
+use Rattle.arbiter.specs.Fresh.{boardOf}
 use Rattle.runs.proofs.columns.Columns.{holding}
-use Rattle.runs.proofs.refinement.State.{phaseOf, unsatisfied-phase, held-bit}
+use Rattle.runs.proofs.refinement.State.{unsatisfied-phase, held-bit}
+use Rattle.runs.proofs.refinement.Clean.{phaseIn, clean-phases}
 use Rattle.queries.specs.Queries.{Chain, reaches}
 use Rattle.queries.proofs.Waits.{unsatisfied-below}
 use Rattle.queries.proofs.Chains.{no-chain-not-reached}
-use Rattle.freedom.specs.Freedom.{reachedBy, NoDeadlock}
+use Rattle.freedom.specs.Freedom.{reachedBy, holdsIn, NoDeadlock}
 use Rattle.freedom.proofs.Reached.{Reached, reached}
 use Rattle.freedom.proofs.Falling.{distance, chain-falls}
 use Rattle.freedom.proofs.Holders.{reaches-holder}
@@ -30,19 +32,23 @@ module _ (b : Board) (s : State) (r : Reached b s) where
   not-itself : (q : ℕ) → Chain b s q q → ⊥
   not-itself q c = omega (arith, chain-falls b s r q q c)
 
-  holds : (h : ℕ) → h < slots → phaseOf s h ≡ holding → isHolding b s h ≡ true
+  same : phasesOf b s ≡ s .phases
+  same = clean-phases b s (r .clean)
+
+  holds : (h : ℕ) → h < slots → phaseIn s h ≡ holding → holdsIn b s h ≡ true
   unfolding cleaned
   holds h l e =
-      sym (bit-mask-at slots (isHolding b s) h l) ∙ ap (λ x. bit (x .holding) h) (r .clean .same) ∙ held-bit s h e
+      sym (bit-mask-at slots (isHolding (b .terms) (s .entry) (s .phases)) h l) ∙ ap (λ x. bit (x .holding) h) same
+      ∙ held-bit (s .phases) h e
 
-  to-a-holder : (q : ℕ) → unsatisfied (cleaned b s) q ≡ true → (h : ℕ) × Chain b s q h × (isHolding b s h ≡ true)
+  to-a-holder : (q : ℕ) → unsatisfied (phasesOf b s) q ≡ true → (h : ℕ) × Chain b s q h × (holdsIn b s h ≡ true)
   to-a-holder q e =
       let l = unsatisfied-below b s q e in
-      let u = unsatisfied-phase s q b (tidy-of-clean b s (r .clean)) l (sym (ap (λ x. unsatisfied x q) (r .clean .same)) ∙ e) in
+      let u = unsatisfied-phase (s .phases) q (r .clean .tidy) l (sym (ap (λ x. unsatisfied x q) same) ∙ e) in
       let t = reaches-holder b s r (distance b s r q) q (le-refl (distance b s r q)) l u in
       (t .0, t .1, holds (t .0) (t .3) (t .2))
 
-pub no-deadlock : (p : Plan) → planFault p ≡ Verdict.Accepted → (calls : List Call) → NoDeadlock p calls
+pub no-deadlock : (p : Plan) → planFault p ≡ 0 → (calls : List Call) → NoDeadlock p calls
 no-deadlock p taken calls =
     let r = reached p taken calls in
     record {
@@ -51,12 +57,12 @@ no-deadlock p taken calls =
     }
 
 -- The same of the reach that the query answers: no processor is in its own.
-pub not-in-own-reach : (p : Plan) → planFault p ≡ Verdict.Accepted → (calls : List Call) → (q : ℕ)
+pub not-in-own-reach : (p : Plan) → planFault p ≡ 0 → (calls : List Call) → (q : ℕ)
     → reaches (boardOf p) (reachedBy p calls) q q ≡ false
 not-in-own-reach p taken calls q =
     no-chain-not-reached (boardOf p) (reachedBy p calls) q q (no-deadlock p taken calls .nobody-reaches-itself q)
 
-pub not-in-own-mask : (p : Plan) → planFault p ≡ Verdict.Accepted → (calls : List Call) → (q : ℕ) → q < slots
+pub not-in-own-mask : (p : Plan) → planFault p ≡ 0 → (calls : List Call) → (q : ℕ) → q < slots
     → bit (maskOf slots (reaches (boardOf p) (reachedBy p calls) q)) q ≡ false
 not-in-own-mask p taken calls q l =
     bit-mask-at slots (reaches (boardOf p) (reachedBy p calls) q) q l ∙ not-in-own-reach p taken calls q

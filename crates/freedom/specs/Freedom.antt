@@ -1,29 +1,34 @@
--- Freedom from deadlock, said of whole lists of calls: document 01, "Whole runs" and "Queries".
+-- Freedom from deadlock, said of whole lists of calls. Specification, clause 6.10.
 use Prim.Native.Nat.{ℕ}
 use mathlib.Core.Path.{_≡_}
-use mathlib.Core.Bool.{true}
+use mathlib.Core.Bool.{Bool, true}
 use mathlib.Core.List.{List, [], _∷_}
 use Rattle.plans.specs.declared.Plan.{Plan}
 use Rattle.arbiter.specs.declared.Board.{Board}
 use Rattle.arbiter.specs.declared.State.{State}
-use Rattle.arbiter.specs.Requests.{isHolding, cleaned, unsatisfied}
-use Rattle.arbiter.specs.Calls.{boardOf, freshState}
-use Rattle.runs.specs.Calls.{Call, answer}
+use Rattle.calls.specs.declared.Call.{Call}
+use Rattle.settling.specs.Requests.{unsatisfied}
+use Rattle.arbiter.specs.Requests.{isHolding}
+use Rattle.arbiter.specs.Calls.{phasesOf, answered}
+use Rattle.arbiter.specs.Fresh.{boardOf, freshState}
 use Rattle.queries.specs.Queries.{Chain}
 
--- The state that the last of the calls returned. "Each gets the state that the one before it returned, after a refusal
--- the unchanged one."
+-- Clause 6.1: the state after the calls. Each call gets the state that the one before it left.
 unfoldable pub stateAfter : Board → State → List Call → State
 stateAfter b s [] = s
-stateAfter b s (c ∷ later) = stateAfter b (answer b s c .state) later
+stateAfter b s (c ∷ later) = stateAfter b (answered b s c .state) later
 
--- "A list starts at the fresh arbiter of an accepted plan": the theorem asks that the plan is accepted.
+-- Clause 6.1: from the fresh arbiter. The theorem asks that the plan is accepted.
 abbrev pub reachedBy : Plan → List Call → State
 reachedBy p calls = stateAfter (boardOf p) freshState calls
 
--- Beyond document 01. After any calls, no chain of direct waits leads from a processor back to itself; and from each whose request is
--- unsatisfied, one leads to a processor that holds, and so can complete.
+-- The request of processor p counts and holds.
+abbrev pub holdsIn : Board → State → ℕ → Bool
+holdsIn b s p = isHolding (b .terms) (s .entry) (s .phases) p
+
+-- Clause 6.10: after any calls, no chain of direct waits leads from a processor back to itself; and from each whose
+-- request is unsatisfied, one leads to a processor that holds, and so can complete.
 pub record NoDeadlock (p : Plan) (calls : List Call) : Type 0 where
   pub nobody-reaches-itself : (q : ℕ) → Chain (boardOf p) (reachedBy p calls) q q → ⊥
-  pub whoever-waits-reaches-a-holder : (q : ℕ) → unsatisfied (cleaned (boardOf p) (reachedBy p calls)) q ≡ true
-      → (h : ℕ) × Chain (boardOf p) (reachedBy p calls) q h × (isHolding (boardOf p) (reachedBy p calls) h ≡ true)
+  pub whoever-waits-reaches-a-holder : (q : ℕ) → unsatisfied (phasesOf (boardOf p) (reachedBy p calls)) q ≡ true
+      → (h : ℕ) × Chain (boardOf p) (reachedBy p calls) q h × (holdsIn (boardOf p) (reachedBy p calls) h ≡ true)

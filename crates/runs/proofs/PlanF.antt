@@ -1,19 +1,22 @@
--- Plan F's twelve calls: the answer to each, down to masks, late marks and the refusal. Assumes nothing.
+-- Plan F's twelve calls: the answer to each in numbers, down to masks, late marks and the refusal. Assumes nothing.
 use Prim.Native.Nat.{ℕ}
 use mathlib.Core.Path.{_≡_, refl}
 use mathlib.Core.List.{List, [], _∷_, map}
 use lib.ListN.{replicate}
-use Rattle.refusals.specs.declared.Refusal.{Refusal}
+use Rattle.masks.specs.Sets.{bit, some, maskOf}
 use Rattle.plans.specs.declared.Entry.{Entry}
 use Rattle.plans.specs.declared.Plan.{Plan}
-use Rattle.plans.specs.Reading.{blankEntry}
-use Rattle.masks.specs.Sets.{bit, some, maskOf}
+use Rattle.plans.specs.Entries.{blankEntry}
 use Rattle.conflicts.specs.Conflict.{widen, widenedSet, conflict, inConflict, tabulate, conflictsOf}
-use Rattle.arbiter.specs.declared.Reply.{Reply}
+use Rattle.calls.specs.declared.Call.{Call}
+use Rattle.calls.specs.Replies.{Response, refusedWith}
+use Rattle.settling.specs.Settling.{test1, step1, test2, step2, test3, step3, test4, step4, settled, holdsAtOnce, admitted}
 use Rattle.arbiter.specs.Requests.{isHolding, isEntitled, isWaiting, cleaned}
-use Rattle.arbiter.specs.Settling.{test1, step1, test2, step2, test3, step3, test4, step4, settled}
-use Rattle.arbiter.specs.Calls.{boardOf, freshState, issueFault, completeFault, put, holdsAtOnce, admitted, taken, stamped, done, issued, completed}
-use Rattle.runs.specs.Calls.{Call, issue, complete, Event, events}
+use Rattle.arbiter.specs.Faults.{issueFault, completeFault}
+use Rattle.arbiter.specs.Acts.{putIn, putLast, takenOut, stamped}
+use Rattle.arbiter.specs.Calls.{putState, takenState, done, issueDone, issued, takenDone, completed}
+use Rattle.arbiter.specs.Fresh.{boardOf, freshState}
+use Rattle.runs.specs.Events.{Event, events}
 
 read : ℕ → ℕ → Entry
 read names ticks = record { kind = 0; set = names; length = ticks }
@@ -21,7 +24,7 @@ read names ticks = record { kind = 0; set = names; length = ticks }
 write : ℕ → ℕ → Entry
 write names ticks = record { kind = 1; set = names; length = ticks }
 
--- Document 01, "Plan F": 4 processors, 3 resources, five entries.
+-- Plan F: 4 processors, 3 resources, five entries.
 pub planF : Plan
 planF =
     record {
@@ -32,27 +35,31 @@ planF =
     }
 
 -- A call and its answer, a line of the listing.
-line : Call → Reply → Event
+line : Call → Response → Event
 line c r = record { call = c; reply = r }
 
--- The twelve calls with their granted mask, entitled mask and late mark, in the order of the listing.
+-- The granted mask, the entitled mask and late.
+done-with : ℕ → ℕ → ℕ → Response
+done-with granted entitled late = record { number = 0; granted = granted; entitled = entitled; late = late }
+
+-- The twelve calls in the order of the listing. The eleventh comes before the last accepted tick: 10.
 pub table : List Event
 table =
-    line (issue 0 0 0) (Reply.Done 1 0 0)
-    ∷ line (issue 1 1 1) (Reply.Done 0 0 0)
-    ∷ line (issue 2 2 2) (Reply.Done 0 0 0)
-    ∷ line (issue 3 3 3) (Reply.Done 8 0 0)
-    ∷ line (complete 3 13) (Reply.Done 0 0 0)
-    ∷ line (issue 3 4 14) (Reply.Done 0 8 0)
-    ∷ line (complete 0 30) (Reply.Done 8 2 0)
-    ∷ line (issue 0 3 31) (Reply.Done 0 0 0)
-    ∷ line (complete 3 35) (Reply.Done 2 1 0)
-    ∷ line (complete 1 56) (Reply.Done 1 4 1)
-    ∷ line (complete 0 50) (Reply.Refused Refusal.Tick)
-    ∷ line (complete 0 66) (Reply.Done 4 0 0)
+    line (Call.Issue 0 0 0) (done-with 1 0 0)
+    ∷ line (Call.Issue 1 1 1) (done-with 0 0 0)
+    ∷ line (Call.Issue 2 2 2) (done-with 0 0 0)
+    ∷ line (Call.Issue 3 3 3) (done-with 8 0 0)
+    ∷ line (Call.Complete 3 13) (done-with 0 0 0)
+    ∷ line (Call.Issue 3 4 14) (done-with 0 8 0)
+    ∷ line (Call.Complete 0 30) (done-with 8 2 0)
+    ∷ line (Call.Issue 0 3 31) (done-with 0 0 0)
+    ∷ line (Call.Complete 3 35) (done-with 2 1 0)
+    ∷ line (Call.Complete 1 56) (done-with 1 4 1)
+    ∷ line (Call.Complete 0 50) (refusedWith 10)
+    ∷ line (Call.Complete 0 66) (done-with 4 0 0)
     ∷ []
 
 -- The arbiter's answers to the twelve calls are those of the table.
 pub twelve-calls : events (boardOf planF) freshState (map (λ e. e .call) table) ≡ table
-unfolding planF table read write line bit some maskOf widen widenedSet conflict inConflict tabulate conflictsOf isHolding isEntitled isWaiting cleaned test1 step1 test2 step2 test3 step3 test4 step4 settled boardOf issueFault completeFault put holdsAtOnce admitted taken stamped done issued completed events
+unfolding planF table read write line done-with bit some maskOf widen widenedSet conflict inConflict tabulate conflictsOf isHolding isEntitled isWaiting cleaned test1 step1 test2 step2 test3 step3 test4 step4 settled holdsAtOnce admitted boardOf issueFault completeFault putIn putLast takenOut stamped putState takenState done issueDone issued takenDone completed events
 twelve-calls = refl

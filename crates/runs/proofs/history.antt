@@ -1,15 +1,10 @@
 pub mod Cases
 pub mod Verdicts
-pub mod Tables
-pub mod Slots
-pub mod Settles
-pub mod Starts
 pub mod Frame
+pub mod Spans
 pub mod Tied
 pub mod Related
-pub mod BoardOf
 pub mod Keeps
-pub mod Fresh
 pub mod Arbiter
 pub mod Runs
 pub mod Whole

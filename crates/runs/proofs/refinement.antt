@@ -1,8 +1,10 @@
 pub mod State
 pub mod Steps
 pub mod First
-pub mod Puts
+pub mod Starts
+pub mod Clean
+pub mod Acts
 pub mod Call
 pub mod Board
 pub mod Arbiter
-pub mod Demand3
+pub mod WholeRuns

@@ -1,37 +1,40 @@
--- Demand 3, said of whole lists of calls. A reader needs this page and the definitions that it names.
+-- Demand 3, said of whole lists of calls. A reader needs this page and the definitions that it names. Specification,
+-- section 6.
 use Prim.Native.Nat.{ℕ, _-_, _*_, _≤_, _<_}
 use mathlib.Core.Path.{_≡_}
 use mathlib.Core.Bool.{Bool, true, false, cond}
 use mathlib.Core.List.{List}
 use lib.ListN.{length, getD}
 use Rattle.plans.specs.declared.Plan.{Plan}
-use Rattle.plans.specs.Figures.{longestRead, readFigure, writeFigure}
-use Rattle.conflicts.specs.Conflict.{inConflict, isWrite, entryAt}
-use Rattle.arbiter.specs.Calls.{boardOf, freshState}
-use Rattle.runs.specs.Calls.{Call, events}
-use Rattle.runs.specs.History.{Request, History, nothing, never, countedIn, holds, holdOf, waitOf}
+use Rattle.plans.specs.Entries.{isWrite, entryAt}
+use Rattle.plans.specs.Figures.{readFigure, writeFigure}
+use Rattle.conflicts.specs.Conflict.{inConflict}
+use Rattle.calls.specs.declared.Call.{Call}
+use Rattle.arbiter.specs.Fresh.{boardOf, freshState}
+use Rattle.runs.specs.Events.{events}
+use Rattle.runs.specs.History.{Request, History, nothing, arrival, countedIn, holds, holdOf, waitOf}
 
--- The history of a list of calls, from the fresh arbiter of the plan.
+-- Clause 6.1: the history of a list of calls, from the fresh arbiter of the plan.
 unfoldable pub historyOf : Plan → List Call → History
 historyOf p calls = countedIn nothing (events (boardOf p) freshState calls)
 
 -- Request i of a history, in order of issue.
 abbrev pub request : History → ℕ → Request
-request h i = getD (h .requests) i (record { processor = 0; entry = 0; issued = 0; grant = never; end = never })
+request h i = getD (h .requests) i (arrival 0 0 0)
 
--- "No two conflicting requests hold together."
+-- Clause 6.8: of two requests that hold, their entries do not conflict.
 abbrev pub Exclusive : Plan → History → Type 0
 Exclusive p h =
     (i j : ℕ) → i < length (h .requests) → j < length (h .requests) → (i ≡ j → ⊥) → holds (request h i) ≡ true
     → holds (request h j) ≡ true → inConflict p (request h i .entry) (request h j .entry) ≡ false
 
--- "Each holder keeps to its declared length up to the last accepted tick", of the holders whose entries are in the group.
+-- Clause 6.5: up to the last accepted tick every holder whose entry is in the group keeps to its length.
 abbrev pub KeepToLengths : Plan → (ℕ → Bool) → History → Type 0
 KeepToLengths p group h =
     (i : ℕ) → i < length (h .requests) → group (request h i .entry) ≡ true
     → holdOf (h .last) (request h i) ≤ entryAt p (request h i .entry) .length
 
--- No read of the group has waited longer than the one figure, and no write longer than the other.
+-- Clause 6.9: no read of the group has waited longer than the one figure, and no write longer than the other.
 abbrev pub WaitAtMost : Plan → (ℕ → Bool) → ℕ → ℕ → History → Type 0
 WaitAtMost p group read write h =
     (i : ℕ) → i < length (h .requests) → group (request h i .entry) ≡ true
@@ -50,8 +53,12 @@ LengthsAtMost p group Lr Lw =
 abbrev pub everyEntry : ℕ → Bool
 everyEntry i = true
 
--- Demand 3. "After it no two conflicting requests hold together. If each holder keeps to its declared length up to the
--- last accepted tick, no read has waited more than Lr + Lw, and no write more than (m − 1) × (Lr + Lw)."
-pub record Demand3 (p : Plan) (calls : List Call) : Type 0 where
+-- The claim of a group of entries, with figures of its own.
+pub record GroupRuns (p : Plan) (group : ℕ → Bool) (read write : ℕ) (calls : List Call) : Type 0 where
   pub exclusive : Exclusive p (historyOf p calls)
-  pub waits : KeepToLengths p everyEntry (historyOf p calls) → WaitAtMost p everyEntry (readFigure p) (writeFigure p) (historyOf p calls)
+  pub waits : KeepToLengths p group (historyOf p calls) → WaitAtMost p group read write (historyOf p calls)
+
+-- Demand 3. Clauses 6.8 and 6.9: conflicting requests never hold together; and where every holder keeps to its length,
+-- no read waits longer than the read figure and no write longer than the write figure.
+abbrev pub WholeRuns : Plan → List Call → Type 0
+WholeRuns p calls = GroupRuns p everyEntry (readFigure p) (writeFigure p) calls

@@ -1,51 +1,76 @@
--- What is counted of a run, from the calls and their answers alone: document 01, "Whole runs", second paragraph.
+-- Whole runs: what is counted, from calls and answers alone. Specification, section 6.
 use Prim.Native.Nat.{ℕ, _-_}
 use mathlib.Core.Bool.{Bool, true, false, cond, not, _&&_}
 use mathlib.Core.List.{List, [], _∷_, _++_, map}
 use lib.Dec.{eqb}
 use Rattle.masks.specs.Sets.{bit}
-use Rattle.arbiter.specs.declared.Reply.{Reply}
-use Rattle.runs.specs.Calls.{Call, issue, complete, Event}
+use Rattle.calls.specs.declared.Call.{Call}
+use Rattle.calls.specs.Calls.{tickOf}
+use Rattle.calls.specs.Replies.{Response}
+use Rattle.runs.specs.Events.{Event}
 
 -- The tick of something that may not have happened.
-pub data Moment : Type 0 where
-  never : Moment
-  at : ℕ → Moment
+pub data When : Type 0 where
+  never : When
+  at : ℕ → When
 
-abbrev pub happened : Moment → Bool
+abbrev pub happened : When → Bool
 happened never = false
 happened (at t) = true
 
 -- The tick, or the other one where it has not happened.
-abbrev pub tickOr : Moment → ℕ → ℕ
+abbrev pub tickOr : When → ℕ → ℕ
 tickOr never other = other
 tickOr (at t) other = t
 
--- "Every accepted issue is a request of its own, by its processor for its entry."
+-- Clause 6.2: each accepted issue makes a request, with its processor, its entry and the tick of the issue.
 pub record Request : Type 0 where
   pub processor : ℕ
   pub entry : ℕ
   pub issued : ℕ
-  pub grant : Moment
-  pub end : Moment
+  pub grant : When
+  pub end : When
 
--- It holds from its grant until its end.
+-- Clause 6.3: it holds from its grant until its end.
 abbrev pub holds : Request → Bool
 holds r = happened (r .grant) && not (happened (r .end))
 
--- "It is unsatisfied until the first answer, its own included, whose granted mask has its processor's bit.
--- That call is its grant."
-abbrev pub granting : ℕ → ℕ → Request → Request
-granting granted t r =
-    cond (not (happened (r .grant)) && bit granted (r .processor))
-    (record { processor = r .processor; entry = r .entry; issued = r .issued; grant = at t; end = r .end })
-    r
+-- Clause 6.4: what a call carries out: a request is put in, or taken out.
+pub data Act : Type 0 where
+  puts : (processor entry : ℕ) → Act
+  takes : (processor : ℕ) → Act
 
--- "From there it holds until its processor's next accepted completion."
+-- Clause 6.4: a call counts as its acts.
+abbrev pub actsOf : Call → List Act
+actsOf (Call.Issue p e t) = puts p e ∷ []
+actsOf (Call.Complete p t) = takes p ∷ []
+
+-- Clause 6.2: a new request of an issue at tick t.
+abbrev pub arrival : ℕ → ℕ → ℕ → Request
+arrival p e t = record { processor = p; entry = e; issued = t; grant = never; end = never }
+
+-- Clause 6.3: the request of processor p that has not ended ends at tick t.
 abbrev pub ending : ℕ → ℕ → Request → Request
 ending p t r =
-    cond (eqb (r .processor) p && holds r)
+    cond (eqb (r .processor) p && not (happened (r .end)))
     (record { processor = r .processor; entry = r .entry; issued = r .issued; grant = r .grant; end = at t })
+    r
+
+-- An act at tick t, on all requests so far.
+abbrev pub acting : ℕ → Act → List Request → List Request
+acting t (puts p e) rs = rs ++ (arrival p e t ∷ [])
+acting t (takes p) rs = map (ending p t) rs
+
+unfoldable pub allActing : ℕ → List Act → List Request → List Request
+allActing t [] rs = rs
+allActing t (a ∷ later) rs = allActing t later (acting t a rs)
+
+-- Clause 6.3: the request is granted at tick t if its processor is in the granted mask, and it has neither been granted
+-- before nor ended.
+abbrev pub granting : ℕ → ℕ → Request → Request
+granting granted t r =
+    cond (not (happened (r .grant)) && (not (happened (r .end)) && bit granted (r .processor)))
+    (record { processor = r .processor; entry = r .entry; issued = r .issued; grant = at t; end = r .end })
     r
 
 -- All requests so far, in order of issue, and the last accepted tick.
@@ -53,29 +78,28 @@ pub record History : Type 0 where
   pub requests : List Request
   pub last : ℕ
 
--- One call more. "The tick of a refused call counts nowhere."
-abbrev pub counting : History → Call → Reply → History
-counting h c (Reply.Refused r) = h
-counting h (issue p e t) (Reply.Done granted entitled late) =
-    record {
-      requests = map (granting granted t) (h .requests ++ (record { processor = p; entry = e; issued = t; grant = never; end = never } ∷ []));
-      last = t;
-    }
-counting h (complete p t) (Reply.Done granted entitled late) =
-    record { requests = map (granting granted t) (map (ending p t) (h .requests)); last = t }
+-- Clauses 6.3 and 6.4: one call more: its acts, and then its grants. A refused call and its tick count nowhere.
+abbrev pub counting : History → Call → Response → History
+counting h c reply =
+    cond (eqb (reply .number) 0)
+    (record {
+      requests = map (granting (reply .granted) (tickOf c)) (allActing (tickOf c) (actsOf c) (h .requests));
+      last = tickOf c;
+    })
+    h
 
 unfoldable pub countedIn : History → List Event → History
 countedIn h [] = h
 countedIn h (e ∷ later) = countedIn (counting h (e .call) (e .reply)) later
 
--- "A list starts at the fresh arbiter: no request active, last accepted tick 0."
+-- Clauses 6.1 and 4.3: before the first call there is no request, and the last accepted tick is 0.
 abbrev pub nothing : History
 nothing = record { requests = []; last = 0 }
 
--- "A hold lasts from the grant's tick to the completion's, or to the last accepted tick while there is no completion."
+-- Clause 6.5: how long the request has been held: from its grant to its end, or else to the last accepted tick.
 abbrev pub holdOf : ℕ → Request → ℕ
 holdOf last r = cond (happened (r .grant)) (tickOr (r .end) last - tickOr (r .grant) last) 0
 
--- "A wait runs from the issue's tick to the grant's, or to the last accepted tick while there is no grant."
+-- Clause 6.6: how long it has waited: from its issue to its grant, else to its end, else to the last accepted tick.
 abbrev pub waitOf : ℕ → Request → ℕ
-waitOf last r = tickOr (r .grant) last - r .issued
+waitOf last r = tickOr (r .grant) (tickOr (r .end) last) - r .issued

@@ -1,3 +1,3 @@
-pub mod Calls
+pub mod Events
 pub mod History
 pub mod Claim

@@ -1,7 +1,7 @@
 -- The arbiter in columns: functions of a processor below n. Each settling step is a relation, processor by processor,
 -- whose cases carry the reason, also for staying. Definitions alone: what each says of a state is proved elsewhere.
 -- Assumes nothing.
-use Prim.Native.Nat.{ℕ, _<_, _≤_, _+_, _-_}
+use Prim.Native.Nat.{ℕ, _<_, _≤_, _+_}
 use mathlib.Core.Path.{_≡_}
 use mathlib.Core.Bool.{Bool, true, false}
 use mathlib.Core.Logic.{_⊎_}
@@ -71,7 +71,6 @@ pub record PutIn (n : ℕ) (R R′ : Requests) (ph ph′ : ℕ → Phase) (p : �
   pub same-against : (i j : ℕ) → i < n → j < n → (i ≡ p → ⊥) → (j ≡ p → ⊥) → R′ .against i j ≡ R .against i j
   pub same-earlier : (j i : ℕ) → j < n → i < n → (j ≡ p → ⊥) → (i ≡ p → ⊥) → R′ .earlier j i ≡ R .earlier j i
   pub active-earlier : (j : ℕ) → j < n → (ph j ≡ idle → ⊥) → R′ .earlier j p ≡ true
-  pub idle-not-earlier : (j : ℕ) → j < n → ph j ≡ idle → R′ .earlier j p ≡ false
   pub earlier-than-none : (i : ℕ) → i < n → R′ .earlier p i ≡ false
 
 pub record TakenOut (n : ℕ) (R R′ : Requests) (ph ph′ : ℕ → Phase) (p : ℕ) : Type 0 where
@@ -115,7 +114,7 @@ pub record Lawful (n : ℕ) (R : Requests) (ph : ℕ → Phase) : Type 0 where
       → R .against w v ≡ true
   pub closed : (i j : ℕ) → i < n → j < n → R .against i j ≡ true → R .group i ≡ true → R .group j ≡ true
 
--- "Earlier" is an order on the active requests.
+-- Being earlier is an order on the active requests.
 pub record Ordered (n : ℕ) (R : Requests) (ph : ℕ → Phase) : Type 0 where
   pub never-itself : (i : ℕ) → i < n → (ph i ≡ idle → ⊥) → R .earlier i i ≡ false
   pub one-way : (i j : ℕ) → i < n → j < n → (ph i ≡ idle → ⊥) → (ph j ≡ idle → ⊥) → R .earlier i j ≡ true → R .earlier j i ≡ false

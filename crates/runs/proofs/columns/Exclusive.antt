@@ -36,7 +36,7 @@ module _ {n : ℕ} {R : Requests} {ph : ℕ → Phase} (settled : Settled n R ph
           (writes-past-waiting v w hv hw d wv ww a b
           (lawful .bridge r v w hr hv hw d active (entitled-or-holding-active a) (entitled-or-holding-active b) read wv ww x y))
 
-  -- "No two conflicting requests hold together."
+  -- Clause 6.8: conflicting requests do not hold together.
   pub exclusive : ((i j : ℕ) → i < n → j < n → R .write i ≡ false → R .write j ≡ false → R .against i j ≡ false)
       → (i j : ℕ) → i < n → j < n → (i ≡ j → ⊥) → ph i ≡ holding → ph j ≡ holding → R .against i j ≡ false
   exclusive reads i j hi hj d a b = go (R .against i j) refl

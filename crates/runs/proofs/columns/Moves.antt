@@ -54,9 +54,6 @@ module _ {n : ℕ} {R R′ : Requests} {ph ph₀ : ℕ → Phase} where
   past-waiting-untouched (takes-out p s) i (inl h) e = clash h (ap ph₀ e ∙ s .now-idle) tt
   past-waiting-untouched (takes-out p s) i (inr h) e = clash h (ap ph₀ e ∙ s .now-idle) tt
 
-  pub was-entitled : (s : Start n R R′ ph ph₀) (i : ℕ) → i < n → ph₀ i ≡ entitled → ph i ≡ entitled
-  was-entitled s i hi h = sym (same-phase s i hi (past-waiting-untouched s i (inl h))) ∙ h
-
   pub was-holding : (s : Start n R R′ ph ph₀) (i : ℕ) → i < n → ph₀ i ≡ holding → ph i ≡ holding
   was-holding s i hi h = sym (same-phase s i hi (past-waiting-untouched s i (inr h))) ∙ h
 
@@ -76,20 +73,20 @@ module _ {n : ℕ} {R R′ : Requests} {ph ph₀ : ℕ → Phase} where
 -- Each step raises phases, steps 1 and 4 those of reads, steps 2 and 3 those of writes.
 
 module _ {n : ℕ} {R : Requests} {ph ph′ : ℕ → Phase} {i : ℕ} where
-  rises1 : Step1 n R ph ph′ i → Rises (ph i) (ph′ i)
+  pub rises1 : Step1 n R ph ph′ i → Rises (ph i) (ph′ i)
   rises1 (Step1.grants r e none h) = begins-to-hold (inr e) h
   rises1 (Step1.grants-waiting r w none none′ h) = begins-to-hold (inl w) h
   rises1 (Step1.stays why e) = same e
 
-  rises2 : Step2 n R ph ph′ i → Rises (ph i) (ph′ i)
+  pub rises2 : Step2 n R ph ph′ i → Rises (ph i) (ph′ i)
   rises2 (Step2.entitles w h a b c e) = becomes-entitled h e
   rises2 (Step2.stays why e) = same e
 
-  rises3 : Step3 n R ph ph′ i → Rises (ph i) (ph′ i)
+  pub rises3 : Step3 n R ph ph′ i → Rises (ph i) (ph′ i)
   rises3 (Step3.grants w e none h) = begins-to-hold (inr e) h
   rises3 (Step3.stays why e) = same e
 
-  rises4 : Step4 n R ph ph′ i → Rises (ph i) (ph′ i)
+  pub rises4 : Step4 n R ph ph′ i → Rises (ph i) (ph′ i)
   rises4 (Step4.entitles r h a b e) = becomes-entitled h e
   rises4 (Step4.stays why e) = same e
 

@@ -1,4 +1,4 @@
--- "Earlier" stays an order on the active requests over a call, and holds of the empty arbiter. Assumes nothing.
+-- Being earlier stays an order on the active requests over a call, and is one on the empty arbiter. Assumes nothing.
 use Prim.Native.Nat.{ℕ, _<_}
 use native.Mathlib.Decide.{ℕ-discrete}
 use mathlib.Core.Path.{_≡_, sym, _∙_, subst, ap}

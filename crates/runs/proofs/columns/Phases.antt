@@ -59,6 +59,10 @@ pub unsatisfied-active : {a : Phase} → Unsatisfied a → a ≡ idle → ⊥
 unsatisfied-active (inl h) = is-active h tt
 unsatisfied-active (inr h) = is-active h tt
 
+pub unsatisfied-not-holding : {a : Phase} → Unsatisfied a → a ≡ holding → ⊥
+unsatisfied-not-holding (inl e) h = clash e h tt
+unsatisfied-not-holding (inr e) h = clash e h tt
+
 pub entitled-or-holding-active : {a : Phase} → EntitledOrHolding a → a ≡ idle → ⊥
 entitled-or-holding-active (inl h) = is-active h tt
 entitled-or-holding-active (inr h) = is-active h tt
@@ -103,11 +107,6 @@ pub waiting-was-waiting : {a b : Phase} → Rises a b → b ≡ waiting → a �
 waiting-was-waiting (same p) h = sym p ∙ h
 waiting-was-waiting (becomes-entitled w e) h = absurd (clash e h tt)
 waiting-was-waiting (begins-to-hold u k) h = absurd (clash k h tt)
-
-pub entitled-was-unsatisfied : {a b : Phase} → Rises a b → b ≡ entitled → Unsatisfied a
-entitled-was-unsatisfied (same p) h = inr (sym p ∙ h)
-entitled-was-unsatisfied (becomes-entitled w e) h = inl w
-entitled-was-unsatisfied (begins-to-hold u k) h = u
 
 pub entitled-or-holding-stays : {a b : Phase} → Rises a b → EntitledOrHolding a → EntitledOrHolding b
 entitled-or-holding-stays (same p) h = subst EntitledOrHolding (sym p) h

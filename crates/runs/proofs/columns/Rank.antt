@@ -7,8 +7,7 @@ use native.Mathlib.Decide.{ℕ-discrete}
 use mathlib.Core.Path.{_≡_, refl, ap}
 use mathlib.Core.Bool.{Bool, true, false, _&&_}
 use mathlib.Core.Logic.{⊎-elim}
-use Rattle.plans.proofs.Verdicts.{and-left, and-right}
-use Rattle.runs.proofs.history.Cases.{and-both}
+use Rattle.masks.proofs.Truth.{and-left, and-right, and-both}
 use Rattle.runs.proofs.columns.Columns.{Phase, idle, waiting, entitled, holding, Requests, Ordered}
 use Rattle.runs.proofs.columns.Phases.{true-not-false}
 use Rattle.runs.proofs.columns.Counting.{count, Within, count-grows, count-less, count-found, count-positive, count-below}

@@ -53,7 +53,7 @@ module _ {n t Lr Lw : ℕ} {R : Requests} {ph : ℕ → Phase} {si len : ℕ →
             write-holds-at-most prompt w hw (lawful .closed r w hr hw (x .conflict) g) (x .write-is) (x .phase-is),
           )
 
-  -- "No read has waited more than Lr + Lw."
+  -- Clause 6.9: the read figure bounds the wait of every read.
   pub read-wait-bounded : (r : ℕ) → r < n → R .group r ≡ true → R .write r ≡ false → Unsatisfied (ph r) → t ≤ si r + (Lr + Lw)
   read-wait-bounded r hr g read (inl k) = omega (arith, waiting-read-bounded r hr g read k)
   read-wait-bounded r hr g read (inr k) = entitled-read-bounded r hr g read k

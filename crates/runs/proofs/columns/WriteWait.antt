@@ -9,7 +9,7 @@ use mathlib.Core.Path.{_≡_, refl, sym, ap, _∙_, subst}
 use mathlib.Core.Bool.{true, false}
 use mathlib.Core.Logic.{_⊎_, inl, inr, ⊎-elim}
 use Rattle.runs.proofs.columns.Columns.{Phase, idle, entitled, holding, Requests, In, Called, Lawful, Ordered, Settled}
-use Rattle.runs.proofs.columns.Phases.{clash, is-active, Unsatisfied, EntitledOrHolding, unsatisfied-active, unsatisfied-or-holding, holding-stays}
+use Rattle.runs.proofs.columns.Phases.{clash, is-active, Unsatisfied, EntitledOrHolding, unsatisfied-active, unsatisfied-not-holding, unsatisfied-or-holding, holding-stays}
 use Rattle.runs.proofs.columns.Moves.{active-untouched, rises-throughout, held-keeps-tick, unsatisfied-keeps-tick, newcomer-has-tick, begun-has-tick, ticks-past, nothing-added, same-against, same-write}
 use Rattle.runs.proofs.columns.Lengths.{Prompt, read-holds-at-most, write-holds-at-most}
 use Rattle.runs.proofs.columns.Rank.{GroupWrite, rank, First, Below, rank-below, rank-below-with-read, first-exists, first-is-ahead, first-is-one, nothing-ahead-of-first, ahead-ranks-above-zero}
@@ -42,10 +42,6 @@ pub record Standing (n : ℕ) (R : Requests) (ph : ℕ → Phase) : Type 0 where
   pub settled : Settled n R ph
   pub ordered : Ordered n R ph
   pub lawful : Lawful n R ph
-
-unsatisfied-not-holding : {a : Phase} → Unsatisfied a → a ≡ holding → ⊥
-unsatisfied-not-holding (inl e) h = clash e h tt
-unsatisfied-not-holding (inr e) h = clash e h tt
 
 waiting-group-write : {n : ℕ} {R : Requests} {ph : ℕ → Phase} {w : ℕ} → WaitingWrite n R ph w → GroupWrite R ph w
 waiting-group-write u = record { active = unsatisfied-active (u .unsatisfied); write-is = u .write-is; group-is = u .group-is }
@@ -93,7 +89,7 @@ module _ {n t Lr Lw : ℕ} {R : Requests} {ph : ℕ → Phase} {si len : ℕ →
             not-past = λ h. absurd (h e);
           }
 
-  -- "No write has waited more than (m − 1) × (Lr + Lw)."
+  -- Clause 6.9: the write figure bounds the wait of every write.
   pub write-wait-bounded : {m : ℕ} → WriteTimed n m Lr Lw R ph si → (w : ℕ) → WaitingWrite n R ph w → t ≤ si w + (m - 1) * (Lr + Lw)
   write-wait-bounded {m} timed w u = go (first-exists (s .ordered) w (u .below) (waiting-group-write u))
     where

@@ -1,28 +1,26 @@
--- The history counted from calls and answers, and the arbiter's state: how they agree, that they do so at the start, and
--- that every call keeps it so. Assumes nothing.
+-- The history counted from calls and answers, and the arbiter's state: how they agree, that they do so at the start,
+-- and that every act and its grants keep it so, with the waits and holds of the old requests. Assumes nothing.
 use Prim.Native.Nat.{ℕ, suc, _≤_, _<_}
 use mathlib.Core.Path.{_≡_, refl, sym, ap, subst, _∙_}
-use mathlib.Core.Bool.{Bool, true, false, cond, not, _&&_, false≢true}
 use mathlib.Core.List.{[], _∷_, _++_, map}
 use mathlib.Core.Logic.{⊎-elim}
-use native.Mathlib.Nat.{le-refl, le-of-suc-le-suc, not-suc-le-zero, eq-or-lt-of-le}
+use native.Mathlib.Nat.{le-trans, le-of-suc-le-suc, not-suc-le-zero, eq-or-lt-of-le}
 use native.Mathlib.Omega.{arith}
 use lib.ListN.{length, length-map, List·getD-append}
 use lib.Seq.{getD-append-seam}
-use Rattle.masks.specs.Sets.{bit}
+use Rattle.plans.specs.Entries.{slots}
 use Rattle.arbiter.specs.declared.Board.{Board}
 use Rattle.arbiter.specs.declared.State.{State}
-use Rattle.arbiter.specs.declared.Answered.{Answered}
-use Rattle.arbiter.specs.Requests.{slots, active}
-use Rattle.arbiter.specs.Calls.{freshState}
-use Rattle.runs.specs.Calls.{issue, complete}
-use Rattle.runs.specs.History.{never, at, happened, Request, History, granting, ending, counting, nothing}
+use Rattle.arbiter.specs.Fresh.{freshState}
+use Rattle.runs.specs.History.{never, Request, History, Act, puts, takes, arrival, acting, granting, ending, nothing, waitOf}
 use Rattle.runs.specs.Claim.{request}
-use Rattle.runs.proofs.history.Tables.{length-more, getD-map}
-use Rattle.runs.proofs.history.Cases.{by-processor}
-use Rattle.runs.proofs.history.Fresh.{fresh-idle}
-use Rattle.runs.proofs.history.Frame.{IssueDone, CompleteDone}
-use Rattle.runs.proofs.history.Tied.{Open, Tied, open-of, Grew, stayed, granted, finished, Next, next-at-issue, next-at-complete, ending-other, arrival, Arrived, arrived}
+use Rattle.runs.proofs.history.Cases.{by-processor, below-or-past, length-more, getD-map}
+use Rattle.runs.proofs.history.Tied.{Tied, open-active, ending-other, tied-put, tied-arrival, tied-taken, tied-granted}
+use Rattle.runs.proofs.history.Spans.{Alike, alike-same, alike-through, granting-alike, granting-end, ending-alike, arrival-waits}
+use Rattle.runs.proofs.columns.Columns.{idle}
+use Rattle.runs.proofs.columns.Phases.{idle-stays}
+use Rattle.runs.proofs.refinement.Clean.{phaseIn, fresh-idle}
+use Rattle.runs.proofs.refinement.Acts.{Begun, Settles, ActDone}
 
 -- A request without an end that is processor q's.
 pub record OpenOf (h : History) (q i : ℕ) : Type 0 where
@@ -34,33 +32,26 @@ pub record Related (s : State) (h : History) : Type 0 where
   pub last : h .last ≡ s .last
   pub each : (i : ℕ) → i < length (h .requests) → Tied s (request h i)
   pub apart : (q i j : ℕ) → OpenOf h q i → OpenOf h q j → i ≡ j
-  pub present : (q : ℕ) → q < slots → active s q ≡ true → (i : ℕ) × OpenOf h q i
+  pub present : (q : ℕ) → q < slots → (phaseIn s q ≡ idle → ⊥) → (i : ℕ) × OpenOf h q i
 
--- What an accepted call at tick t makes of a history.
+-- What is counted at tick t makes of a history.
 pub record Advanced (t : ℕ) (h h′ : History) : Type 0 where
-  pub in-time : h .last ≤ t
-  pub last : h′ .last ≡ t
   pub longer : length (h .requests) ≤ length (h′ .requests)
-  pub old : (i : ℕ) → i < length (h .requests) → Grew t (request h i) (request h′ i)
-  pub new : (i : ℕ) → length (h .requests) ≤ i → i < length (h′ .requests)
-      → (request h′ i .issued ≡ t) × ((g : ℕ) → request h′ i .grant ≡ at g → g ≡ t)
+  pub old : (i : ℕ) → i < length (h .requests) → Alike t (request h i) (request h′ i)
+  pub new : (i : ℕ) → length (h .requests) ≤ i → i < length (h′ .requests) → waitOf t (request h′ i) ≡ 0
 
 pub record Step (t : ℕ) (h h′ : History) (s′ : State) : Type 0 where
   pub related : Related s′ h′
   pub advanced : Advanced t h h′
 
--- No call at all, as a call at the last accepted tick.
-pub advanced-none : (h : History) → Advanced (h .last) h h
-advanced-none h =
+advanced-through : {t : ℕ} {h h₁ h₂ : History} → Advanced t h h₁ → Advanced t h₁ h₂ → Advanced t h h₂
+advanced-through {h = h} {h₁} f g =
     record {
-      in-time = le-refl (h .last);
-      last = refl;
-      longer = le-refl (length (h .requests));
-      old = λ i l. stayed refl;
-      new = λ i past l. absurd (omega arith);
+      longer = le-trans (f .longer) (g .longer);
+      old = λ i l. alike-through (f .old i l) (g .old i (le-trans l (f .longer)));
+      new = λ i past l.
+          below-or-past i (length (h₁ .requests)) (λ m. g .old i m .wait ∙ f .new i past m) (λ m. g .new i m l);
     }
-
--- ---- the start
 
 pub related-fresh : Related freshState nothing
 related-fresh =
@@ -68,224 +59,200 @@ related-fresh =
       last = refl;
       each = λ i l. absurd (not-suc-le-zero l);
       apart = λ q i j f g. absurd (not-suc-le-zero (f .listed));
-      present = λ q l a. absurd (false≢true (sym (fresh-idle q) ∙ a));
+      present = λ q l a. absurd (a (fresh-idle q));
     }
 
--- ---- one request
+-- ---- every request changed
 
-grown-processor : {t : ℕ} {r r′ : Request} → Grew t r r′ → r′ .processor ≡ r .processor
-grown-processor (stayed e) = ap (λ r. r .processor) e
-grown-processor (granted a b e) = ap (λ r. r .processor) e
-grown-processor (finished b e) = ap (λ r. r .processor) e
+-- A change of all requests, from the state s to s′ at tick t, that ends only those of processors that are idle then.
+record Changes (t : ℕ) (s s′ : State) (f : Request → Request) : Type 0 where
+  tied : (r : Request) → Tied s r → Tied s′ (f r)
+  alike : (r : Request) → Alike t r (f r)
+  stays-open : (r : Request) → (phaseIn s′ (r .processor) ≡ idle → ⊥) → r .end ≡ never → f r .end ≡ never
+  was-active : (q : ℕ) → q < slots → (phaseIn s′ q ≡ idle → ⊥) → phaseIn s q ≡ idle → ⊥
 
-grown-open : {t : ℕ} {r r′ : Request} → Grew t r r′ → r′ .end ≡ never → r .end ≡ never
-grown-open (stayed e) f = sym (ap (λ r. r .end) e) ∙ f
-grown-open (granted a b e) f = b
-grown-open (finished b e) f = b
+module _ (t : ℕ) (s s′ : State) (f : Request → Request) (k : Changes t s s′ f) (h : History) (rel : Related s h)
+    (now : t ≡ s′ .last) where
+  abbrev h′ : History
+  h′ = record { requests = map f (h .requests); last = t }
 
-open-before : (t q : ℕ) (h h′ : History) (i : ℕ) → i < length (h .requests) → Grew t (request h i) (request h′ i) → OpenOf h′ q i → OpenOf h q i
-open-before t q h h′ i l g o =
-    record { listed = l; no-end = grown-open g (o .no-end); processor = sym (grown-processor g) ∙ o .processor }
+  same-length : length (h′ .requests) ≡ length (h .requests)
+  same-length = length-map (h .requests) f
 
-granting-end : (g t : ℕ) (r : Request) → granting g t r .end ≡ r .end
-granting-end g t r = go (not (happened (r .grant)) && bit g (r .processor))
-  where
-    go : (u : Bool)
-        → cond u (record { processor = r .processor; entry = r .entry; issued = r .issued; grant = at t; end = r .end }) r .end ≡ r .end
-    go true = refl
-    go false = refl
+  listed : (i : ℕ) → i < length (h′ .requests) → i < length (h .requests)
+  listed i l = omega (arith, same-length)
 
--- ---- an issue
+  changed-at : (i : ℕ) → i < length (h .requests) → request h′ i ≡ f (request h i)
+  changed-at i l = getD-map f (h .requests) i (arrival 0 0 0) (arrival 0 0 0) l
 
-abbrev afterIssue : History → ℕ → ℕ → ℕ → ℕ → History
-afterIssue h p e t g = record { requests = map (granting g t) (h .requests ++ (arrival p e t ∷ [])); last = t }
+  alike-at : (i : ℕ) → i < length (h .requests) → Alike t (request h i) (request h′ i)
+  alike-at i l = subst (Alike t (request h i)) (sym (changed-at i l)) (k .alike (request h i))
 
-blank : Request
-blank = record { processor = 0; entry = 0; issued = 0; grant = never; end = never }
+  open-before : (q i : ℕ) → OpenOf h′ q i → OpenOf h q i
+  open-before q i o =
+      let l = listed i (o .listed) in
+      record { listed = l; no-end = alike-at i l .was-open (o .no-end); processor = sym (alike-at i l .processor) ∙ o .processor }
 
-length-after-issue : (h : History) (p e t g : ℕ) → length (afterIssue h p e t g .requests) ≡ suc (length (h .requests))
-length-after-issue h p e t g =
-    length-map (h .requests ++ (arrival p e t ∷ [])) (granting g t) ∙ length-more (h .requests) (arrival p e t)
+  open-after : (q i : ℕ) → (phaseIn s′ q ≡ idle → ⊥) → OpenOf h q i → OpenOf h′ q i
+  open-after q i a o =
+      record {
+        listed = omega (arith, same-length, o .listed);
+        no-end =
+            ap (λ r. r .end) (changed-at i (o .listed))
+            ∙ k .stays-open (request h i) (λ e. a (ap (phaseIn s′) (sym (o .processor)) ∙ e)) (o .no-end);
+        processor = alike-at i (o .listed) .processor ∙ o .processor;
+      }
 
-old-after-issue : (h : History) (p e t g i : ℕ) → i < length (h .requests) → request (afterIssue h p e t g) i ≡ granting g t (request h i)
-unfolding blank
-old-after-issue h p e t g i l =
-    let bound : i < length (h .requests ++ (arrival p e t ∷ [])) = omega (arith, length-more (h .requests) (arrival p e t)) in
-    getD-map (granting g t) (h .requests ++ (arrival p e t ∷ [])) i blank blank bound
-    ∙ ap (granting g t) (List·getD-append (h .requests) (arrival p e t ∷ []) blank i l)
+  changed-step : Step t h (record { requests = map f (h .requests); last = t }) s′
+  changed-step =
+      record {
+        related =
+            record {
+              last = now;
+              each =
+                  λ i l. subst (Tied s′) (sym (changed-at i (listed i l))) (k .tied (request h i) (rel .each i (listed i l)));
+              apart = λ q i j x y. rel .apart q i j (open-before q i x) (open-before q j y);
+              present = λ q l a.
+                  let found = rel .present q l (k .was-active q l a) in
+                  (found .0, open-after q (found .0) a (found .1));
+            };
+        advanced =
+            record {
+              longer = omega (arith, same-length);
+              old = alike-at;
+              new = λ i past l. absurd (omega (arith, same-length));
+            };
+      }
 
-new-after-issue : (h : History) (p e t g : ℕ) → request (afterIssue h p e t g) (length (h .requests)) ≡ granting g t (arrival p e t)
-unfolding blank
-new-after-issue h p e t g =
-    let bound : length (h .requests) < length (h .requests ++ (arrival p e t ∷ [])) = omega (arith, length-more (h .requests) (arrival p e t)) in
-    getD-map (granting g t) (h .requests ++ (arrival p e t ∷ [])) (length (h .requests)) blank blank bound
-    ∙ ap (granting g t) (getD-append-seam (h .requests) (arrival p e t) [] blank)
+taken-changes : (s x : State) (t p : ℕ) → Begun s x t (takes p) → Changes t s x (ending p t)
+taken-changes s x t p f =
+    record {
+      tied = tied-taken s x t p f;
+      alike = ending-alike p t;
+      stays-open =
+          λ r a e. ap (λ r. r .end) (ending-other p t r (λ same. a (ap (phaseIn x) same ∙ f .own .now-idle))) ∙ e;
+      was-active = λ q l a k.
+          by-processor q p (λ same. a (ap (phaseIn x) same ∙ f .own .now-idle))
+          (λ other. a (f .others q l other .phase ∙ k));
+    }
 
--- A place below n + 1 is below n or is n.
-place-cases : {A : Type 0} (i n m : ℕ) → i < m → m ≡ suc n → (i < n → A) → (i ≡ n → A) → A
-place-cases i n m l e below last = ⊎-elim last below (eq-or-lt-of-le (le-of-suc-le-suc (subst (λ (k : ℕ). i < k) e l)))
+granted-changes : (x s′ : State) (g : ℕ) → Settles x s′ g → Changes (x .last) x s′ (granting g (x .last))
+granted-changes x s′ g h =
+    record {
+      tied = tied-granted x s′ g h;
+      alike = granting-alike g (x .last);
+      stays-open = λ r a e. granting-end g (x .last) r ∙ e;
+      was-active = λ q l a k. a (idle-stays (h .rises q l) k);
+    }
 
-module _ (b : Board) (s : State) (h : History) (p e t : ℕ) (a : Answered) (f : IssueDone b s p e t a) (rel : Related s h) where
-  issue-old : (i : ℕ) → i < length (h .requests) → Next (a .state) t (request h i) (request (afterIssue h p e t (f .granted)) i)
-  issue-old i l =
-      subst (λ r. Next (a .state) t (request h i) r) (sym (old-after-issue h p e t (f .granted) i l))
-      (next-at-issue b s p e t a f (request h i) (rel .each i l))
+-- ---- one request more
 
-  issue-new : (i : ℕ) → i ≡ length (h .requests) → Arrived (a .state) p t (request (afterIssue h p e t (f .granted)) i)
-  issue-new i same =
-      subst (λ r. Arrived (a .state) p t r)
-      (sym (ap (request (afterIssue h p e t (f .granted))) same ∙ new-after-issue h p e t (f .granted))) (arrived b s p e t a f)
+module _ (s x : State) (t p e : ℕ) (f : Begun s x t (puts p e)) (h : History) (rel : Related s h) where
+  abbrev h₁ : History
+  h₁ = record { requests = h .requests ++ (arrival p e t ∷ []); last = t }
+
+  abbrev n : ℕ
+  n = length (h .requests)
+
+  one-more : length (h₁ .requests) ≡ suc n
+  one-more = length-more (h .requests) (arrival p e t)
+
+  old-at : (i : ℕ) → i < n → request h₁ i ≡ request h i
+  old-at i l = List·getD-append (h .requests) (arrival p e t ∷ []) (arrival 0 0 0) i l
+
+  new-at : (i : ℕ) → i ≡ n → request h₁ i ≡ arrival p e t
+  new-at i same = ap (request h₁) same ∙ getD-append-seam (h .requests) (arrival p e t) [] (arrival 0 0 0)
+
+  -- A place of the longer list is one before, or the last.
+  place : {A : Type 0} (i : ℕ) → i < length (h₁ .requests) → (i < n → A) → (i ≡ n → A) → A
+  place i l below last = ⊎-elim last below (eq-or-lt-of-le (le-of-suc-le-suc (subst (λ (k : ℕ). i < k) one-more l)))
+
+  was-open : (q i : ℕ) → i < n → OpenOf h₁ q i → OpenOf h q i
+  was-open q i l o =
+      record {
+        listed = l;
+        no-end = sym (ap (λ r. r .end) (old-at i l)) ∙ o .no-end;
+        processor = sym (ap (λ r. r .processor) (old-at i l)) ∙ o .processor;
+      }
 
   -- No old request without an end is p's.
-  issue-others : (i : ℕ) → OpenOf h p i → ⊥
-  issue-others i o =
-      let w : Open s (request h i) = open-of s (request h i) (rel .each i (o .listed)) (o .no-end) in
-      false≢true (sym (f .was-idle) ∙ ap (active s) (sym (o .processor)) ∙ w .active)
+  not-both : (q i j : ℕ) → i < n → j ≡ n → OpenOf h₁ q i → OpenOf h₁ q j → ⊥
+  not-both q i j l same oi oj =
+      let o = was-open q i l oi in
+      let is-p : request h i .processor ≡ p =
+      o .processor ∙ sym (oj .processor) ∙ ap (λ r. r .processor) (new-at j same) in
+      open-active s (request h i) (rel .each i l) (o .no-end) (ap (phaseIn s) is-p ∙ f .own .was-idle)
 
-  issue-apart : (q i j : ℕ) → OpenOf (afterIssue h p e t (f .granted)) q i → OpenOf (afterIssue h p e t (f .granted)) q j → i ≡ j
-  issue-apart q i j x y =
-      place-cases i (length (h .requests)) _ (x .listed) (length-after-issue h p e t (f .granted))
-      (λ below-i.
-      place-cases j (length (h .requests)) _ (y .listed) (length-after-issue h p e t (f .granted))
-      (λ below-j. rel .apart q i j (before i below-i x) (before j below-j y))
-      (λ last-j. absurd (issue-others i (as-p j last-j y (before i below-i x)))))
-      (λ last-i.
-      place-cases j (length (h .requests)) _ (y .listed) (length-after-issue h p e t (f .granted))
-      (λ below-j. absurd (issue-others j (as-p i last-i x (before j below-j y))))
-      (λ last-j. last-i ∙ sym last-j))
-    where
-      before : (k : ℕ) → k < length (h .requests) → OpenOf (afterIssue h p e t (f .granted)) q k → OpenOf h q k
-      before k l = open-before t q h (afterIssue h p e t (f .granted)) k l (issue-old k l .grew)
+  put-apart : (q i j : ℕ) → OpenOf h₁ q i → OpenOf h₁ q j → i ≡ j
+  put-apart q i j oi oj =
+      place i (oi .listed)
+      (λ li.
+      place j (oj .listed) (λ lj. rel .apart q i j (was-open q i li oi) (was-open q j lj oj))
+      (λ last. absurd (not-both q i j li last oi oj)))
+      (λ last. place j (oj .listed) (λ lj. absurd (not-both q j i lj last oj oi)) (λ last′. last ∙ sym last′))
 
-      as-p : (k : ℕ) → k ≡ length (h .requests) → OpenOf (afterIssue h p e t (f .granted)) q k → {i : ℕ} → OpenOf h q i → OpenOf h p i
-      as-p k last o w =
-          record { listed = w .listed; no-end = w .no-end; processor = w .processor ∙ sym (o .processor) ∙ issue-new k last .processor }
-
-  issue-present : (q : ℕ) → q < slots → active (a .state) q ≡ true → (i : ℕ) × OpenOf (afterIssue h p e t (f .granted)) q i
-  issue-present q l act =
+  put-present : (q : ℕ) → q < slots → (phaseIn x q ≡ idle → ⊥) → (i : ℕ) × OpenOf h₁ q i
+  put-present q l a =
       by-processor q p
       (λ same. (
-        length (h .requests),
+        n,
         record {
-          listed = omega (arith, length-after-issue h p e t (f .granted));
-          no-end = issue-new (length (h .requests)) refl .no-end;
-          processor = issue-new (length (h .requests)) refl .processor ∙ sym same;
+          listed = omega (arith, one-more);
+          no-end = ap (λ r. r .end) (new-at n refl);
+          processor = ap (λ r. r .processor) (new-at n refl) ∙ sym same;
         },
       ))
       (λ other.
-      let found : (i : ℕ) × OpenOf h q i = rel .present q l (sym (f .others q l other .same-active) ∙ act) in (
+      let found = rel .present q l (λ k. a (f .others q l other .phase ∙ k)) in
+      let li = found .1 .listed in (
         found .0,
         record {
-          listed = omega (arith, length-after-issue h p e t (f .granted), found .1 .listed);
-          no-end =
-              ap (λ r. r .end) (old-after-issue h p e t (f .granted) (found .0) (found .1 .listed))
-              ∙ granting-end (f .granted) t (request h (found .0)) ∙ found .1 .no-end;
-          processor = grown-processor (issue-old (found .0) (found .1 .listed) .grew) ∙ found .1 .processor;
+          listed = omega (arith, one-more, li);
+          no-end = ap (λ r. r .end) (old-at (found .0) li) ∙ found .1 .no-end;
+          processor = ap (λ r. r .processor) (old-at (found .0) li) ∙ found .1 .processor;
         },
       ))
 
-  pub issue-step : Step t h (afterIssue h p e t (f .granted)) (a .state)
-  issue-step =
+  put-step : Step t h (record { requests = h .requests ++ (arrival p e t ∷ []); last = t }) x
+  put-step =
       record {
         related =
             record {
               last = sym (f .last);
               each = λ i l.
-                  place-cases i (length (h .requests)) _ l (length-after-issue h p e t (f .granted)) (λ m. issue-old i m .tied)
-                  (λ m. issue-new i m .tied);
-              apart = issue-apart;
-              present = issue-present;
+                  place i l (λ m. subst (Tied x) (sym (old-at i m)) (tied-put s x t p e f (request h i) (rel .each i m)))
+                  (λ m. subst (Tied x) (sym (new-at i m)) (tied-arrival s x t p e f));
+              apart = put-apart;
+              present = put-present;
             };
         advanced =
             record {
-              in-time = subst (λ (n : ℕ). n ≤ t) (sym (rel .last)) (f .call .in-time);
-              last = refl;
-              longer = omega (arith, length-after-issue h p e t (f .granted));
-              old = λ i l. issue-old i l .grew;
-              new = λ i m l.
-                  let same : i ≡ length (h .requests) = omega (arith, length-after-issue h p e t (f .granted)) in
-                  (issue-new i same .issued, issue-new i same .grant-now);
+              longer = omega (arith, one-more);
+              old = λ i l. subst (Alike t (request h i)) (sym (old-at i l)) (alike-same t (request h i));
+              new = λ i past l.
+                  place i l (λ m. absurd (omega arith)) (λ m. ap (waitOf t) (new-at i m) ∙ arrival-waits p e t);
             };
       }
 
--- ---- a completion
+-- ---- an act and its grants
 
-abbrev afterComplete : History → ℕ → ℕ → ℕ → History
-afterComplete h p t g = record { requests = map (granting g t) (map (ending p t) (h .requests)); last = t }
+act-step : (s x : State) (t : ℕ) (a : Act) → Begun s x t a → (h : History) → Related s h
+    → Step t h (record { requests = acting t a (h .requests); last = t }) x
+act-step s x t (puts p e) f h rel = put-step s x t p e f h rel
+act-step s x t (takes p) f h rel = changed-step t s x (ending p t) (taken-changes s x t p f) h rel (sym (f .last))
 
-length-after-complete : (h : History) (p t g : ℕ) → length (afterComplete h p t g .requests) ≡ length (h .requests)
-length-after-complete h p t g = length-map (map (ending p t) (h .requests)) (granting g t) ∙ length-map (h .requests) (ending p t)
+-- What is counted of a call at t that carries out the act a, with the mask g of grants.
+abbrev pub afterAct : History → ℕ → Act → ℕ → History
+afterAct h t a g = record { requests = map (granting g t) (acting t a (h .requests)); last = t }
 
-at-after-complete : (h : History) (p t g i : ℕ) → i < length (h .requests)
-    → request (afterComplete h p t g) i ≡ granting g t (ending p t (request h i))
-unfolding blank
-at-after-complete h p t g i l =
-    let bound : i < length (map (ending p t) (h .requests)) = omega (arith, length-map (h .requests) (ending p t)) in
-    getD-map (granting g t) (map (ending p t) (h .requests)) i blank blank bound
-    ∙ ap (granting g t) (getD-map (ending p t) (h .requests) i blank blank l)
-
-module _ (b : Board) (s : State) (h : History) (p t : ℕ) (a : Answered) (f : CompleteDone b s p t a) (rel : Related s h) where
-  complete-listed : (i : ℕ) → i < length (afterComplete h p t (f .granted) .requests) → i < length (h .requests)
-  complete-listed i l = omega (arith, length-after-complete h p t (f .granted))
-
-  complete-at : (i : ℕ) → i < length (h .requests) → Next (a .state) t (request h i) (request (afterComplete h p t (f .granted)) i)
-  complete-at i l =
-      subst (λ r. Next (a .state) t (request h i) r) (sym (at-after-complete h p t (f .granted) i l))
-      (next-at-complete b s p t a f (request h i) (rel .each i l))
-
-  complete-apart : (q i j : ℕ) → OpenOf (afterComplete h p t (f .granted)) q i → OpenOf (afterComplete h p t (f .granted)) q j → i ≡ j
-  complete-apart q i j x y = rel .apart q i j (before i x) (before j y)
-    where
-      before : (k : ℕ) → OpenOf (afterComplete h p t (f .granted)) q k → OpenOf h q k
-      before k o =
-          let l : k < length (h .requests) = complete-listed k (o .listed) in
-          open-before t q h (afterComplete h p t (f .granted)) k l (complete-at k l .grew) o
-
-  complete-present : (q : ℕ) → q < slots → active (a .state) q ≡ true → (i : ℕ) × OpenOf (afterComplete h p t (f .granted)) q i
-  complete-present q l act =
-      by-processor q p (λ same. absurd (false≢true (sym (f .now-idle) ∙ ap (active (a .state)) (sym same) ∙ act)))
-      (λ other.
-      let found : (i : ℕ) × OpenOf h q i = rel .present q l (sym (f .others q l other .same-active) ∙ act) in (
-        found .0,
-        record {
-          listed = omega (arith, length-after-complete h p t (f .granted), found .1 .listed);
-          no-end =
-              ap (λ r. r .end) (at-after-complete h p t (f .granted) (found .0) (found .1 .listed))
-              ∙ granting-end (f .granted) t (ending p t (request h (found .0)))
-              ∙ ap (λ r. r .end) (ending-other p t (request h (found .0)) (λ same. other (sym (found .1 .processor) ∙ same)))
-              ∙ found .1 .no-end;
-          processor = grown-processor (complete-at (found .0) (found .1 .listed) .grew) ∙ found .1 .processor;
-        },
-      ))
-
-  pub complete-step : Step t h (afterComplete h p t (f .granted)) (a .state)
-  complete-step =
-      record {
-        related =
-            record {
-              last = sym (f .last);
-              each = λ i l. complete-at i (complete-listed i l) .tied;
-              apart = complete-apart;
-              present = complete-present;
-            };
-        advanced =
-            record {
-              in-time = subst (λ (n : ℕ). n ≤ t) (sym (rel .last)) (f .call .in-time);
-              last = refl;
-              longer = omega (arith, length-after-complete h p t (f .granted));
-              old = λ i l. complete-at i l .grew;
-              new = λ i m l. absurd (omega (arith, length-after-complete h p t (f .granted)));
-            };
-      }
-
--- ---- the history that is counted
-
-pub issue-counted : (b : Board) (s : State) (h : History) (p e t : ℕ) (a : Answered) → IssueDone b s p e t a → Related s h
-    → Step t h (counting h (issue p e t) (a .reply)) (a .state)
-issue-counted b s h p e t a f rel =
-    subst (λ r. Step t h (counting h (issue p e t) r) (a .state)) (sym (f .reply)) (issue-step b s h p e t a f rel)
-
-pub complete-counted : (b : Board) (s : State) (h : History) (p t : ℕ) (a : Answered) → CompleteDone b s p t a → Related s h
-    → Step t h (counting h (complete p t) (a .reply)) (a .state)
-complete-counted b s h p t a f rel =
-    subst (λ r. Step t h (counting h (complete p t) r) (a .state)) (sym (f .reply)) (complete-step b s h p t a f rel)
+pub act-counted : (b : Board) (s : State) (t : ℕ) (a : Act) (s′ : State) (g : ℕ) → ActDone b s t a s′ g → (h : History)
+    → Related s h
+    → Step t h (afterAct h t a g) s′
+act-counted b s t a s′ g d h rel =
+    let first = act-step s (d .start) t a (d .begun) h rel in
+    let h₁ : History = record { requests = acting t a (h .requests); last = t } in
+    let second : Step t h₁ (afterAct h t a g) s′ =
+    subst (λ (n : ℕ). Step n h₁ (record { requests = map (granting g n) (h₁ .requests); last = n }) s′) (d .begun .last)
+    (changed-step (d .start .last) (d .start) s′ (granting g (d .start .last)) (granted-changes (d .start) s′ g (d .settles)) h₁
+    (first .related) (sym (d .settles .last))) in
+    record { related = second .related; advanced = advanced-through (first .advanced) (second .advanced) }

@@ -2,63 +2,67 @@
 use Prim.Native.Nat.{ℕ, _≤_, _<_}
 use mathlib.Core.Path.{_≡_}
 use mathlib.Core.Bool.{true, false, not, _&&_}
-use lib.Dec.{leb, ltb}
+use lib.Dec.{leb, ltb, lit<}
 use borrow.Author.Tests.{ltb-true, leb-true, not-true}
-use Rattle.runs.proofs.history.Cases.{or-other}
-use Rattle.refusals.specs.declared.Refusal.{Refusal}
-use Rattle.masks.specs.Sets.{bit}
-use Rattle.plans.specs.declared.Verdict.{Verdict}
-use Rattle.plans.specs.Acceptance.{firstOf, due}
-use Rattle.plans.proofs.Verdicts.{first-accepted, due-accepted, and-left, and-right}
-use Rattle.arbiter.specs.declared.Board.{Board}
-use Rattle.arbiter.specs.declared.State.{State}
-use Rattle.arbiter.specs.Requests.{slots, counted, cleaned, unsatisfied, active}
-use Rattle.arbiter.specs.Calls.{tickFault, processorFault, issueFault, completeFault}
+use Rattle.refusals.specs.Due.{due, firstOf}
+use Rattle.refusals.proofs.Numbers.{first-accepted, due-accepted}
+use Rattle.masks.proofs.Truth.{and-left, and-right}
+use Rattle.plans.specs.Entries.{slots}
+use Rattle.settling.specs.declared.Phases.{Phases}
+use Rattle.settling.specs.Requests.{unsatisfied, active}
+use Rattle.arbiter.specs.declared.Terms.{Terms}
+use Rattle.arbiter.specs.Requests.{hasProcessor}
+use Rattle.arbiter.specs.Faults.{tickFault, processorFault, issueFault, completeFault}
 
 -- What both calls check of their tick and processor.
-pub record Admissible (b : Board) (s : State) (p t : ℕ) : Type 0 where
-  pub in-time : s .last ≤ t
+pub record Admissible (terms : Terms) (last p t : ℕ) : Type 0 where
+  pub in-time : last ≤ t
   pub in-state : p < slots
-  pub in-plan : p < b .processors
+  pub in-plan : p < terms .processors
 
-admissible : (b : Board) (s : State) (p t : ℕ) (later : Verdict) → firstOf (tickFault s t) (firstOf (processorFault b p) later) ≡ Verdict.Accepted
-    → Admissible b s p t
-admissible b s p t later ok =
-    let tick : (leb (s .last) t && leb t 1099511627775) ≡ true = due-accepted _ Refusal.Tick (first-accepted _ _ ok .first) in
-    let place : counted b p ≡ true = due-accepted _ Refusal.Processor (first-accepted _ _ (first-accepted (tickFault s t) _ ok .later) .first) in
-    record {
-      in-time = leb-true _ _ (and-left _ _ tick);
-      in-state = ltb-true _ _ (and-left _ _ place);
-      in-plan = ltb-true _ _ (and-right (ltb p slots) _ place);
-    }
+module _ (terms : Terms) (last : ℕ) (ph : Phases) (p t : ℕ) where
+  admissible : (later : ℕ) → firstOf (tickFault last t) (firstOf (processorFault terms p) later) ≡ 0
+      → Admissible terms last p t
+  admissible later ok =
+      let both = first-accepted (tickFault last t) _ ok in
+      let tick = due-accepted (leb last t && leb t 1099511627775) 10 (lit< tt) (both .first) in
+      let place =
+      due-accepted (hasProcessor terms p) 11 (lit< tt)
+      (first-accepted (processorFault terms p) _ (both .later) .first) in
+      record {
+        in-time = leb-true _ _ (and-left _ _ tick);
+        in-state = ltb-true _ _ (and-left _ _ place);
+        in-plan = ltb-true _ _ (and-right (ltb p slots) _ place);
+      }
 
-pub record IssueTaken (b : Board) (s : State) (p e t : ℕ) : Type 0 where
-  pub call : Admissible b s p t
-  pub entry-in-plan : e < b .count
-  pub was-idle : active (cleaned b s) p ≡ false
+  pub record IssueTaken (e : ℕ) : Type 0 where
+    pub call : Admissible terms last p t
+    pub entry-in-plan : e < terms .count
+    pub was-idle : active ph p ≡ false
 
-pub issue-taken : (b : Board) (s : State) (p e t : ℕ) → issueFault b s p e t ≡ Verdict.Accepted → IssueTaken b s p e t
-unfolding issueFault
-issue-taken b s p e t ok =
-    let later = first-accepted (processorFault b p) _ (first-accepted (tickFault s t) _ ok .later) .later in
-    record {
-      call = admissible b s p t _ ok;
-      entry-in-plan = ltb-true _ _ (due-accepted (ltb e (b .count)) Refusal.Entry (first-accepted _ _ later .first));
-      was-idle = not-true _ (due-accepted (not (active (cleaned b s) p)) Refusal.Busy (first-accepted (due (ltb e (b .count)) Refusal.Entry) _ later .later));
-    }
+  pub issue-taken : (e : ℕ) → issueFault terms last ph p e t ≡ 0 → IssueTaken e
+  unfolding issueFault
+  issue-taken e ok =
+      let later = first-accepted (processorFault terms p) _ (first-accepted (tickFault last t) _ ok .later) .later in
+      let both = first-accepted (due (ltb e (terms .count)) 12) (due (not (active ph p)) 13) later in
+      record {
+        call = admissible _ ok;
+        entry-in-plan = ltb-true _ _ (due-accepted _ 12 (lit< tt) (both .first));
+        was-idle = not-true _ (due-accepted _ 13 (lit< tt) (both .later));
+      }
 
-pub record CompleteTaken (b : Board) (s : State) (p t : ℕ) : Type 0 where
-  pub call : Admissible b s p t
-  pub was-holding : bit (cleaned b s .holding) p ≡ true
+  pub record CompleteTaken : Type 0 where
+    pub call : Admissible terms last p t
+    pub was-active : active ph p ≡ true
+    pub satisfied : unsatisfied ph p ≡ false
 
-pub complete-taken : (b : Board) (s : State) (p t : ℕ) → completeFault b s p t ≡ Verdict.Accepted → CompleteTaken b s p t
-unfolding completeFault
-complete-taken b s p t ok =
-    let later = first-accepted (processorFault b p) _ (first-accepted (tickFault s t) _ ok .later) .later in
-    record {
-      call = admissible b s p t _ ok;
-      was-holding =
-          or-other (unsatisfied (cleaned b s) p) (bit (cleaned b s .holding) p)
-          (due-accepted (active (cleaned b s) p) Refusal.Idle (first-accepted _ _ later .first))
-          (not-true _ (due-accepted (not (unsatisfied (cleaned b s) p)) Refusal.Unheld (first-accepted (due (active (cleaned b s) p) Refusal.Idle) _ later .later)));
-    }
+  pub complete-taken : completeFault terms last ph p t ≡ 0 → CompleteTaken
+  unfolding completeFault
+  complete-taken ok =
+      let later = first-accepted (processorFault terms p) _ (first-accepted (tickFault last t) _ ok .later) .later in
+      let both = first-accepted (due (active ph p) 14) (due (not (unsatisfied ph p)) 15) later in
+      record {
+        call = admissible _ ok;
+        was-active = due-accepted _ 14 (lit< tt) (both .first);
+        satisfied = not-true _ (due-accepted _ 15 (lit< tt) (both .later));
+      }

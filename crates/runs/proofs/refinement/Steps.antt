@@ -1,139 +1,170 @@
--- The four settling steps of a tidy state as relations between its columns, processor by processor: a search that finds or does
--- not find becomes the reason for moving or staying. Assumes nothing.
+-- The four settling steps of tidy phases as relations between their columns, processor by processor: a search that
+-- finds or does not find becomes the reason for moving or staying. Each leaves the phases tidy. Assumes nothing.
 use Prim.Native.Nat.{ℕ, _<_}
 use mathlib.Core.Path.{_≡_, refl, ap, ap₂, _∙_}
-use mathlib.Core.Bool.{Bool, true, false, not, _&&_, _||_, false≢true, or-true, or-false, and-true}
-use mathlib.Core.Logic.{_⊎_, inl, inr}
+use mathlib.Core.Bool.{Bool, true, false, cond, not, _&&_, _||_, false≢true, or-false, and-true}
+use mathlib.Core.Logic.{_⊎_, inl, inr, ⊎-elim}
 use borrow.Author.Tests.{not-true, not-false}
 use Rattle.masks.specs.Sets.{bit}
-use Rattle.masks.proofs.Masks.{bit-mask-at}
+use Rattle.masks.proofs.Masks.{mask-below, bit-mask-at}
 use Rattle.masks.proofs.Some.{some-found, some-none-at}
-use Rattle.plans.proofs.Verdicts.{and-left, and-right}
-use Rattle.arbiter.specs.declared.Board.{Board}
-use Rattle.arbiter.specs.declared.State.{State}
-use Rattle.arbiter.specs.Requests.{slots, isEarlier, writes, conflicts, against, unsatisfied, unsatisfiedWrite, holdingRead, holdingWrite, entitledRead, entitledWrite, waitingRead, waitingWrite}
-use Rattle.arbiter.specs.Settling.{hold, entitle, test1, test2, test3, test4, step1, step2, step3, step4}
-use Rattle.runs.proofs.history.Cases.{and-both}
-use Rattle.runs.proofs.history.Slots.{Tidy}
+use Rattle.masks.proofs.Truth.{and-left, and-right, and-both}
+use Rattle.plans.specs.Entries.{slots}
+use Rattle.settling.specs.declared.Phases.{Phases}
+use Rattle.settling.specs.Requests.{Facts, isEarlier, isWriter, conflicts, against, unsatisfied, unsatisfiedWrite, holdingRead, holdingWrite, entitledRead, entitledWrite, waitingRead, waitingWrite}
+use Rattle.settling.specs.Settling.{hold, entitle, test1, test2, test3, test4, step1, step2, step3, step4}
 use Rattle.runs.proofs.columns.Columns.{Phase, waiting, entitled, holding, Requests, Exists, None, In, EarlierUnsatisfied, Step1, Step2, Step3, Step4}
-use Rattle.runs.proofs.columns.Phases.{true-not-false, clash}
-use Rattle.runs.proofs.refinement.State.{requestsOf, phaseBy, phaseOf, Marks, marks-holding, marks-entitled, marks-waiting, held-phase, entitled-phase, waiting-phase, unsatisfied-phase, unsatisfied-bit}
+use Rattle.runs.proofs.columns.Phases.{true-not-false}
+use Rattle.runs.proofs.refinement.State.{requestsOf, phaseOf, three, bitsOf, Tidy, bits-in, Becomes, moved, kept, becomes-tidy, Marks, marks-holding, marks-entitled, marks-waiting, entitled-phase, waiting-phase, unsatisfied-phase, unsatisfied-bit}
 
 -- ---- searches among the requests that conflict with p's
 
 -- The test, of a request that conflicts with p's, says P.
-pub record Says (b : Board) (s : State) (p : ℕ) (test : ℕ → Bool) (P : ℕ → Type 0) : Type 0 where
-  pub into : (q : ℕ) → q < slots → test q ≡ true → conflicts b s p q ≡ true → P q
+pub record Says (f : Facts) (p : ℕ) (test : ℕ → Bool) (P : ℕ → Type 0) : Type 0 where
+  pub into : (q : ℕ) → q < slots → test q ≡ true → conflicts f p q ≡ true → P q
   pub passes : (q : ℕ) → q < slots → P q → test q ≡ true
-  pub conflict : (q : ℕ) → q < slots → P q → conflicts b s p q ≡ true
+  pub conflict : (q : ℕ) → q < slots → P q → conflicts f p q ≡ true
 
-module _ {b : Board} {s : State} {p : ℕ} {test : ℕ → Bool} {P : ℕ → Type 0} (says : Says b s p test P) where
-  pub found : against b s p test ≡ true → Exists slots P
+module _ {f : Facts} {p : ℕ} {test : ℕ → Bool} {P : ℕ → Type 0} (says : Says f p test P) where
+  pub found : against f p test ≡ true → Exists slots P
   found h =
-      let r = some-found slots (λ q. test q && conflicts b s p q) h in
+      let r = some-found slots (λ q. test q && conflicts f p q) h in
       (r .0, r .1, says .into (r .0) (r .1) (and-left (test (r .0)) _ (r .2)) (and-right (test (r .0)) _ (r .2)))
 
-  pub not-found : against b s p test ≡ false → None slots P
+  pub not-found : against f p test ≡ false → None slots P
   not-found h q l x =
-      true-not-false (and-both (test q) (conflicts b s p q) (says .passes q l x) (says .conflict q l x))
-      (some-none-at slots (λ q. test q && conflicts b s p q) q h l)
+      true-not-false (and-both (test q) (conflicts f p q) (says .passes q l x) (says .conflict q l x))
+      (some-none-at slots (λ q. test q && conflicts f p q) q h l)
 
-module _ (b : Board) (G : ℕ → Bool) (s : State) (p : ℕ) where
-  says-write : (mask : ℕ) (phase : Phase) → Marks s mask phase
-      → Says b s p (λ q. bit mask q && writes b s q) (In (requestsOf b G s) (phaseOf s) phase true p)
+module _ (f : Facts) (G : ℕ → Bool) (ph : Phases) (p : ℕ) where
+  says-write : (mask : ℕ) (phase : Phase) → Marks ph mask phase
+      → Says f p (λ q. bit mask q && isWriter f q) (In (requestsOf f G) (phaseOf ph) phase true p)
   says-write mask phase marks =
       record {
         into = λ q l t x.
             record { phase-is = marks .into q l (and-left (bit mask q) _ t); write-is = and-right (bit mask q) _ t; conflict = x };
-        passes = λ q l x. and-both (bit mask q) (writes b s q) (marks .from q l (x .phase-is)) (x .write-is);
+        passes = λ q l x. and-both (bit mask q) (isWriter f q) (marks .from q l (x .phase-is)) (x .write-is);
         conflict = λ q l x. x .conflict;
       }
 
-  says-read : (mask : ℕ) (phase : Phase) → Marks s mask phase
-      → Says b s p (λ q. bit mask q && not (writes b s q)) (In (requestsOf b G s) (phaseOf s) phase false p)
+  says-read : (mask : ℕ) (phase : Phase) → Marks ph mask phase
+      → Says f p (λ q. bit mask q && not (isWriter f q)) (In (requestsOf f G) (phaseOf ph) phase false p)
   says-read mask phase marks =
       record {
         into = λ q l t x.
             record {
               phase-is = marks .into q l (and-left (bit mask q) _ t);
-              write-is = not-true (writes b s q) (and-right (bit mask q) _ t);
+              write-is = not-true (isWriter f q) (and-right (bit mask q) _ t);
               conflict = x;
             };
-        passes = λ q l x. and-both (bit mask q) (not (writes b s q)) (marks .from q l (x .phase-is)) (ap not (x .write-is));
+        passes =
+            λ q l x. and-both (bit mask q) (not (isWriter f q)) (marks .from q l (x .phase-is)) (ap not (x .write-is));
         conflict = λ q l x. x .conflict;
       }
 
-  module _ (c : Tidy b s) where
-    pub says-holding-write : Says b s p (holdingWrite b s) (In (requestsOf b G s) (phaseOf s) holding true p)
-    says-holding-write = says-write (s .holding) holding (marks-holding s)
+  module _ (c : Tidy ph) where
+    pub says-holding-write : Says f p (holdingWrite f ph) (In (requestsOf f G) (phaseOf ph) holding true p)
+    says-holding-write = says-write (ph .holding) holding (marks-holding ph)
 
-    pub says-holding-read : Says b s p (holdingRead b s) (In (requestsOf b G s) (phaseOf s) holding false p)
-    says-holding-read = says-read (s .holding) holding (marks-holding s)
+    pub says-holding-read : Says f p (holdingRead f ph) (In (requestsOf f G) (phaseOf ph) holding false p)
+    says-holding-read = says-read (ph .holding) holding (marks-holding ph)
 
-    pub says-entitled-write : Says b s p (entitledWrite b s) (In (requestsOf b G s) (phaseOf s) entitled true p)
-    says-entitled-write = says-write (s .entitled) entitled (marks-entitled b s c)
+    pub says-entitled-write : Says f p (entitledWrite f ph) (In (requestsOf f G) (phaseOf ph) entitled true p)
+    says-entitled-write = says-write (ph .entitled) entitled (marks-entitled ph c)
 
-    pub says-entitled-read : Says b s p (entitledRead b s) (In (requestsOf b G s) (phaseOf s) entitled false p)
-    says-entitled-read = says-read (s .entitled) entitled (marks-entitled b s c)
+    pub says-entitled-read : Says f p (entitledRead f ph) (In (requestsOf f G) (phaseOf ph) entitled false p)
+    says-entitled-read = says-read (ph .entitled) entitled (marks-entitled ph c)
 
-    pub says-earlier : Says b s p (λ q. isEarlier s q p && unsatisfiedWrite b s q) (EarlierUnsatisfied (requestsOf b G s) (phaseOf s) p)
+    pub says-earlier : Says f p (λ q. isEarlier f q p && unsatisfiedWrite f ph q) (EarlierUnsatisfied (requestsOf f G) (phaseOf ph) p)
     says-earlier =
         record {
           into = λ q l t x.
-              let u = and-right (isEarlier s q p) (unsatisfiedWrite b s q) t in
+              let u = and-right (isEarlier f q p) (unsatisfiedWrite f ph q) t in
               record {
-                unsatisfied = unsatisfied-phase s q b c l (and-left (unsatisfied s q) (writes b s q) u);
-                write-is = and-right (unsatisfied s q) (writes b s q) u;
-                before = and-left (isEarlier s q p) _ t;
+                unsatisfied = unsatisfied-phase ph q c l (and-left (unsatisfied ph q) (isWriter f q) u);
+                write-is = and-right (unsatisfied ph q) (isWriter f q) u;
+                before = and-left (isEarlier f q p) _ t;
                 conflict = x;
               };
           passes = λ q l x.
-              and-both (isEarlier s q p) (unsatisfiedWrite b s q) (x .before)
-              (and-both (unsatisfied s q) (writes b s q) (unsatisfied-bit s q (x .unsatisfied)) (x .write-is));
+              and-both (isEarlier f q p) (unsatisfiedWrite f ph q) (x .before)
+              (and-both (unsatisfied ph q) (isWriter f q) (unsatisfied-bit ph q c l (x .unsatisfied)) (x .write-is));
           conflict = λ q l x. x .conflict;
         }
 
 -- ---- who moves
 
-hold-phase : (w e h t : Bool) → t ≡ true → phaseBy w (e && not t) (h || t) ≡ holding
-hold-phase w e h t k = ap (phaseBy w (e && not t)) (ap (λ u. h || u) k ∙ or-true h)
+hold-bits : (w e h t : Bool) → (t ≡ true → three w e h ≡ bitsOf entitled)
+    → three w (e && not t) (h || t) ≡ cond t (bitsOf holding) (three w e h)
+hold-bits w e h true from = ap (λ b. three (b .0) (b .1 && false) (b .2 || true)) (from refl)
+hold-bits w e h false from = λ i. three w (and-true e i) (or-false h i)
 
-keep-phase : (w e h t : Bool) → t ≡ false → phaseBy w (e && not t) (h || t) ≡ phaseBy w e h
-keep-phase w e h t k = ap₂ (phaseBy w) (ap (λ u. e && not u) k ∙ and-true e) (ap (λ u. h || u) k ∙ or-false h)
+entitle-bits : (w e h t : Bool) → (t ≡ true → three w e h ≡ bitsOf waiting)
+    → three (w && not t) (e || t) h ≡ cond t (bitsOf entitled) (three w e h)
+entitle-bits w e h true from = ap (λ b. three (b .0 && false) (b .1 || true) (b .2)) (from refl)
+entitle-bits w e h false from = λ i. three (and-true w i) (or-false e i) h
 
-entitle-phase : (w e h t : Bool) → h ≡ false → t ≡ true → phaseBy (w && not t) (e || t) h ≡ entitled
-entitle-phase w true h t i k = ap (phaseBy (w && not t) true) i
-entitle-phase w false h t i k = ap₂ (phaseBy (w && not t)) k i
+module _ (ph : Phases) (test : ℕ → Bool) (c : Tidy ph) where
+  holds-by : ((q : ℕ) → q < slots → test q ≡ true → phaseOf ph q ≡ entitled) → Becomes holding test ph (hold ph test)
+  holds-by from =
+      let e : ℕ → Bool = λ p. bit (ph .entitled) p && not (test p) in
+      let h : ℕ → Bool = λ p. bit (ph .holding) p || test p in
+      record {
+        waiting-below = c .waiting-below;
+        entitled-below = mask-below slots e;
+        holding-below = mask-below slots h;
+        bits = λ q l.
+            ap₂ (three (bit (ph .waiting) q)) (bit-mask-at slots e q l) (bit-mask-at slots h q l)
+            ∙ hold-bits _ _ _ (test q) (λ t. bits-in ph q c l entitled (from q l t));
+      }
 
-keep-waiting : (w e h t : Bool) → t ≡ false → phaseBy (w && not t) (e || t) h ≡ phaseBy w e h
-keep-waiting w e h t k = ap₂ (λ u v. phaseBy u v h) (ap (λ u. w && not u) k ∙ and-true w) (ap (λ u. e || u) k ∙ or-false e)
+  entitled-by : ((q : ℕ) → q < slots → test q ≡ true → phaseOf ph q ≡ waiting)
+      → Becomes entitled test ph (entitle ph test)
+  entitled-by from =
+      let w : ℕ → Bool = λ p. bit (ph .waiting) p && not (test p) in
+      let e : ℕ → Bool = λ p. bit (ph .entitled) p || test p in
+      record {
+        waiting-below = mask-below slots w;
+        entitled-below = mask-below slots e;
+        holding-below = c .holding-below;
+        bits = λ q l.
+            ap₂ (λ u v. three u v (bit (ph .holding) q)) (bit-mask-at slots w q l) (bit-mask-at slots e q l)
+            ∙ entitle-bits _ _ _ (test q) (λ t. bits-in ph q c l waiting (from q l t));
+      }
 
-module _ (s : State) (test : ℕ → Bool) (q : ℕ) (l : q < slots) where
-  hold-bits : phaseOf (hold s test) q ≡ phaseBy (bit (s .waiting) q) (bit (s .entitled) q && not (test q)) (bit (s .holding) q || test q)
-  hold-bits =
-      ap₂ (phaseBy (bit (s .waiting) q)) (bit-mask-at slots (λ p. bit (s .entitled) p && not (test p)) q l)
-      (bit-mask-at slots (λ p. bit (s .holding) p || test p) q l)
+module _ (f : Facts) (ph : Phases) (c : Tidy ph) where
+  step1-moves : Becomes holding (test1 f ph) ph (step1 f ph)
+  unfolding step1 test1
+  step1-moves =
+      holds-by ph (test1 f ph) c (λ q l h. entitled-phase ph q c l (and-left _ _ (and-left (entitledRead f ph q) _ h)))
 
-  begins-to-hold : test q ≡ true → phaseOf (hold s test) q ≡ holding
-  begins-to-hold t = hold-bits ∙ hold-phase (bit (s .waiting) q) (bit (s .entitled) q) (bit (s .holding) q) (test q) t
+  pub step1-tidy : Tidy (step1 f ph)
+  step1-tidy = becomes-tidy step1-moves c
 
-  not-held : test q ≡ false → phaseOf (hold s test) q ≡ phaseOf s q
-  not-held t = hold-bits ∙ keep-phase (bit (s .waiting) q) (bit (s .entitled) q) (bit (s .holding) q) (test q) t
+  step2-moves : Becomes entitled (test2 f ph) ph (step2 f ph)
+  unfolding step2 test2
+  step2-moves =
+      entitled-by ph (test2 f ph) c
+      (λ q l h. waiting-phase ph q c l (and-left _ _ (and-left (waitingWrite f ph q) _ h)))
 
-  entitle-bits : phaseOf (entitle s test) q ≡ phaseBy (bit (s .waiting) q && not (test q)) (bit (s .entitled) q || test q) (bit (s .holding) q)
-  entitle-bits =
-      ap₂ (λ u v. phaseBy u v (bit (s .holding) q)) (bit-mask-at slots (λ p. bit (s .waiting) p && not (test p)) q l)
-      (bit-mask-at slots (λ p. bit (s .entitled) p || test p) q l)
+  pub step2-tidy : Tidy (step2 f ph)
+  step2-tidy = becomes-tidy step2-moves c
 
-  becomes-entitled : phaseOf s q ≡ waiting → test q ≡ true → phaseOf (entitle s test) q ≡ entitled
-  becomes-entitled k t = entitle-bits ∙ entitle-phase (bit (s .waiting) q) (bit (s .entitled) q) (bit (s .holding) q) (test q) (not-holding (bit (s .holding) q) refl) t
-    where
-      not-holding : (h : Bool) → bit (s .holding) q ≡ h → bit (s .holding) q ≡ false
-      not-holding true e = absurd (clash k (held-phase s q e) tt)
-      not-holding false e = e
+  step3-moves : Becomes holding (test3 f ph) ph (step3 f ph)
+  unfolding step3 test3
+  step3-moves =
+      holds-by ph (test3 f ph) c (λ q l h. entitled-phase ph q c l (and-left _ _ (and-left (entitledWrite f ph q) _ h)))
 
-  not-entitled : test q ≡ false → phaseOf (entitle s test) q ≡ phaseOf s q
-  not-entitled t = entitle-bits ∙ keep-waiting (bit (s .waiting) q) (bit (s .entitled) q) (bit (s .holding) q) (test q) t
+  pub step3-tidy : Tidy (step3 f ph)
+  step3-tidy = becomes-tidy step3-moves c
+
+  step4-moves : Becomes entitled (test4 f ph) ph (step4 f ph)
+  unfolding step4 test4
+  step4-moves =
+      entitled-by ph (test4 f ph) c (λ q l h. waiting-phase ph q c l (and-left _ _ (and-left (waitingRead f ph q) _ h)))
+
+  pub step4-tidy : Tidy (step4 f ph)
+  step4-tidy = becomes-tidy step4-moves c
 
 -- ---- why a test fails
 
@@ -148,117 +179,112 @@ one-fails false b h = inl refl
 
 -- ---- the steps
 
-module _ (b : Board) (G : ℕ → Bool) (s : State) (c : Tidy b s) (i : ℕ) (l : i < slots) where
+module _ (f : Facts) (G : ℕ → Bool) (ph : Phases) (c : Tidy ph) (i : ℕ) (l : i < slots) where
   abbrev R : Requests
-  R = requestsOf b G s
+  R = requestsOf f G
 
-  pub first-step : Step1 slots R (phaseOf s) (phaseOf (step1 b s)) i
+  pub first-step : Step1 slots R (phaseOf ph) (phaseOf (step1 f ph)) i
   unfolding step1 test1
-  first-step = go (test1 b s i) refl
+  first-step = go (test1 f ph i) refl
     where
-      go : (t : Bool) → test1 b s i ≡ t → Step1 slots R (phaseOf s) (phaseOf (step1 b s)) i
+      go : (t : Bool) → test1 f ph i ≡ t → Step1 slots R (phaseOf ph) (phaseOf (step1 f ph)) i
       go true e =
-          let r = and-left (entitledRead b s i) _ e in
-          Step1.grants (not-true _ (and-right (bit (s .entitled) i) _ r)) (entitled-phase s i b c l (and-left (bit (s .entitled) i) _ r))
-          (not-found (says-holding-write b G s i c) (not-true _ (and-right (entitledRead b s i) _ e)))
-          (begins-to-hold s (test1 b s) i l e)
+          let r = and-left (entitledRead f ph i) _ e in
+          Step1.grants (not-true _ (and-right (bit (ph .entitled) i) _ r))
+          (entitled-phase ph i c l (and-left (bit (ph .entitled) i) _ r))
+          (not-found (says-holding-write f G ph i c) (not-true _ (and-right (entitledRead f ph i) _ e)))
+          (moved (step1-moves f ph c) i l e)
       go false e =
           Step1.stays
           (λ k w.
-          found (says-holding-write b G s i c)
-          (not-false _ (second-fails (entitledRead b s i) _ e (and-both _ _ (marks-entitled b s c .from i l k) (ap not w)))))
-          (not-held s (test1 b s) i l e)
+          found (says-holding-write f G ph i c)
+          (not-false _ (second-fails (entitledRead f ph i) _ e (and-both _ _ (marks-entitled ph c .from i l k) (ap not w)))))
+          (kept (step1-moves f ph c) i l e)
 
-  pub second-step : Step2 slots R (phaseOf s) (phaseOf (step2 b s)) i
+  pub second-step : Step2 slots R (phaseOf ph) (phaseOf (step2 f ph)) i
   unfolding step2 test2
-  second-step = go (test2 b s i) refl
+  second-step = go (test2 f ph i) refl
     where
       earlier : Bool
-      earlier = against b s i (λ q. isEarlier s q i && unsatisfiedWrite b s q)
+      earlier = against f i (λ q. isEarlier f q i && unsatisfiedWrite f ph q)
 
       held : Bool
-      held = against b s i (holdingWrite b s)
+      held = against f i (holdingWrite f ph)
 
       read : Bool
-      read = against b s i (entitledRead b s)
-
-      later : (not held && not read) ≡ false
-          → Exists slots (In R (phaseOf s) holding true i) ⊎ Exists slots (In R (phaseOf s) entitled false i)
-      later e = last (one-fails (not held) (not read) e)
-        where
-          last : (not held ≡ false) ⊎ (not read ≡ false)
-              → Exists slots (In R (phaseOf s) holding true i) ⊎ Exists slots (In R (phaseOf s) entitled false i)
-          last (inl h) = inl (found (says-holding-write b G s i c) (not-false _ h))
-          last (inr h) = inr (found (says-entitled-read b G s i c) (not-false _ h))
+      read = against f i (entitledRead f ph)
 
       reason : (not earlier && (not held && not read)) ≡ false
-          → Exists slots (EarlierUnsatisfied R (phaseOf s) i)
-          ⊎ (Exists slots (In R (phaseOf s) holding true i) ⊎ Exists slots (In R (phaseOf s) entitled false i))
-      reason e = first (one-fails (not earlier) (not held && not read) e)
-        where
-          first : (not earlier ≡ false) ⊎ ((not held && not read) ≡ false)
-              → Exists slots (EarlierUnsatisfied R (phaseOf s) i)
-              ⊎ (Exists slots (In R (phaseOf s) holding true i) ⊎ Exists slots (In R (phaseOf s) entitled false i))
-          first (inl h) = inl (found (says-earlier b G s i c) (not-false _ h))
-          first (inr h) = inr (later h)
+          → Exists slots (EarlierUnsatisfied R (phaseOf ph) i)
+          ⊎ (Exists slots (In R (phaseOf ph) holding true i) ⊎ Exists slots (In R (phaseOf ph) entitled false i))
+      reason e =
+          ⊎-elim (λ h. inl (found (says-earlier f G ph i c) (not-false _ h)))
+          (λ h.
+          inr
+          (⊎-elim (λ k. inl (found (says-holding-write f G ph i c) (not-false _ k)))
+          (λ k. inr (found (says-entitled-read f G ph i c) (not-false _ k))) (one-fails (not held) (not read) h)))
+          (one-fails (not earlier) (not held && not read) e)
 
-      go : (t : Bool) → test2 b s i ≡ t → Step2 slots R (phaseOf s) (phaseOf (step2 b s)) i
+      go : (t : Bool) → test2 f ph i ≡ t → Step2 slots R (phaseOf ph) (phaseOf (step2 f ph)) i
       go true e =
-          let w = and-left (waitingWrite b s i) _ e in
-          let k = waiting-phase s i b c l (and-left (bit (s .waiting) i) _ w) in
-          let free = and-right (waitingWrite b s i) _ e in
+          let w = and-left (waitingWrite f ph i) _ e in
+          let k = waiting-phase ph i c l (and-left (bit (ph .waiting) i) _ w) in
+          let free = and-right (waitingWrite f ph i) _ e in
           let rest = and-right (not earlier) _ free in
-          Step2.entitles (and-right (bit (s .waiting) i) _ w) k
-          (not-found (says-earlier b G s i c) (not-true _ (and-left (not earlier) _ free)))
-          (not-found (says-holding-write b G s i c) (not-true _ (and-left (not held) _ rest)))
-          (not-found (says-entitled-read b G s i c) (not-true _ (and-right (not held) _ rest)))
-          (becomes-entitled s (test2 b s) i l k e)
+          Step2.entitles (and-right (bit (ph .waiting) i) _ w) k
+          (not-found (says-earlier f G ph i c) (not-true _ (and-left (not earlier) _ free)))
+          (not-found (says-holding-write f G ph i c) (not-true _ (and-left (not held) _ rest)))
+          (not-found (says-entitled-read f G ph i c) (not-true _ (and-right (not held) _ rest)))
+          (moved (step2-moves f ph c) i l e)
       go false e =
-          Step2.stays (λ k w. reason (second-fails (waitingWrite b s i) _ e (and-both _ _ (marks-waiting b s c .from i l k) w)))
-          (not-entitled s (test2 b s) i l e)
+          Step2.stays (λ k w. reason (second-fails (waitingWrite f ph i) _ e (and-both _ _ (marks-waiting ph c .from i l k) w)))
+          (kept (step2-moves f ph c) i l e)
 
-  pub third-step : Step3 slots R (phaseOf s) (phaseOf (step3 b s)) i
+  pub third-step : Step3 slots R (phaseOf ph) (phaseOf (step3 f ph)) i
   unfolding step3 test3
-  third-step = go (test3 b s i) refl
+  third-step = go (test3 f ph i) refl
     where
-      go : (t : Bool) → test3 b s i ≡ t → Step3 slots R (phaseOf s) (phaseOf (step3 b s)) i
+      go : (t : Bool) → test3 f ph i ≡ t → Step3 slots R (phaseOf ph) (phaseOf (step3 f ph)) i
       go true e =
-          let w = and-left (entitledWrite b s i) _ e in
-          Step3.grants (and-right (bit (s .entitled) i) _ w) (entitled-phase s i b c l (and-left (bit (s .entitled) i) _ w))
-          (not-found (says-holding-read b G s i c) (not-true _ (and-right (entitledWrite b s i) _ e)))
-          (begins-to-hold s (test3 b s) i l e)
+          let w = and-left (entitledWrite f ph i) _ e in
+          Step3.grants (and-right (bit (ph .entitled) i) _ w)
+          (entitled-phase ph i c l (and-left (bit (ph .entitled) i) _ w))
+          (not-found (says-holding-read f G ph i c) (not-true _ (and-right (entitledWrite f ph i) _ e)))
+          (moved (step3-moves f ph c) i l e)
       go false e =
           Step3.stays
           (λ k w.
-          found (says-holding-read b G s i c)
-          (not-false _ (second-fails (entitledWrite b s i) _ e (and-both _ _ (marks-entitled b s c .from i l k) w))))
-          (not-held s (test3 b s) i l e)
+          found (says-holding-read f G ph i c)
+          (not-false _ (second-fails (entitledWrite f ph i) _ e (and-both _ _ (marks-entitled ph c .from i l k) w))))
+          (kept (step3-moves f ph c) i l e)
 
-  pub fourth-step : Step4 slots R (phaseOf s) (phaseOf (step4 b s)) i
+  pub fourth-step : Step4 slots R (phaseOf ph) (phaseOf (step4 f ph)) i
   unfolding step4 test4
-  fourth-step = go (test4 b s i) refl
+  fourth-step = go (test4 f ph i) refl
     where
       held : Bool
-      held = against b s i (holdingWrite b s)
+      held = against f i (holdingWrite f ph)
 
       next : Bool
-      next = against b s i (entitledWrite b s)
+      next = against f i (entitledWrite f ph)
 
       reason : (held ≡ false) ⊎ (not next ≡ false)
-          → None slots (In R (phaseOf s) holding true i) ⊎ Exists slots (In R (phaseOf s) entitled true i)
-      reason (inl h) = inl (not-found (says-holding-write b G s i c) h)
-      reason (inr h) = inr (found (says-entitled-write b G s i c) (not-false _ h))
+          → None slots (In R (phaseOf ph) holding true i) ⊎ Exists slots (In R (phaseOf ph) entitled true i)
+      reason (inl h) = inl (not-found (says-holding-write f G ph i c) h)
+      reason (inr h) = inr (found (says-entitled-write f G ph i c) (not-false _ h))
 
-      go : (t : Bool) → test4 b s i ≡ t → Step4 slots R (phaseOf s) (phaseOf (step4 b s)) i
+      go : (t : Bool) → test4 f ph i ≡ t → Step4 slots R (phaseOf ph) (phaseOf (step4 f ph)) i
       go true e =
-          let r = and-left (waitingRead b s i) _ e in
-          let k = waiting-phase s i b c l (and-left (bit (s .waiting) i) _ r) in
-          let free = and-right (waitingRead b s i) _ e in
-          Step4.entitles (not-true _ (and-right (bit (s .waiting) i) _ r)) k
-          (found (says-holding-write b G s i c) (and-left held _ free))
-          (not-found (says-entitled-write b G s i c) (not-true _ (and-right held _ free)))
-          (becomes-entitled s (test4 b s) i l k e)
+          let r = and-left (waitingRead f ph i) _ e in
+          let k = waiting-phase ph i c l (and-left (bit (ph .waiting) i) _ r) in
+          let free = and-right (waitingRead f ph i) _ e in
+          Step4.entitles (not-true _ (and-right (bit (ph .waiting) i) _ r)) k
+          (found (says-holding-write f G ph i c) (and-left held _ free))
+          (not-found (says-entitled-write f G ph i c) (not-true _ (and-right held _ free)))
+          (moved (step4-moves f ph c) i l e)
       go false e =
           Step4.stays
-          (λ k w. reason (one-fails held (not next) (second-fails (waitingRead b s i) _ e (and-both _ _ (marks-waiting b s c .from i l k) (ap not w)))))
-          (not-entitled s (test4 b s) i l e)
+          (λ k w.
+          let read = and-both _ _ (marks-waiting ph c .from i l k) (ap not w) in
+          reason (one-fails held (not next) (second-fails (waitingRead f ph i) _ e read)))
+          (kept (step4-moves f ph c) i l e)

@@ -1,0 +1,18 @@
+-- Whole runs: lists of calls, and what the arbiter answers to them. Specification, section 6.
+use mathlib.Core.List.{List, [], _∷_}
+use Rattle.calls.specs.declared.Call.{Call}
+use Rattle.calls.specs.Replies.{Response}
+use Rattle.arbiter.specs.declared.Board.{Board}
+use Rattle.arbiter.specs.declared.State.{State}
+use Rattle.arbiter.specs.Calls.{answered}
+
+-- A call with its answer.
+pub record Event : Type 0 where
+  pub call : Call
+  pub reply : Response
+
+-- Clause 6.1: each call gets the state that the one before it left. The answers are those of `answered`, the very
+-- definition that the promises of the arbiter cite.
+unfoldable pub events : Board → State → List Call → List Event
+events b s [] = []
+events b s (c ∷ later) = record { call = c; reply = answered b s c .reply } ∷ events b (answered b s c .state) later
