@@ -1,45 +1,57 @@
--- What the checks of the queries tell of an accepted one, and the phase of a counted processor. Assumes nothing.
-use Prim.Native.Nat.{ℕ, _-_, _<_, _≤_}
-use mathlib.Core.Path.{_≡_, refl, ap₂, _∙_}
-use native.Mathlib.Omega.{arith}
-use lib.Dec.{leb, ltb, leb·zero}
-use borrow.Author.Tests.{ltb-true, leb-true}
+-- What the checks of the queries tell of an accepted one, and the state of a counted processor. Assumes nothing.
+use Prim.Native.Nat.{ℕ, _<_, _≤_}
+use mathlib.Core.Path.{_≡_, refl}
+use mathlib.Core.Bool.{cond}
+use lib.Dec.{ltb, lit<}
+use borrow.Author.Tests.{ltb-true}
+use Rattle.masks.specs.Sets.{bit}
 use Rattle.masks.proofs.Masks.{bit-mask-at}
+use Rattle.masks.proofs.Truth.{and-left}
 use Rattle.refusals.specs.declared.Refusal.{Refusal}
-use Rattle.plans.specs.declared.Verdict.{Verdict}
-use Rattle.plans.specs.Acceptance.{firstOf, due, roomFor}
-use Rattle.plans.proofs.Verdicts.{first-accepted, due-accepted}
+use Rattle.refusals.specs.declared.Verdict.{Verdict}
+use Rattle.refusals.specs.Number.{numberOf, verdictNumber}
+use Rattle.refusals.specs.Due.{Said, firstOf, said}
+use Rattle.refusals.proofs.Numbers.{first-accepted, due-accepted, number-not-zero}
+use Rattle.encoding.specs.Buffers.{roomFault}
+use Rattle.encoding.proofs.Room.{room-fits}
+use Rattle.plans.specs.Entries.{slots}
+use Rattle.arbiter.specs.declared.Terms.{Terms}
 use Rattle.arbiter.specs.declared.Board.{Board}
 use Rattle.arbiter.specs.declared.State.{State}
-use Rattle.arbiter.specs.Requests.{slots, isHolding, isEntitled, isWaiting, cleaned}
-use Rattle.arbiter.specs.Phases.{phasesOf}
-use Rattle.arbiter.specs.Parts.{countedBy, processorFaultBy}
-use Rattle.queries.specs.Queries.{phaseOf}
-use Rattle.queries.specs.Parts.{phaseAt, reachFaultBy}
-use Rattle.masks.proofs.Truth.{and-left}
+use Rattle.arbiter.specs.Requests.{hasProcessor, isHolding, isEntitled, isWaiting, cleaned}
+use Rattle.arbiter.specs.Faults.{processorFault}
+use Rattle.arbiter.specs.Calls.{phasesOf}
+use Rattle.queries.specs.Queries.{stateNumber, scratchSize}
 
-pub processor-below : (processors p : ℕ) → processorFaultBy processors p ≡ Verdict.Accepted → p < slots
-processor-below processors p e =
-    ltb-true p slots (and-left (ltb p slots) (ltb p processors) (due-accepted (countedBy processors p) Refusal.Processor e))
+-- ---- an answer says what its check found
 
-pub reach-below : (processors p size : ℕ) → reachFaultBy processors p size ≡ Verdict.Accepted → p < slots
-reach-below processors p size e = processor-below processors p (first-accepted (processorFaultBy processors p) _ e .first)
+pub accepted-says : (verdict : Verdict) (fault v x : ℕ) → verdictNumber verdict ≡ fault → verdict ≡ Verdict.Accepted → v ≡ x
+    → _≡_ {A = Said} (record { number = 0; value = v }) (said fault x)
+accepted-says verdict fault v x checked accepted e = rw (← checked, accepted, e) refl
 
-pub reach-room : (processors p size : ℕ) → reachFaultBy processors p size ≡ Verdict.Accepted → 256 ≤ size
-reach-room processors p size e =
-    leb-true 256 size (due-accepted (leb 256 size) Refusal.Room (first-accepted (processorFaultBy processors p) _ e .later))
+pub refused-says : (verdict : Verdict) (fault x : ℕ) (r : Refusal) → verdictNumber verdict ≡ fault → verdict ≡ Verdict.Refused r
+    → _≡_ {A = Said} (record { number = numberOf r; value = 0 }) (said fault x)
+refused-says verdict fault x r checked refused = rw (← checked, refused, number-not-zero r) refl
 
--- The scratch is used from its start.
-room-from-start : (needed size : ℕ) → roomFor needed size 0 ≡ due (leb needed size) Refusal.Room
-room-from-start needed size =
-    let whole : size - 0 ≡ size = omega arith in
-    rw (leb·zero size, whole)
+-- ---- an accepted query
 
-pub checks-reach : (processors p size : ℕ) (first room r : Verdict) → first ≡ processorFaultBy processors p → room ≡ roomFor 256 size 0
-    → r ≡ firstOf first room → r ≡ reachFaultBy processors p size
-checks-reach processors p size first room r e f g = g ∙ ap₂ firstOf e (f ∙ room-from-start 256 size)
+pub processor-below : (terms : Terms) (p : ℕ) → processorFault terms p ≡ 0 → p < slots
+processor-below terms p e =
+    ltb-true p slots (and-left (ltb p slots) (ltb p (terms .processors)) (due-accepted (hasProcessor terms p) 11 (lit< tt) e))
 
-pub phase-counted : (b : Board) (s : State) (p : ℕ) → p < slots → phaseAt (phasesOf (cleaned b s)) p ≡ phaseOf b s p
-unfolding cleaned phaseOf
-phase-counted b s p l =
-    rw (bit-mask-at slots (isHolding b s) p l, bit-mask-at slots (isEntitled b s) p l, bit-mask-at slots (isWaiting b s) p l) refl
+pub reach-accepted : (terms : Terms) (p size : ℕ) → firstOf (processorFault terms p) (roomFault scratchSize size 0) ≡ 0
+    → (p < slots) × (scratchSize ≤ size)
+reach-accepted terms p size e =
+    let both = first-accepted (processorFault terms p) _ e in
+    (processor-below terms p (both .first), room-fits scratchSize size 0 (both .later))
+
+pub state-counted : (b : Board) (s : State) (p n : ℕ) → p < slots
+    → n ≡ cond (bit (phasesOf b s .holding) p) 3 (cond (bit (phasesOf b s .entitled) p) 2 (cond (bit (phasesOf b s .waiting) p) 1 0))
+    → n ≡ stateNumber b s p
+unfolding cleaned stateNumber
+state-counted b s p n l e =
+    rw (
+      ← bit-mask-at slots (isHolding (b .terms) (s .entry) (s .phases)) p l,
+      ← bit-mask-at slots (isEntitled (b .terms) (s .entry) (s .phases)) p l,
+      ← bit-mask-at slots (isWaiting (b .terms) (s .entry) (s .phases)) p l,
+    ) e

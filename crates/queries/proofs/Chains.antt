@@ -1,5 +1,5 @@
--- A chain of direct waits, however long, can be had with at most 16 waits: to reach is to have a chain, on every board and
--- state. Assumes nothing.
+-- A chain of direct waits, however long, can be had with as many waits as a state holds processors: to reach is to have a
+-- chain, on every board and state. Assumes nothing.
 use Prim.Native.Nat.{ℕ, zero, suc, _≤_}
 use mathlib.Core.Path.{_≡_, refl, subst}
 use mathlib.Core.Bool.{Bool, true, false, _&&_, false≢true}
@@ -7,11 +7,11 @@ use mathlib.Core.Logic.{_↔_, ⊎-elim}
 use native.Mathlib.Nat.{eq-or-lt-of-le, le-of-suc-le-suc, not-suc-le-zero}
 use Rattle.masks.specs.Sets.{some}
 use Rattle.masks.proofs.Some.{some-found, some-at}
+use Rattle.masks.proofs.Truth.{and-left, and-right, and-both, or-cases, or-left, or-right, never-true}
+use Rattle.plans.specs.Entries.{slots}
 use Rattle.arbiter.specs.declared.Board.{Board}
 use Rattle.arbiter.specs.declared.State.{State}
-use Rattle.arbiter.specs.Requests.{slots}
 use Rattle.queries.specs.Queries.{waitsFor, Chain, direct, through, chained, reaches}
-use Rattle.masks.proofs.Truth.{and-left, and-right, and-both, or-cases, or-left, or-right, never-true}
 use Rattle.queries.proofs.Growing.{Within, stops}
 use Rattle.queries.proofs.Waits.{waits-below}
 
@@ -79,7 +79,7 @@ module _ (b : Board) (s : State) where
   unfolding reaches
   reaches-chain p q = chained-chain slots p q
 
-  -- "All that it waits for directly or through others."
+  -- Clause 7.3: reach goes by chains of any length.
   pub reaches-is-chain : (p q : ℕ) → (reaches b s p q ≡ true) ↔ Chain b s p q
   reaches-is-chain p q = (reaches-chain p q, chain-reaches p q)
 

@@ -1,23 +1,67 @@
--- The loops that lengthen the rows of chains, turn by turn, and the bytes of the last rows. Assumes nothing.
-use Prim.Native.Nat.{ℕ, suc, _+_, _/_, _%_, _<_}
-use mathlib.Core.Path.{_≡_, sym, ap, ap₂, _∙_}
-use mathlib.Core.Bool.{cond}
+-- The rows of chains as masks, for the code's loops: with one wait more, a row is that of the direct waits joined with the
+-- rows of those waited for. And the bytes of the last rows. Assumes nothing.
+use Prim.Native.Nat.{ℕ, zero, suc, _+_, _/_, _%_, _<_}
+use mathlib.Core.Path.{_≡_, refl, sym, ap, ap₂, _∙_}
+use mathlib.Core.Bool.{Bool, true, false, cond, _&&_, _||_, or-false, or-assoc}
 use mathlib.Core.List.{List, [], _∷_, _++_, append-assoc}
+use native.Mathlib.Nat.{zero-add}
 use native.Mathlib.Numerals.{add-one}
 use native.Mathlib.Omega.{arith}
 use lib.Bits.{bitOr}
 use lib.ListN.{length, getD, set, take, drop, replicate}
 use lib.Seq.{drop-cons, set-at}
-use Rattle.masks.specs.Sets.{bit, maskOf}
-use Rattle.masks.proofs.Masks.{bit-mask-at}
+use Rattle.masks.specs.Sets.{bit, some, maskOf}
+use Rattle.masks.proofs.Some.{some-more}
+use Rattle.masks.proofs.Masks.{bit-mask-at, mask-agree, mask-none, mask-or}
+use Rattle.encoding.specs.Buffers.{overwritten}
+use Rattle.plans.specs.Entries.{slots}
 use Rattle.conflicts.specs.Conflict.{tabulate}
 use Rattle.conflicts.proofs.Tabulate.{length-tabulate, getD-tabulate, tabulate-more, tabulate-agree, fill-more}
 use Rattle.arbiter.specs.declared.Board.{Board}
 use Rattle.arbiter.specs.declared.State.{State}
-use Rattle.arbiter.specs.Requests.{slots}
-use Rattle.queries.specs.Queries.{chained, reaches, reachBytes}
-use Rattle.queries.specs.Parts.{directRows, chainedRows, byteOf}
-use Rattle.queries.proofs.Rows.{directMask, rowMask, row-none, joined, joined-none, joined-more, joined-all, row-reach}
+use Rattle.queries.specs.Queries.{waitsFor, chained, reaches, scratchSize, reachBytes}
+use Rattle.queries.specs.inner.Rows.{directRows, chainedRows, byteOf}
+
+-- A row with or without another.
+join-if : (w : ℕ) (row other : ℕ → Bool) (t : Bool)
+    → maskOf w (λ q. row q || (t && other q)) ≡ cond t (bitOr (maskOf w row) (maskOf w other)) (maskOf w row)
+join-if w row other true = sym (mask-or w row other)
+join-if w row other false = mask-agree w (λ q. row q || false) row (λ q l. or-false (row q))
+
+module _ (b : Board) (s : State) where
+  -- The processors that p waits for directly, and those that a chain of at most n waits leads to.
+  abbrev pub directMask : ℕ → ℕ
+  directMask p = maskOf slots (waitsFor b s p)
+
+  abbrev pub rowMask : ℕ → ℕ → ℕ
+  rowMask n p = maskOf slots (chained b s n p)
+
+  -- Row p with one wait more, joined as far as the rows of processors below k.
+  abbrev pub joined : ℕ → ℕ → ℕ → ℕ
+  joined n p k = maskOf slots (λ q. waitsFor b s p q || some k (λ r. waitsFor b s p r && chained b s n r q))
+
+  row-none : (p : ℕ) → rowMask zero p ≡ 0
+  unfolding chained
+  row-none p = mask-none slots
+
+  joined-none : (n p : ℕ) → joined n p zero ≡ directMask p
+  unfolding some
+  joined-none n p = mask-agree slots (λ q. waitsFor b s p q || false) (waitsFor b s p) (λ q l. or-false (waitsFor b s p q))
+
+  joined-more : (n p k : ℕ) → k < slots
+      → joined n p (k + 1) ≡ cond (bit (directMask p) k) (bitOr (joined n p k) (rowMask n k)) (joined n p k)
+  joined-more n p k l =
+      mask-agree slots _ (λ q. (waitsFor b s p q || some k (test q)) || (waitsFor b s p k && chained b s n k q))
+      (λ q m. ap (λ t. waitsFor b s p q || t) (some-more k (test q)) ∙ sym (or-assoc (waitsFor b s p q) (some k (test q)) (test q k)))
+      ∙ join-if slots (λ q. waitsFor b s p q || some k (test q)) (chained b s n k) (waitsFor b s p k)
+      ∙ ap (λ t. cond t (bitOr (joined n p k) (rowMask n k)) (joined n p k)) (sym (bit-mask-at slots (waitsFor b s p) k l))
+    where
+      test : ℕ → ℕ → Bool
+      test q r = waitsFor b s p r && chained b s n r q
+
+  joined-all : (n p : ℕ) → joined n p slots ≡ rowMask (suc n) p
+  unfolding chained
+  joined-all n p = refl
 
 -- ---- one row
 
@@ -87,14 +131,22 @@ store-turn xs ys k x f l e h =
 
 pub row-asked : (b : Board) (s : State) (rows : List ℕ) (p : ℕ) → p < slots → rows ≡ chainedRows b s slots
     → getD rows p 0 ≡ maskOf slots (reaches b s p)
-row-asked b s rows p l e =
-    ap (λ (xs : List ℕ). getD xs p 0) e ∙ getD-tabulate slots (rowMask b s slots) p 0 l ∙ row-reach b s p
+unfolding reaches
+row-asked b s rows p l e = ap (λ (xs : List ℕ). getD xs p 0) e ∙ getD-tabulate slots (rowMask b s slots) p 0 l
 
-pub bytes-reach : (b : Board) (s : State) (rows : List ℕ) → rows ≡ chainedRows b s slots → tabulate 256 (byteOf rows) ≡ reachBytes b s
+bytes-reach : (b : Board) (s : State) (rows : List ℕ) → rows ≡ chainedRows b s slots → tabulate scratchSize (byteOf rows) ≡ reachBytes b s
 unfolding reaches reachBytes
 bytes-reach b s rows e =
-    tabulate-agree 256 (byteOf rows) (λ k. cond (chained b s slots (k / 16) (k % 16)) 1 0)
+    tabulate-agree scratchSize (byteOf rows) (λ k. cond (chained b s slots (k / slots) (k % slots)) 1 0)
     (λ k l. ap (λ t. cond t 1 0)
-    (ap (λ (xs : List ℕ). bit (getD xs (k / 16) 0) (k % 16)) e
-    ∙ ap (λ (x : ℕ). bit x (k % 16)) (getD-tabulate slots (rowMask b s slots) (k / 16) 0 (omega arith))
-    ∙ bit-mask-at slots (chained b s slots (k / 16)) (k % 16) (omega arith)))
+    (ap (λ (xs : List ℕ). bit (getD xs (k / slots) 0) (k % slots)) e
+    ∙ ap (λ (x : ℕ). bit x (k % slots)) (getD-tabulate slots (rowMask b s slots) (k / slots) 0 (omega arith))
+    ∙ bit-mask-at slots (chained b s slots (k / slots)) (k % slots) (omega arith)))
+
+-- The bytes overwrite the first of the scratch.
+pub bytes-stored : (b : Board) (s : State) (rows scratch after : List ℕ) → rows ≡ chainedRows b s slots
+    → after ≡ tabulate scratchSize (byteOf rows) ++ drop scratchSize scratch → after ≡ overwritten scratch 0 (reachBytes b s)
+unfolding reachBytes
+bytes-stored b s rows scratch after e stored =
+    stored
+    ∙ ap₂ (λ (bytes : List ℕ) (n : ℕ). bytes ++ drop n scratch) (bytes-reach b s rows e) (sym (zero-add _ ∙ length-tabulate scratchSize _))

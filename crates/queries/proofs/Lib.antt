@@ -1,7 +1,6 @@
 pub mod Growing
 pub mod Waits
 pub mod Chains
-pub mod Rows
 pub mod Facing
 pub mod Joining
 pub mod Answers

@@ -1,69 +1,70 @@
--- Document 01, "Queries": the state of a processor, its direct waits, and all that it reaches.
-use Prim.Native.Nat.{ℕ, zero, suc, _/_, _%_}
+-- The state of a processor, its direct waits, and all that it reaches. Specification, section 7.
+use Prim.Native.Nat.{ℕ, zero, suc, _*_, _/_, _%_}
 use mathlib.Core.Bool.{Bool, true, false, cond, _&&_, _||_}
-use mathlib.Core.List.{List, _++_}
+use mathlib.Core.List.{List}
 use mathlib.Core.Path.{_≡_}
-use lib.Dec.{leb}
-use lib.ListN.{length, drop}
+use lib.ListN.{length}
 use Rattle.masks.specs.Sets.{some, maskOf}
-use Rattle.refusals.specs.declared.Refusal.{Refusal}
-use Rattle.plans.specs.declared.Verdict.{Verdict}
-use Rattle.plans.specs.Acceptance.{firstOf, due}
+use Rattle.refusals.specs.Number.{numberOf}
+use Rattle.refusals.specs.Due.{Said, firstOf, said}
+use Rattle.encoding.specs.Buffers.{roomFault, bufferAfter}
+use Rattle.plans.specs.Entries.{slots}
 use Rattle.conflicts.specs.Conflict.{tabulate}
+use Rattle.settling.specs.declared.Phases.{Phases}
+use Rattle.settling.specs.Requests.{Facts, active, isEarlier, isWriter, conflicts, holdingRead, holdingWrite, entitledRead, entitledWrite, waitingRead, waitingWrite}
 use Rattle.arbiter.specs.declared.Board.{Board}
 use Rattle.arbiter.specs.declared.State.{State}
-use Rattle.arbiter.specs.Requests.{slots, isHolding, isEntitled, isWaiting, cleaned, active, isEarlier, writes, conflicts, holdingRead, holdingWrite, entitledRead, entitledWrite, waitingRead, waitingWrite}
-use Rattle.arbiter.specs.Calls.{processorFault}
+use Rattle.arbiter.specs.Requests.{isHolding, isEntitled, isWaiting}
+use Rattle.arbiter.specs.Faults.{processorFault}
+use Rattle.arbiter.specs.Calls.{factsOf, phasesOf}
 use Rattle.queries.specs.declared.Phase.{Phase}
 use Rattle.queries.specs.declared.PhaseAnswer.{PhaseAnswer}
 use Rattle.queries.specs.declared.MaskAnswer.{MaskAnswer}
 
--- "State of a processor: 0 idle, 1 waiting, 2 entitled, 3 holding."
+-- Clause 7.1: the states by number.
 abbrev pub phaseNumber : Phase → ℕ
 phaseNumber Phase.Idle = 0
 phaseNumber Phase.Waiting = 1
 phaseNumber Phase.Entitled = 2
 phaseNumber Phase.Holding = 3
 
--- "A request is waiting, entitled or holding": the phase of p's request, where it counts; else p is idle.
-unfoldable pub phaseOf : Board → State → ℕ → Phase
-phaseOf b s p =
-    cond (isHolding b s p) Phase.Holding
-    (cond (isEntitled b s p) Phase.Entitled (cond (isWaiting b s p) Phase.Waiting Phase.Idle))
+-- The answers of the queries in numbers.
+abbrev pub phaseSays : PhaseAnswer → Said
+phaseSays (PhaseAnswer.Is ph) = record { number = 0; value = phaseNumber ph }
+phaseSays (PhaseAnswer.Refused r) = record { number = numberOf r; value = 0 }
 
--- "A refusal gives its number only."
-abbrev pub phaseBy : Verdict → Phase → PhaseAnswer
-phaseBy Verdict.Accepted ph = PhaseAnswer.Is ph
-phaseBy (Verdict.Refused r) ph = PhaseAnswer.Refused r
+abbrev pub maskSays : MaskAnswer → Said
+maskSays (MaskAnswer.Mask mask) = record { number = 0; value = mask }
+maskSays (MaskAnswer.Refused r) = record { number = numberOf r; value = 0 }
 
--- "Queries: 11, then 16": without a scratch, 11 alone.
-unfoldable pub phaseQuery : Board → State → ℕ → PhaseAnswer
-phaseQuery b s p = phaseBy (processorFault b p) (phaseOf b s p)
+-- Clauses 7.1 and 4.10: the state of processor p is that of its request, where that counts; else p is idle.
+unfoldable pub stateNumber : Board → State → ℕ → ℕ
+stateNumber b s p =
+    cond (isHolding (b .terms) (s .entry) (s .phases) p) 3
+    (cond (isEntitled (b .terms) (s .entry) (s .phases) p) 2 (cond (isWaiting (b .terms) (s .entry) (s .phases) p) 1 0))
 
--- Processor p waits directly for q, in a state of requests that count: "for an entitled read the conflicting holding
--- writes; for a waiting read the conflicting entitled writes; for an entitled write the conflicting holding reads; for a
--- waiting write the earlier conflicting active writes; otherwise none."
-unfoldable pub waitsIn : Board → State → ℕ → ℕ → Bool
-waitsIn b s p q =
-    (entitledRead b s p && (holdingWrite b s q && conflicts b s p q))
-    || ((waitingRead b s p && (entitledWrite b s q && conflicts b s p q))
-    || ((entitledWrite b s p && (holdingRead b s q && conflicts b s p q))
-    || (waitingWrite b s p && ((isEarlier s q p && (active s q && writes b s q)) && conflicts b s p q))))
+-- Clause 7.5: 11 for a processor that is not the plan's, else the state.
+abbrev pub phaseQuery : Board → State → ℕ → Said
+phaseQuery b s p = said (processorFault (b .terms) p) (stateNumber b s p)
 
--- The same in any state: "a request whose entry or processor is outside the plan taken as none".
+-- Clause 7.2: processor p waits directly for q, whose request conflicts with its own: the first four rows of the table.
+-- The phases are of requests that count.
+unfoldable pub waitsIn : Facts → Phases → ℕ → ℕ → Bool
+waitsIn f ph p q =
+    (entitledRead f ph p && (holdingWrite f ph q && conflicts f p q))
+    || ((waitingRead f ph p && (entitledWrite f ph q && conflicts f p q))
+    || ((entitledWrite f ph p && (holdingRead f ph q && conflicts f p q))
+    || (waitingWrite f ph p && ((isEarlier f q p && (active ph q && isWriter f q)) && conflicts f p q))))
+
+-- Clauses 7.5 and 4.10: the same on any state value.
 unfoldable pub waitsFor : Board → State → ℕ → ℕ → Bool
-waitsFor b s p q = waitsIn b (cleaned b s) p q
+waitsFor b s p q = waitsIn (factsOf b s) (phasesOf b s) p q
 
--- "A refusal gives its number only."
-abbrev pub maskBy : Verdict → ℕ → MaskAnswer
-maskBy Verdict.Accepted mask = MaskAnswer.Mask mask
-maskBy (Verdict.Refused r) mask = MaskAnswer.Refused r
+-- Clauses 7.2 and 7.5: the mask of direct waits; 11 for a processor that is not the plan's.
+abbrev pub waitsQuery : Board → State → ℕ → Said
+waitsQuery b s p = said (processorFault (b .terms) p) (maskOf slots (waitsFor b s p))
 
--- "Direct waits of a processor, a mask."
-unfoldable pub waitsQuery : Board → State → ℕ → MaskAnswer
-waitsQuery b s p = maskBy (processorFault b p) (maskOf slots (waitsFor b s p))
-
--- A chain of direct waits, of any length, from p to q.
+-- Clause 7.3: a chain of direct waits, of any length, from p to q.
 pub data Chain (b : Board) (s : State) : ℕ → ℕ → Type 0 where
   direct : {p q : ℕ} → waitsFor b s p q ≡ true → Chain b s p q
   through : {p r q : ℕ} → waitsFor b s p r ≡ true → Chain b s r q → Chain b s p q
@@ -73,28 +74,26 @@ unfoldable pub chained : Board → State → ℕ → ℕ → ℕ → Bool
 chained b s zero p q = false
 chained b s (suc n) p q = waitsFor b s p q || some slots (λ r. waitsFor b s p r && chained b s n r q)
 
--- "All that it waits for directly or through others." Of 16 processors a chain needs no more than 16 waits: that this is
--- `Chain`, of any length, is proved beside it.
+-- Clause 7.3: p reaches q. Among so many processors no chain needs more waits; that this is `Chain`, of any length, is
+-- proved beside it.
 unfoldable pub reaches : Board → State → ℕ → ℕ → Bool
 reaches b s p q = chained b s slots p q
 
--- "Byte 16p + q at 1 where p reaches q, else 0, for all p and q below 16."
+-- Clause 7.4: the scratch has a byte for each pair p and q, the one at 16p + q: 1 where p reaches q, else 0.
+abbrev pub scratchSize : ℕ
+scratchSize = slots * slots
+
 unfoldable pub reachBytes : Board → State → List ℕ
-reachBytes b s = tabulate 256 (λ k. cond (reaches b s (k / 16) (k % 16)) 1 0)
+reachBytes b s = tabulate scratchSize (λ k. cond (reaches b s (k / slots) (k % slots)) 1 0)
 
--- "Queries: 11, then 16." 16, "room: scratch below 256".
-unfoldable pub reachFault : Board → ℕ → List ℕ → Verdict
-reachFault b p scratch = firstOf (processorFault b p) (due (leb 256 (length scratch)) Refusal.Room)
+-- Clauses 7.5, 7.4 and 8.2: first 11 for the processor, then 16 for a scratch of fewer than 256 bytes.
+unfoldable pub reachFault : Board → ℕ → List ℕ → ℕ
+reachFault b p scratch = firstOf (processorFault (b .terms) p) (roomFault scratchSize (length scratch) 0)
 
--- "Reach, also a mask."
-unfoldable pub reachQuery : Board → State → ℕ → List ℕ → MaskAnswer
-reachQuery b s p scratch = maskBy (reachFault b p scratch) (maskOf slots (reaches b s p))
+-- Clause 7.3: the mask of all that processor p reaches.
+abbrev pub reachQuery : Board → State → ℕ → List ℕ → Said
+reachQuery b s p scratch = said (reachFault b p scratch) (maskOf slots (reaches b s p))
 
--- "Bytes after the first 256 stay." On a refusal all stay.
-abbrev pub scratchBy : Verdict → Board → State → List ℕ → List ℕ
-scratchBy Verdict.Accepted b s scratch = reachBytes b s ++ drop 256 scratch
-scratchBy (Verdict.Refused r) b s scratch = scratch
-
--- The scratch after the query.
+-- Clauses 7.4 and 7.5: the scratch after the query. Bytes behind the first 256 stay, and on a refusal all do.
 unfoldable pub reachScratch : Board → State → ℕ → List ℕ → List ℕ
-reachScratch b s p scratch = scratchBy (reachFault b p scratch) b s scratch
+reachScratch b s p scratch = bufferAfter (reachFault b p scratch) (reachBytes b s) scratch 0

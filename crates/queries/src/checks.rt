@@ -1,31 +1,36 @@
-// The refusals of the queries: "11, then 16."
-use plans::Verdict;
-use plans::check_room;
-use plans::first_of;
+// The refusals of the queries: 11, then 16. Specification, clause 7.5.
+use arbiter::Terms;
+use encoding::check_room;
+use plans::SLOTS;
 use refusals::Refusal;
+use refusals::Verdict;
+use refusals::first_of;
+use refusals::refuse_unless;
 ghost use mathlib.Core.Path.{_≡_};
-ghost use Rattle.arbiter.specs.Parts.{processorFaultBy};
-ghost use Rattle.queries.specs.Parts.{reachFaultBy};
+ghost use Rattle.refusals.specs.Number.{verdictNumber};
+ghost use Rattle.refusals.specs.Due.{firstOf};
+ghost use Rattle.encoding.specs.Buffers.{roomFault};
+ghost use Rattle.arbiter.specs.Faults.{processorFault};
+ghost use Rattle.queries.specs.Queries.{scratchSize};
 
-// The bytes of the scratch that are written.
-const ROOM: usize = 256;
+// The bytes of the scratch that are written: one for each pair of processors.
+const ROOM: usize = SLOTS * SLOTS;
 
-// 11, "processor: m or above".
-pub fn check_processor(processors: u8, processor: u8) -> Verdict
-    ensures { λ r. ⌜ r ≡ processorFaultBy processors processor ⌝ }
+// Refuses by 11 a processor that is not the plan's.
+pub fn check_processor(terms: Terms, processor: u8) -> Verdict
+    ensures { λ r. ⌜ verdictNumber r ≡ processorFault terms processor ⌝ }
 {
-    if (processor < 16) & (processor < processors) {
-        Verdict::Accepted
-    } else {
-        Verdict::Refused(Refusal::Processor)
-    }
+    refuse_unless(
+        (processor < SLOTS as u8) & (processor < terms.processors),
+        Refusal::Processor,
+    )
 }
 
-// "Queries: 11, then 16": a "scratch below 256".
-pub fn check_reach(processors: u8, processor: u8, size: usize) -> Verdict
-    ensures { λ r. ⌜ r ≡ reachFaultBy processors processor size ⌝ }
+// Refuses by 11, then by 16 a scratch that is too short.
+pub fn check_reach(terms: Terms, processor: u8, size: usize) -> Verdict
+    ensures { λ r. ⌜ verdictNumber r ≡ firstOf (processorFault terms processor) (roomFault scratchSize size 0) ⌝ }
 {
-    let counted = check_processor(processors, processor);
+    let counted = check_processor(terms, processor);
     let room = check_room(ROOM, size, 0);
     first_of(counted, room)
 }

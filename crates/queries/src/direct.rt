@@ -1,30 +1,30 @@
-// Direct waits: document 01, "Queries", by masks of processors. An entry past the rows conflicts with none.
+// Direct waits, by masks of processors. An entry past the rows conflicts with none. Specification, clause 7.2.
 use crate::MaskAnswer;
 use crate::checks::check_processor;
 use arbiter::Board;
-use arbiter::Phases;
 use arbiter::State;
 use arbiter::phases_of;
 use conflicts::row_at;
 use masks::has32;
 use masks::has64;
-use plans::Verdict;
+use plans::SLOTS;
+use refusals::Verdict;
+use settling::ALL;
+use settling::Phases;
 ghost use mathlib.Core.Path.{_≡_};
 ghost use mathlib.Core.Bool.{cond, _&&_};
 ghost use Prim.Native.Nat.{ℕ, _<_};
 ghost use lib.Bits.{bitOr};
 ghost use lib.ListN.{getD};
 ghost use Rattle.masks.specs.Sets.{bit, maskOf};
+ghost use Rattle.plans.specs.Entries.{slots};
 ghost use Rattle.conflicts.specs.Conflict.{tabulate};
-ghost use Rattle.arbiter.specs.Requests.{slots};
-ghost use Rattle.arbiter.specs.Phases.{boardWith, stateWith};
-ghost use Rattle.queries.specs.Queries.{waitsIn, waitsFor, waitsQuery};
-ghost use Rattle.queries.specs.Parts.{facing, directRows};
+ghost use Rattle.settling.specs.Requests.{factsBy};
+ghost use Rattle.queries.specs.Queries.{maskSays, waitsIn, waitsFor, waitsQuery};
+ghost use Rattle.queries.specs.inner.Rows.{facing, directRows};
 
-// The most processors that a state holds, and a mask of them all.
-pub const SLOTS: u32 = 16;
-
-const ALL: u32 = 65535;
+// The places of a mask of processors.
+pub const PLACES: u32 = SLOTS as u32;
 
 // The set, joined with another where the test says so.
 pub fn join_if(set: u32, other: u32, test: bool) -> u32
@@ -34,12 +34,12 @@ pub fn join_if(set: u32, other: u32, test: bool) -> u32
 }
 
 // Those among the processors whose entry is in the row.
-fn in_row(among: u32, row: u64, entry: [u8; 16]) -> u32
+fn those_in_row(among: u32, row: u64, entry: [u8; SLOTS]) -> u32
     ensures { λ r. ⌜ r ≡ maskOf slots (λ q. bit among q && bit row (getD entry q 0)) ⌝ }
 {
     let mut out: u32 = 0;
     let mut q: u32 = 0;
-    while q < SLOTS {
+    while q < PLACES {
         let theirs = entry[q as usize] as u32;
         out = join_if(out, 1 << q, has32(among, q) & has64(row, theirs));
         q += 1;
@@ -47,7 +47,7 @@ fn in_row(among: u32, row: u64, entry: [u8; 16]) -> u32
     out
 }
 
-// The processors that p waits for if their requests conflict with its own: the four cases of document 01.
+// Clause 7.2: the processors that p waits for if their requests conflict with its own, in each of the four cases.
 fn facing_of(phases: Phases, writers: u32, earlier: u32, p: u32) -> u32
     ensures { λ r. ⌜ ((q : ℕ) → bit r q ≡ facing phases writers earlier p q) ⌝ }
 {
@@ -63,36 +63,38 @@ fn facing_of(phases: Phases, writers: u32, earlier: u32, p: u32) -> u32
     join_if(third, earlier & (active & writers), waiting & write)
 }
 
-// The direct waits of processor p, in a state of requests that count.
+// The direct waits of processor p. The phases are of requests that count.
 fn waits_in(
     rows: &[u64],
     writes: u64,
-    entry: [u8; 16],
-    earlier: [u32; 16],
+    entry: [u8; SLOTS],
+    earlier: [u32; SLOTS],
     phases: Phases,
     p: u32,
 ) -> u32
     requires { ⌜ p < slots ⌝ }
-    ensures { λ r. ⌜ r ≡ maskOf slots (waitsIn (boardWith (now (rows .entry)) writes) (stateWith entry earlier phases) p) ⌝ }
+    ensures { λ r. ⌜ r ≡ maskOf slots (waitsIn (factsBy (now (rows .entry)) writes entry earlier) phases p) ⌝ }
 {
-    let writers = in_row(ALL, writes, entry);
+    let writers = those_in_row(ALL, writes, entry);
     let others = facing_of(phases, writers, earlier[p as usize], p);
-    in_row(others, row_at(rows, entry[p as usize] as u32), entry)
+    those_in_row(others, row_at(rows, entry[p as usize] as u32), entry)
 }
 
-// The direct waits of every processor, in a state of requests that count.
+// The direct waits of every processor. The phases are of requests that count.
 fn all_waits(
     rows: &[u64],
     writes: u64,
-    entry: [u8; 16],
-    earlier: [u32; 16],
+    entry: [u8; SLOTS],
+    earlier: [u32; SLOTS],
     phases: Phases,
-) -> [u32; 16]
-    ensures { λ r. ⌜ r ≡ tabulate slots (λ p. maskOf slots (waitsIn (boardWith (now (rows .entry)) writes) (stateWith entry earlier phases) p)) ⌝ }
+) -> [u32; SLOTS]
+    ensures { λ r. ⌜
+        r ≡ tabulate slots (λ p. maskOf slots (waitsIn (factsBy (now (rows .entry)) writes entry earlier) phases p))
+        ⌝ }
 {
-    let mut direct: [u32; 16] = [0; 16];
+    let mut direct: [u32; SLOTS] = [0; SLOTS];
     let mut p: u32 = 0;
-    while p < SLOTS {
+    while p < PLACES {
         direct[p as usize] = waits_in(rows, writes, entry, earlier, phases, p);
         p += 1;
     }
@@ -100,14 +102,14 @@ fn all_waits(
 }
 
 // The direct waits of every processor.
-pub fn direct_rows(board: Board, state: State) -> [u32; 16]
+pub fn direct_rows(board: Board, state: State) -> [u32; SLOTS]
     ensures { λ r. ⌜ r ≡ directRows board state ⌝ }
 {
     let rows = board.rows;
     let entry = state.entry;
     let earlier = state.earlier;
     let phases = phases_of(board, state);
-    all_waits(&rows, board.writes, entry, earlier, phases)
+    all_waits(&rows, board.terms.writes, entry, earlier, phases)
 }
 
 // The direct waits of one processor.
@@ -121,7 +123,7 @@ fn direct_row(board: Board, state: State, processor: u8) -> u32
     let phases = phases_of(board, state);
     waits_in(
         &rows,
-        board.writes,
+        board.terms.writes,
         entry,
         earlier,
         phases,
@@ -131,9 +133,9 @@ fn direct_row(board: Board, state: State, processor: u8) -> u32
 
 // The direct waits of a processor, a mask. Refuses by 11.
 pub fn direct_waits(board: Board, state: State, processor: u8) -> MaskAnswer
-    ensures { λ r. ⌜ r ≡ waitsQuery board state processor ⌝ }
+    ensures { λ r. ⌜ maskSays r ≡ waitsQuery board state processor ⌝ }
 {
-    let verdict = check_processor(board.processors, processor);
+    let verdict = check_processor(board.terms, processor);
     match verdict {
         Verdict::Accepted => MaskAnswer::Mask(direct_row(board, state, processor)),
         Verdict::Refused(refusal) => MaskAnswer::Refused(refusal),

@@ -4,18 +4,19 @@ mod direct;
 mod reaching;
 
 use arbiter::Board;
-use arbiter::Phases;
 use arbiter::State;
 use arbiter::phases_of;
 use checks::check_processor;
 pub use direct::direct_waits;
 use masks::has32;
-use plans::Verdict;
 pub use reaching::reach;
 use refusals::Refusal;
+use refusals::Verdict;
+use settling::Phases;
 ghost use mathlib.Core.Path.{_≡_};
-ghost use Rattle.queries.specs.Queries.{phaseNumber, phaseQuery};
-ghost use Rattle.queries.specs.Parts.{phaseAt};
+ghost use mathlib.Core.Bool.{cond};
+ghost use Rattle.masks.specs.Sets.{bit};
+ghost use Rattle.queries.specs.Queries.{phaseNumber, phaseSays, phaseQuery};
 
 // The state of a processor.
 pub enum Phase {
@@ -37,7 +38,7 @@ pub enum MaskAnswer {
     Refused(Refusal),
 }
 
-// "State of a processor: 0 idle, 1 waiting, 2 entitled, 3 holding."
+// Clause 7.1: the number of a state.
 pub fn phase_number(phase: Phase) -> u8
     ensures { λ r. ⌜ r ≡ phaseNumber phase ⌝ }
 {
@@ -51,7 +52,9 @@ pub fn phase_number(phase: Phase) -> u8
 
 // The phase of processor p, by the masks of phases.
 fn phase_at(phases: Phases, p: u32) -> Phase
-    ensures { λ r. ⌜ r ≡ phaseAt phases p ⌝ }
+    ensures { λ r.
+        ⌜ phaseNumber r
+        ≡ cond (bit (phases .holding) p) 3 (cond (bit (phases .entitled) p) 2 (cond (bit (phases .waiting) p) 1 0)) ⌝ }
 {
     if has32(phases.holding, p) {
         return Phase::Holding;
@@ -68,9 +71,9 @@ fn phase_at(phases: Phases, p: u32) -> Phase
 
 // The state of a processor. Refuses by 11.
 pub fn phase_of(board: Board, state: State, processor: u8) -> PhaseAnswer
-    ensures { λ r. ⌜ r ≡ phaseQuery board state processor ⌝ }
+    ensures { λ r. ⌜ phaseSays r ≡ phaseQuery board state processor ⌝ }
 {
-    let verdict = check_processor(board.processors, processor);
+    let verdict = check_processor(board.terms, processor);
     match verdict {
         Verdict::Accepted => PhaseAnswer::Is(phase_at(phases_of(board, state), processor as u32)),
         Verdict::Refused(refusal) => PhaseAnswer::Refused(refusal),

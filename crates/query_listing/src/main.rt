@@ -2,23 +2,23 @@
 // one past the last: its number, state, direct waits and reach. A test program: its output is compared with another's.
 use arbiter::Board;
 use arbiter::State;
+use encoding::Outcome;
 use libc::STDIN_FILENO;
 use libc::STDOUT_FILENO;
-use listings::LineAnswer;
+use logs::COUNT_BYTES;
 use logs::CountAnswer;
-use plans::Outcome;
+use logs::RECORD_BYTES;
+use plans::SLOTS;
 use queries::MaskAnswer;
 use queries::PhaseAnswer;
 use refusals::Refusal;
 use replay::RanBlock;
 ghost use Prim.Native.Nat.{_≤_};
 ghost use lib.ListN.{length};
-ghost use Rattle.replay.specs.Carried.{sizeOf};
+ghost use Rattle.encoding.specs.Buffers.{outcomeSays};
 
-// The bytes that the call count takes, and a record.
-const COUNT_BYTES: usize = 2;
-
-const RECORD_BYTES: usize = 8;
+// The processors that are asked for: all that a state holds, and one past them.
+const ASKED: u8 = SLOTS as u8 + 1;
 
 fn print_refusal(refusal: Refusal) {
     io::write_all(STDOUT_FILENO, b" refused ");
@@ -37,7 +37,7 @@ fn print_mask(answer: MaskAnswer) {
 
 // The scratch is the largest that a reach needs, so that none is refused for it.
 fn print_query(board: Board, state: State, processor: u8) {
-    let mut scratch = [0u8; 256];
+    let mut scratch = [0u8; SLOTS * SLOTS];
     io::print_decimal(STDOUT_FILENO, processor as u64);
     let phase = queries::phase_of(board, state, processor);
     match phase {
@@ -54,17 +54,17 @@ fn print_query(board: Board, state: State, processor: u8) {
 
 fn print_queries(board: Board, state: State) {
     let mut processor: u8 = 0;
-    while processor < 17 {
+    while processor < ASKED {
         print_query(board, state, processor);
         processor += 1;
     }
 }
 
 // Writes the line at the start of `out`, if there is one.
-fn show(line: LineAnswer, out: &[u8])
-    requires { ⌜ sizeOf line ≤ length (now out) ⌝ }
+fn show(line: Outcome, out: &[u8])
+    requires { ⌜ outcomeSays line .value ≤ length (now out) ⌝ }
 {
-    let size = replay::size_of(line);
+    let size = replay::line_size(line);
     io::write_all(STDOUT_FILENO, &out[..size]);
 }
 

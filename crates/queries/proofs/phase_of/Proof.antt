@@ -1,9 +1,9 @@
 -- `phase_of` meets its contract: of a counted processor the masks have the phase. Assumes nothing.
-use mathlib.Core.Path.{refl, sym, ap, _∙_}
-use Rattle.queries.specs.Queries.{phaseQuery}
-use Rattle.queries.specs.Parts.{phaseAt}
-use Rattle.queries.specs.declared.PhaseAnswer.{PhaseAnswer}
-use Rattle.queries.proofs.Answers.{processor-below, phase-counted}
+use mathlib.Core.Path.{sym, ap, _∙_}
+use mathlib.Core.Bool.{cond}
+use Rattle.masks.specs.Sets.{bit}
+use Rattle.refusals.specs.Number.{verdictNumber}
+use Rattle.queries.proofs.Answers.{processor-below, accepted-says, refused-says, state-counted}
 use borrow.Author.Needs.{needs}
 use Rattle.queries.proofs.phase_of.Statement.{statement}
 use Rattle.queries.proofs.phase_of.Tie as tie
@@ -24,19 +24,16 @@ enum-known-verdict : tie.Need-enum-known-verdict
 enum-known-verdict c = search needs
 
 returns : tie.Need-returns
-unfolding phaseQuery
 returns c =
-    let start = c .before .before .before .before .before in
+    let a = c .before .before .before .before .before .args in
     let checked = c .before .before .before .before .check-processor .ensures in
     let accepted = c .before .before .enum-told .given .1 in
-    let below = processor-below (start .args .board .processors) (start .args .processor) (sym checked ∙ accepted) in
-    rw (← checked, accepted)
-    (ap PhaseAnswer.Is
-    (c .phase-at .ensures ∙ ap (λ ph. phaseAt ph (start .args .processor)) (c .before .phases-of .ensures) ∙ phase-counted _ _ _ below))
+    let below = processor-below (a .board .terms) (a .processor) (sym checked ∙ ap verdictNumber accepted) in
+    accepted-says _ _ _ _ checked accepted
+    (state-counted (a .board) (a .state) (a .processor) _ below (rw (c .before .phases-of .ensures) at (c .phase-at .ensures)))
 
 returns-2 : tie.Need-returns-2
-unfolding phaseQuery
-returns-2 c = rw (← c .before .before .before .check-processor .ensures, c .before .verdict .given .1) refl
+returns-2 c = refused-says _ _ _ _ (c .before .before .before .check-processor .ensures) (c .before .verdict .given .1)
 
 pub phase-of-spec : {M : Type 1} → statement M
 phase-of-spec =

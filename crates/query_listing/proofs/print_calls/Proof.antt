@@ -4,7 +4,9 @@ use Prim.Native.Nat.{_+_, _-_, _≤_}
 use mathlib.Core.Path.{_≡_, refl, _∙_}
 use native.Mathlib.Omega.{arith}
 use borrow.Author.Tests.{leb-true}
-use lib.ListN.{length}
+use lib.ListN.{length, take, drop}
+use Rattle.logs.specs.Records.{recordSize}
+use Rattle.replay.specs.Ends.{endLine}
 use Rattle.replay.proofs.Ranges.{line-within}
 use Rattle.query_listing.proofs.print_calls.Statement.{statement}
 use Rattle.query_listing.proofs.print_calls.Tie as tie
@@ -52,8 +54,8 @@ loop-again : tie.Need-loop-again Inv-loop μ-loop
 loop-again c =
     let loop = c .before .before .before .before .before .before .before .before .before in
     let bytes = loop .before .before .before .args .bytes .now in
-    let room : 8 ≤ length bytes - loop .loop .from = leb-true 8 (length bytes - loop .loop .from) (c .before .before .before .before .before .before .before .if1 .taken) in
-    let whole : loop .loop .from + 8 ≤ length bytes = omega (arith, room, loop .loop .inv .0) in
+    let room : recordSize ≤ length bytes - loop .loop .from = leb-true recordSize (length bytes - loop .loop .from) (c .before .before .before .before .before .before .before .if1 .taken) in
+    let whole : loop .loop .from + recordSize ≤ length bytes = omega (arith, room, loop .loop .inv .0) in
     (whole, c .before .before .before .before .print-call .kept .1 .1 .1 .0 ∙ loop .loop .inv .1)
 
 sub-finish : tie.Need-sub-finish Inv-loop μ-loop
@@ -69,7 +71,12 @@ finish-requires : tie.Need-finish-requires Inv-loop μ-loop
 finish-requires c κs = tt
 
 show-requires : tie.Need-show-requires Inv-loop μ-loop
-show-requires c κs = omega (arith, line-within _ _ _ _ (c .before .before .before .finish .ensures .0), c .before .before .before .finish .kept .1 .1 .0)
+show-requires c κs =
+    let ended = c .before .before .before .finish in
+    let loop = c .before .before .before .before .before .before .before in
+    let bytes = loop .before .before .before .args .bytes .now in
+    let line = endLine (loop .loop .left) (take (length bytes - loop .loop .from) (drop (loop .loop .from) bytes)) in
+    omega (arith, line-within line (length (loop .loop .out)) 0 (ended .result) (ended .ensures .0), ended .kept .1 .1 .0)
 
 same-length-2 : tie.Need-same-length-2 Inv-loop μ-loop
 same-length-2 c = c .before .before .before .before .finish .kept .1 .1 .0 ∙ c .before .before .before .before .before .before .before .before .loop .inv .1

@@ -1,7 +1,7 @@
 -- `query_listing::print_log` lends parts that are there: a plan ends within the bytes that were lent. Assumes nothing.
-use mathlib.Core.Path.{ap}
 use native.Mathlib.Omega.{arith}
-use Rattle.replay.specs.declared.Begun.{Begun}
+use lib.ListN.{length, take}
+use Rattle.replay.specs.Ends.{openingLine}
 use Rattle.replay.proofs.Ranges.{line-within, plan-filled}
 use borrow.Author.Needs.{needs}
 use Rattle.query_listing.proofs.print_log.Statement.{statement}
@@ -21,8 +21,11 @@ begin-requires c κs = search needs
 
 show-requires : tie.Need-show-requires
 show-requires c κs =
-    let begun = c .before .before .before .begin in
-    omega (arith, line-within _ _ _ _ (ap (λ (x : Begun). x .line) (begun .ensures .0)), begun .kept .1 .0)
+    let begun = c .before .before .before in
+    let filled = begun .before .before .before .before .before in
+    let line = openingLine (take (filled .read-full .result) (filled .read-full .last .1 .0)) in
+    let size = length (filled .before .before .before .before .args .out .now) in
+    omega (arith, line-within line size 0 (begun .begin .result .line) (begun .begin .ensures .1 .1 .1 .0), begun .begin .kept .1 .0)
 
 enum-known-outcome : tie.Need-enum-known-outcome
 enum-known-outcome c = search needs
@@ -30,12 +33,12 @@ enum-known-outcome c = search needs
 sub-print-rest : tie.Need-sub-print-rest
 sub-print-rest c =
     let filled = c .before .before .before .before .before .before .before .before .before .before .before .before .before .before .read-full in
-    plan-filled (filled .last .1 .0) (filled .result) _ _ _ (c .before .before .before .before .before .before .before .before .before .begin .ensures .0) (filled .ensures .0) (c .before .outcome .given .1)
+    plan-filled (filled .last .1 .0) (filled .result) _ _ (c .before .before .before .before .before .before .before .before .before .begin .ensures .0) (filled .ensures .0) (c .before .outcome .given .1)
 
 part-print-rest-start : tie.Need-part-print-rest-start
 part-print-rest-start c =
     let filled = c .before .before .before .before .before .before .before .before .before .before .before .before .before .before .before .read-full in
-    plan-filled (filled .last .1 .0) (filled .result) _ _ _ (c .before .before .before .before .before .before .before .before .before .before .begin .ensures .0) (filled .ensures .0) (c .before .before .outcome .given .1)
+    plan-filled (filled .last .1 .0) (filled .result) _ _ (c .before .before .before .before .before .before .before .before .before .before .begin .ensures .0) (filled .ensures .0) (c .before .before .outcome .given .1)
 
 part-print-rest-end : tie.Need-part-print-rest-end
 part-print-rest-end c = search needs

@@ -1,14 +1,15 @@
--- `query_listing::print_queries` ends: it asks for 17 processors, one a turn. Assumes nothing.
-use Prim.Native.Nat.{_≤_, _-_}
+-- `query_listing::print_queries` ends: it asks for one processor more than a state holds, one a turn. Assumes nothing.
+use Prim.Native.Nat.{_+_, _-_, _≤_}
 use native.Mathlib.Omega.{arith}
+use Rattle.plans.specs.Entries.{slots}
 use Rattle.query_listing.proofs.print_queries.Statement.{statement}
 use Rattle.query_listing.proofs.print_queries.Tie as tie
 
 abbrev Inv-loop : tie.InvT-loop
-Inv-loop board state processor₀ processor = processor ≤ 17
+Inv-loop board state processor₀ processor = processor ≤ slots + 1
 
 abbrev μ-loop : tie.MeasureT-loop
-μ-loop board state processor₀ processor = 17 - processor
+μ-loop board state processor₀ processor = slots + 1 - processor
 
 loop-holds : tie.Need-loop-holds Inv-loop μ-loop
 loop-holds c = omega arith

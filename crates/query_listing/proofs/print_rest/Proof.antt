@@ -1,8 +1,9 @@
 -- `query_listing::print_rest` lends parts that are there: the call count is there where it was read. Assumes nothing.
-use mathlib.Core.Path.{ap, sym, _∙_}
 use native.Mathlib.Omega.{arith}
-use Rattle.replay.specs.declared.Counted.{Counted}
-use Rattle.replay.proofs.Ranges.{line-within, count-there}
+use lib.ListN.{length}
+use Rattle.logs.proofs.Answers.{count-is, count-there}
+use Rattle.replay.specs.Ends.{countLine}
+use Rattle.replay.proofs.Ranges.{line-within}
 use borrow.Author.Needs.{needs}
 use Rattle.query_listing.proofs.print_rest.Statement.{statement}
 use Rattle.query_listing.proofs.print_rest.Tie as tie
@@ -13,14 +14,17 @@ count-requires c κs = search needs
 show-requires : tie.Need-show-requires
 show-requires c κs =
     let counted = c .before .before .before .count in
-    omega (arith, line-within _ _ _ _ (ap (λ (x : Counted). x .line) (counted .ensures .0)), counted .kept .1 .0)
+    let a = c .before .before .before .before .before .before .before .args in
+    omega (arith, line-within (countLine (a .bytes .now)) (length (a .out .now)) 0 (counted .result .line) (counted .ensures .1 .0), counted .kept .1 .0)
 
 enum-known-calls : tie.Need-enum-known-calls
 enum-known-calls c = search needs
 
 sub-print-calls : tie.Need-sub-print-calls
 sub-print-calls c =
-    count-there _ _ (sym (ap (λ (x : Counted). x .calls) (c .before .before .before .before .before .before .before .count .ensures .0)) ∙ c .before .calls .given .1)
+    let counted = c .before .before .before .before .before .before .before in
+    let bytes = counted .before .before .before .before .args .bytes .now in
+    count-there bytes (count-is (counted .count .result .calls) bytes _ (counted .count .ensures .0) (c .before .calls .given .1))
 
 part-print-calls-start : tie.Need-part-print-calls-start
 part-print-calls-start c = sub-print-calls c

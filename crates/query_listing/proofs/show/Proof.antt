@@ -6,11 +6,11 @@ use borrow.Author.Needs.{needs}
 use Rattle.query_listing.proofs.show.Statement.{statement}
 use Rattle.query_listing.proofs.show.Tie as tie
 
-size-of-requires : tie.Need-size-of-requires
-size-of-requires c κs = search needs
+line-size-requires : tie.Need-line-size-requires
+line-size-requires c κs = search needs
 
 slice-aggregate-write-all : tie.Need-slice-aggregate-write-all
-slice-aggregate-write-all c = sym (length-take-le _ _ (omega (arith, c .before .size-of .ensures)))
+slice-aggregate-write-all c = sym (length-take-le _ _ (omega (arith, c .before .line-size .ensures)))
 
 write-all-requires : tie.Need-write-all-requires
 write-all-requires c κs = search needs
@@ -20,4 +20,4 @@ returns c = search needs
 
 pub show-spec : {M : Type 1} → statement M
 show-spec =
-    tie.close (tie.spec size-of-requires slice-aggregate-write-all write-all-requires returns)
+    tie.close (tie.spec line-size-requires slice-aggregate-write-all write-all-requires returns)

@@ -1,21 +1,16 @@
 -- `check_processor` meets its contract. Assumes nothing.
-use mathlib.Core.Path.{_≡_}
-use mathlib.Core.Bool.{true, false}
-use Rattle.arbiter.specs.Parts.{countedBy}
+use borrow.Author.Needs.{needs}
 use Rattle.queries.proofs.checks.check_processor.Statement.{statement}
 use Rattle.queries.proofs.checks.check_processor.Tie as tie
 
-returns : tie.Need-returns
-returns c =
-    let a = c .before .args in
-    let counted : countedBy (a .processors) (a .processor) ≡ true = c .if1 .taken in
-    rw counted
+cast-refuse-unless : tie.Need-cast-refuse-unless
+cast-refuse-unless c = search needs
 
-returns-2 : tie.Need-returns-2
-returns-2 c =
-    let a = c .before .args in
-    let uncounted : countedBy (a .processors) (a .processor) ≡ false = c .if1 .left in
-    rw uncounted
+refuse-unless-requires : tie.Need-refuse-unless-requires
+refuse-unless-requires c κs = search needs
+
+returns : tie.Need-returns
+returns c = c .refuse-unless .ensures
 
 pub check-processor-spec : {M : Type 1} → statement M
-check-processor-spec = tie.close (tie.spec returns returns-2)
+check-processor-spec = tie.close (tie.spec cast-refuse-unless refuse-unless-requires returns)

@@ -1,6 +1,7 @@
 -- `check_reach` meets its contract. Assumes nothing.
+use mathlib.Core.Path.{ap₂, _∙_}
+use Rattle.refusals.specs.Due.{firstOf}
 use borrow.Author.Needs.{needs}
-use Rattle.queries.proofs.Answers.{checks-reach}
 use Rattle.queries.proofs.checks.check_reach.Statement.{statement}
 use Rattle.queries.proofs.checks.check_reach.Tie as tie
 
@@ -15,8 +16,7 @@ first-of-requires c κs = search needs
 
 returns : tie.Need-returns
 returns c =
-    let a = c .before .before .before .args in
-    checks-reach (a .processors) (a .processor) (a .size) _ _ _ (c .before .before .check-processor .ensures) (c .before .check-room .ensures) (c .first-of .ensures)
+    c .first-of .ensures ∙ ap₂ firstOf (c .before .before .check-processor .ensures) (c .before .check-room .ensures)
 
 pub check-reach-spec : {M : Type 1} → statement M
 check-reach-spec =

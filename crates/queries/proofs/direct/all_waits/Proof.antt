@@ -3,11 +3,11 @@ use mathlib.Core.Path.{_≡_, refl}
 use Prim.Native.Nat.{_<_, _≤_, _-_}
 use native.Mathlib.Omega.{arith}
 use lib.ListN.{length, take, length-set}
-use Rattle.conflicts.specs.Conflict.{tabulate}
-use Rattle.arbiter.specs.Requests.{slots}
-use Rattle.arbiter.specs.Phases.{boardWith, stateWith}
 use Rattle.masks.specs.Sets.{maskOf}
+use Rattle.conflicts.specs.Conflict.{tabulate}
+use Rattle.plans.specs.Entries.{slots}
 use Rattle.conflicts.proofs.Tabulate.{fill-more, filled-whole}
+use Rattle.settling.specs.Requests.{factsBy}
 use Rattle.queries.specs.Queries.{waitsIn}
 use borrow.Author.Needs.{needs}
 use Rattle.queries.proofs.direct.all_waits.Statement.{statement}
@@ -16,7 +16,7 @@ use Rattle.queries.proofs.direct.all_waits.Tie as tie
 abbrev Inv-loop : tie.InvT-loop
 Inv-loop rows writes entry earlier phases direct₀ p₀ direct p =
     (p ≤ slots) × (length direct ≡ slots)
-    × (take p direct ≡ tabulate p (λ q. maskOf slots (waitsIn (boardWith rows writes) (stateWith entry earlier phases) q)))
+    × (take p direct ≡ tabulate p (λ q. maskOf slots (waitsIn (factsBy rows writes entry earlier) phases q)))
 
 abbrev μ-loop : tie.MeasureT-loop
 μ-loop rows writes entry earlier phases direct₀ p₀ direct p = slots - p

@@ -1,6 +1,5 @@
 -- `direct_row` meets its contract: the phases that count, with the fields of the state. Assumes nothing.
-use mathlib.Core.Path.{_∙_}
-use Rattle.queries.proofs.Facing.{waits-cleaned}
+use Rattle.queries.proofs.Facing.{waits-counted}
 use borrow.Author.Needs.{needs}
 use Rattle.queries.proofs.direct.direct_row.Statement.{statement}
 use Rattle.queries.proofs.direct.direct_row.Tie as tie
@@ -16,8 +15,8 @@ waits-in-requires c κs = search needs
 
 returns : tie.Need-returns
 returns c =
-    let start = c .before .before .before .before .before .before in
-    c .waits-in .ensures ∙ waits-cleaned (start .args .board) (start .args .state) _ (c .before .before .phases-of .ensures) _
+    let a = c .before .before .before .before .before .before .args in
+    waits-counted (a .board) (a .state) _ (c .before .before .phases-of .ensures) _ _ (c .waits-in .ensures)
 
 pub direct-row-spec : {M : Type 1} → statement M
 direct-row-spec =

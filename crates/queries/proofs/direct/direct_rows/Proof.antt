@@ -1,8 +1,5 @@
 -- `direct_rows` meets its contract: the phases that count, with the fields of the state. Assumes nothing.
-use mathlib.Core.Path.{_∙_}
-use Rattle.conflicts.proofs.Tabulate.{tabulate-agree}
-use Rattle.arbiter.specs.Requests.{slots}
-use Rattle.queries.proofs.Facing.{waits-cleaned}
+use Rattle.queries.proofs.Facing.{rows-counted}
 use borrow.Author.Needs.{needs}
 use Rattle.queries.proofs.direct.direct_rows.Statement.{statement}
 use Rattle.queries.proofs.direct.direct_rows.Tie as tie
@@ -18,9 +15,8 @@ all-waits-requires c κs = search needs
 
 returns : tie.Need-returns
 returns c =
-    let start = c .before .before .before .before .before .before in
-    c .all-waits .ensures
-    ∙ tabulate-agree slots _ _ (λ p l. waits-cleaned (start .args .board) (start .args .state) _ (c .before .before .phases-of .ensures) p)
+    let a = c .before .before .before .before .before .before .args in
+    rows-counted (a .board) (a .state) _ (c .before .before .phases-of .ensures) _ (c .all-waits .ensures)
 
 pub direct-rows-spec : {M : Type 1} → statement M
 direct-rows-spec =

@@ -1,8 +1,7 @@
 -- `direct_waits` meets its contract. Assumes nothing.
-use mathlib.Core.Path.{refl, sym, ap, _∙_}
-use Rattle.queries.specs.Queries.{waitsQuery}
-use Rattle.queries.specs.declared.MaskAnswer.{MaskAnswer}
-use Rattle.queries.proofs.Answers.{processor-below}
+use mathlib.Core.Path.{sym, ap, _∙_}
+use Rattle.refusals.specs.Number.{verdictNumber}
+use Rattle.queries.proofs.Answers.{processor-below, accepted-says, refused-says}
 use borrow.Author.Needs.{needs}
 use Rattle.queries.proofs.direct.direct_waits.Statement.{statement}
 use Rattle.queries.proofs.direct.direct_waits.Tie as tie
@@ -14,20 +13,18 @@ enum-told : tie.Need-enum-told
 enum-told c = search needs
 
 direct-row-requires : tie.Need-direct-row-requires
-direct-row-requires c κs = processor-below _ _ (sym (c .before .before .check-processor .ensures) ∙ c .enum-told .given .1)
+direct-row-requires c κs =
+    processor-below (c .before .before .before .args .board .terms) _ (sym (c .before .before .check-processor .ensures) ∙ ap verdictNumber (c .enum-told .given .1))
 
 enum-known-verdict : tie.Need-enum-known-verdict
 enum-known-verdict c = search needs
 
 returns : tie.Need-returns
-unfolding waitsQuery
 returns c =
-    rw (← c .before .before .before .check-processor .ensures, c .before .enum-told .given .1)
-    (ap MaskAnswer.Mask (c .direct-row .ensures))
+    accepted-says _ _ _ _ (c .before .before .before .check-processor .ensures) (c .before .enum-told .given .1) (c .direct-row .ensures)
 
 returns-2 : tie.Need-returns-2
-unfolding waitsQuery
-returns-2 c = rw (← c .before .before .before .check-processor .ensures, c .before .verdict .given .1) refl
+returns-2 c = refused-says _ _ _ _ (c .before .before .before .check-processor .ensures) (c .before .verdict .given .1)
 
 pub direct-waits-spec : {M : Type 1} → statement M
 direct-waits-spec =

@@ -38,7 +38,7 @@ returns c =
     let start = waiting .before .before .before in
     let holding-fits : start .args .phases .holding < 2 ^ 32 = omega (arith, waiting .before .struct-known2 .given) in
     let writers-fit : start .args .writers < 2 ^ 32 = omega (arith, start .fits) in
-    faces (start .args .phases) (start .args .writers) (start .args .earlier) (start .args .p) holding-fits writers-fit
+    faces 32 (start .args .phases) (start .args .writers) (start .args .earlier) (start .args .p) holding-fits writers-fit
     (first .join-if .result) (second .join-if2 .result) (third .join-if3 .result) (c .join-if4 .result)
     (waiting .has32 .result) (entitled .has322 .result) (write .has323 .result)
     (waiting .has32 .ensures) (entitled .has322 .ensures) (write .has323 .ensures)

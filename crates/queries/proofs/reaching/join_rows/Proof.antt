@@ -2,7 +2,7 @@
 use Prim.Native.Nat.{_≤_, _-_}
 use mathlib.Core.Path.{_≡_}
 use native.Mathlib.Omega.{arith}
-use Rattle.arbiter.specs.Requests.{slots}
+use Rattle.plans.specs.Entries.{slots}
 use borrow.Author.Needs.{needs}
 use Rattle.queries.proofs.Joining.{JoinedTo, join-first, join-turn, join-last}
 use Rattle.queries.proofs.reaching.join_rows.Statement.{statement}

@@ -4,7 +4,7 @@ use Prim.Native.Nat.{_<_, _≤_, _-_}
 use native.Mathlib.Omega.{arith}
 use lib.ListN.{length, length-set}
 use Rattle.conflicts.specs.Conflict.{tabulate}
-use Rattle.arbiter.specs.Requests.{slots}
+use Rattle.plans.specs.Entries.{slots}
 use Rattle.conflicts.proofs.Tabulate.{filled-whole}
 use borrow.Author.Needs.{needs}
 use Rattle.queries.proofs.Joining.{LongerTo, longer-turn}

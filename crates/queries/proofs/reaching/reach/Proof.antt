@@ -1,9 +1,10 @@
 -- `reach` meets its contract: accepted, the rows are stored; refused, nothing is. Assumes nothing.
 use mathlib.Core.Path.{refl, sym, ap, _∙_}
 use lib.ListN.{length}
-use Rattle.queries.specs.Queries.{reachFault, reachQuery, reachScratch}
-use Rattle.queries.specs.declared.MaskAnswer.{MaskAnswer}
-use Rattle.queries.proofs.Answers.{reach-below, reach-room}
+use Rattle.refusals.specs.Number.{verdictNumber}
+use Rattle.refusals.proofs.Numbers.{number-not-zero}
+use Rattle.queries.specs.Queries.{reachFault, reachScratch}
+use Rattle.queries.proofs.Answers.{reach-accepted, accepted-says, refused-says}
 use borrow.Author.Needs.{needs}
 use Rattle.queries.proofs.reaching.reach.Statement.{statement}
 use Rattle.queries.proofs.reaching.reach.Tie as tie
@@ -16,11 +17,9 @@ enum-told c = search needs
 
 write-reach-requires : tie.Need-write-reach-requires
 write-reach-requires c κs =
-    let start = c .before .before .before .before .before in
-    let accepted = sym (c .before .before .before .check-reach .ensures) ∙ c .before .enum-told .given .1 in
-    let m = start .args .board .processors in
-    let size = length (start .args .scratch .now) in
-    (reach-below m (start .args .processor) size accepted, reach-room m (start .args .processor) size accepted)
+    let a = c .before .before .before .before .before .args in
+    let checked = c .before .before .before .check-reach .ensures in
+    reach-accepted (a .board .terms) (a .processor) (length (a .scratch .now)) (sym checked ∙ ap verdictNumber (c .before .enum-told .given .1))
 
 enum-known-verdict : tie.Need-enum-known-verdict
 enum-known-verdict c = search needs
@@ -29,15 +28,19 @@ same-length : tie.Need-same-length
 same-length c = search needs
 
 returns : tie.Need-returns
-unfolding reachFault reachQuery reachScratch
+unfolding reachFault reachScratch
 returns c =
     let written = c .before .before in
-    rw (← written .before .before .before .before .check-reach .ensures, written .before .before .enum-told .given .1)
-    (ap MaskAnswer.Mask (written .write-reach .ensures .0), written .write-reach .ensures .1)
+    let checked = written .before .before .before .before .check-reach .ensures in
+    let accepted = written .before .before .enum-told .given .1 in
+    (accepted-says _ _ _ _ checked accepted (written .write-reach .ensures .0), rw (← checked, accepted) (written .write-reach .ensures .1))
 
 returns-2 : tie.Need-returns-2
-unfolding reachFault reachQuery reachScratch
-returns-2 c = rw (← c .before .before .before .check-reach .ensures, c .before .verdict .given .1) (refl, refl)
+unfolding reachFault reachScratch
+returns-2 c =
+    let checked = c .before .before .before .check-reach .ensures in
+    let refused = c .before .verdict .given .1 in
+    (refused-says _ _ _ _ checked refused, rw (← checked, refused, number-not-zero _) refl)
 
 pub reach-spec : {M : Type 1} → statement M
 reach-spec =

@@ -2,7 +2,7 @@
 use mathlib.Core.Path.{_≡_}
 use Prim.Native.Nat.{_≤_, _-_}
 use native.Mathlib.Omega.{arith}
-use Rattle.arbiter.specs.Requests.{slots}
+use Rattle.plans.specs.Entries.{slots}
 use borrow.Author.Needs.{needs}
 use Rattle.queries.proofs.Joining.{ChainsTo, chains-first, chains-turn}
 use Rattle.queries.proofs.reaching.reach_rows.Statement.{statement}

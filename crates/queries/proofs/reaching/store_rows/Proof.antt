@@ -4,17 +4,18 @@ use mathlib.Core.Path.{_≡_, refl}
 use mathlib.Core.List.{_++_}
 use native.Mathlib.Omega.{arith}
 use lib.ListN.{length, drop, length-set}
+use Rattle.plans.specs.Entries.{slots}
 use Rattle.conflicts.specs.Conflict.{tabulate}
-use Rattle.queries.specs.Parts.{byteOf}
+use Rattle.queries.specs.inner.Rows.{byteOf}
 use Rattle.queries.proofs.Joining.{store-turn}
 use Rattle.queries.proofs.reaching.store_rows.Statement.{statement}
 use Rattle.queries.proofs.reaching.store_rows.Tie as tie
 
 abbrev Inv-loop : tie.InvT-loop
-Inv-loop rows count scratch₀ end k₀ scratch k = (k ≤ 16 * count) × (length scratch ≡ length scratch₀) × (scratch ≡ tabulate k (byteOf rows) ++ drop k scratch₀)
+Inv-loop rows count scratch₀ end k₀ scratch k = (k ≤ slots * count) × (length scratch ≡ length scratch₀) × (scratch ≡ tabulate k (byteOf rows) ++ drop k scratch₀)
 
 abbrev μ-loop : tie.MeasureT-loop
-μ-loop rows count scratch₀ end k₀ scratch k = 16 * count - k
+μ-loop rows count scratch₀ end k₀ scratch k = slots * count - k
 
 mul-end : tie.Need-mul-end Inv-loop μ-loop
 mul-end c = omega arith
@@ -45,7 +46,7 @@ same-length c = c .before .loop .inv .1
 
 returns : tie.Need-returns Inv-loop μ-loop
 returns c =
-    let last : c .before .loop .k ≡ 16 * c .before .before .before .args .count = omega arith in
+    let last : c .before .loop .k ≡ slots * c .before .before .before .args .count = omega arith in
     rw last at (c .before .loop .inv .2)
 
 pub store-rows-spec : {M : Type 1} → statement M

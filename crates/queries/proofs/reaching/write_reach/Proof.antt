@@ -1,8 +1,5 @@
--- `write_reach` meets its contract: the rows after 16 rounds, stored. Assumes nothing.
-use mathlib.Core.Path.{ap, _∙_}
-use mathlib.Core.List.{_++_}
-use lib.ListN.{drop}
-use Rattle.queries.proofs.Joining.{row-asked, bytes-reach}
+-- `write_reach` meets its contract: the rows after the last round, stored. Assumes nothing.
+use Rattle.queries.proofs.Joining.{row-asked, bytes-stored}
 use borrow.Author.Needs.{needs}
 use Rattle.queries.proofs.reaching.write_reach.Statement.{statement}
 use Rattle.queries.proofs.reaching.write_reach.Tie as tie
@@ -34,7 +31,7 @@ returns c =
     let s = start .args .state in
     let reached = rows .reach-rows .ensures b s (rows .before .direct-rows .ensures) in (
       row-asked b s _ _ (start .pre .0) reached,
-      stored .store-rows .ensures ∙ ap (λ bytes. bytes ++ drop 256 (start .args .scratch .now)) (bytes-reach b s _ reached),
+      bytes-stored b s _ _ _ reached (stored .store-rows .ensures),
     )
 
 pub write-reach-spec : {M : Type 1} → statement M

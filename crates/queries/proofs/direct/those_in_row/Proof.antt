@@ -1,15 +1,15 @@
--- `in_row` meets its contract. The loop's invariant: those passed. Assumes nothing.
+-- `those_in_row` meets its contract. The loop's invariant: those passed. Assumes nothing.
 use mathlib.Core.Path.{_≡_, refl}
 use mathlib.Core.Bool.{_&&_}
 use Prim.Native.Nat.{_<_, _≤_, _-_}
 use native.Mathlib.Omega.{arith}
 use lib.ListN.{getD}
 use Rattle.masks.specs.Sets.{bit, maskOf}
-use Rattle.arbiter.specs.Requests.{slots}
-use Rattle.queries.proofs.Facing.{row-turn}
+use Rattle.masks.proofs.Masks.{mask-shifted}
+use Rattle.plans.specs.Entries.{slots}
 use borrow.Author.Needs.{needs}
-use Rattle.queries.proofs.direct.in_row.Statement.{statement}
-use Rattle.queries.proofs.direct.in_row.Tie as tie
+use Rattle.queries.proofs.direct.those_in_row.Statement.{statement}
+use Rattle.queries.proofs.direct.those_in_row.Tie as tie
 
 abbrev Inv-loop : tie.InvT-loop
 Inv-loop among row entry out₀ q₀ out q = (q ≤ slots) × (out ≡ maskOf q (λ k. bit among k && bit row (getD entry k 0)))
@@ -52,7 +52,7 @@ loop-again : tie.Need-loop-again Inv-loop μ-loop
 loop-again c =
     let low : c .before .before .before .before .loop .q < 32 = omega arith in (
       omega arith,
-      row-turn _ _ _ _ low (c .before .before .before .before .loop .inv .1)
+      mask-shifted 32 _ _ _ _ low (c .before .before .before .before .loop .inv .1)
           (rw (← c .before .before .has32 .ensures, ← c .before .has64 .ensures) (c .join-if .ensures)),
     )
 
@@ -61,8 +61,8 @@ returns c =
     let last : c .before .loop .q ≡ slots = omega arith in
     rw (← last) (c .before .loop .inv .1)
 
-pub in-row-spec : {M : Type 1} → statement M
-in-row-spec =
+pub those-in-row-spec : {M : Type 1} → statement M
+those-in-row-spec =
     tie.close
     (tie.spec
     Inv-loop
