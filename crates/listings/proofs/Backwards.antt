@@ -6,7 +6,7 @@ use mathlib.Core.List.{List, [], _∷_, _++_}
 use lib.ListN.{length, set, length-set}
 use lib.Seq.{sets}
 use Rattle.listings.specs.Digits.{decimal}
-use Rattle.listings.specs.Stored.{Stored}
+use Rattle.listings.specs.inner.Stored.{Stored}
 use Rattle.listings.proofs.Decimals.{decimal-one, decimal-more, length-more, some-digit}
 use Rattle.listings.proofs.Stores.{last-first}
 

@@ -80,3 +80,16 @@ at-most (suc j) (suc k) n h =
 -- A number below 10 ^ k, k above 0, has at most k digits.
 pub most-digits : (k n : ℕ) → n < 10 ^ suc k → length (decimal n) ≤ suc k
 most-digits k n h = at-most 20 k n h
+
+-- Whatever the number, there are no more than 20.
+few : (k n : ℕ) → length (digits k n) ≤ k
+unfolding digits
+few zero n = omega arith
+few (suc k) n =
+    elim (size n) [
+      | small s ↦ rw (one-digit k n s) (omega arith)
+      | large l ↦ rw (more-digits k n l) (simp length-append (omega (arith, few k (n / 10))))
+    ]
+
+pub few-digits : (n : ℕ) → length (decimal n) ≤ 20
+few-digits n = few 20 n

@@ -1,7 +1,7 @@
 pub mod Decimals
 pub mod Stores
 pub mod Backwards
-pub mod Fields
+pub mod Lengths
 pub mod Room
 pub mod LongestFirst
 pub mod LongestCall

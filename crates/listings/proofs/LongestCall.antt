@@ -1,81 +1,75 @@
--- The longest line of a call: 41 bytes for any values, 32 in a replay, where ticks are below 2 ^ 40 and late is 0 or 1.
--- The longest line of a refusal: 11. Assumes nothing.
+-- How long lines can be. A call's line: 75 bytes whatever the numbers, 41 for those of the Rattle types, 32 in a replay, where
+-- ticks are below 2 ^ 40 and late is 0 or 1. The line of a refusal of the table: 11. Assumes nothing.
 use Prim.Native.Nat.{ℕ, suc, _+_, _^_, _≤_, _<_}
 use native.Mathlib.Omega.{arith}
-use mathlib.Core.Path.{_≡_, refl, ap, _∙_}
-use lib.Dec.{lit<}
+use mathlib.Core.Path.{_≡_}
+use mathlib.Core.Bool.{Bool, true, false, cond}
+use mathlib.Core.List.{[], _∷_}
+use lib.Dec.{eqb}
 use lib.ListN.{length}
-use Rattle.refusals.specs.declared.Refusal.{Refusal}
-use Rattle.refusals.specs.declared.Refusal.the-variants.{Short, Tail, Processors, Resources, Entries, Kind, Set, Length, Verb, Tick, Processor, Entry, Busy, Idle, Unheld, Room}
-use Rattle.refusals.specs.Number.{numberOf}
-use Rattle.arbiter.specs.declared.Reply.{Reply}
-use Rattle.logs.specs.declared.Call.{Call}
-use Rattle.listings.specs.Digits.{decimal}
-use Rattle.listings.specs.Lines.{furtherFields, replyFields, callLine, refusalLine}
-use Rattle.listings.proofs.Decimals.{most-digits}
-use Rattle.listings.proofs.Fields.{length-parts, length-refusal, length-done, length-refused}
+use Rattle.calls.specs.declared.Call.{Call}
+use Rattle.calls.specs.Calls.{callSays}
+use Rattle.calls.specs.Replies.{Response}
+use Rattle.listings.specs.Digits.{decimal, hex4}
+use Rattle.listings.specs.Lines.{refusedWord, furtherFields, replyFields, letterOf, callLine, refusalLine}
+use Rattle.listings.proofs.Decimals.{few-digits, most-digits}
+use Rattle.listings.proofs.Lengths.{done-length, refused-length, length-parts, length-refusal}
 
-number-small : (r : Refusal) → numberOf r < 10 ^ 2
-number-small Short = lit< tt
-number-small Tail = lit< tt
-number-small Processors = lit< tt
-number-small Resources = lit< tt
-number-small Entries = lit< tt
-number-small Kind = lit< tt
-number-small Set = lit< tt
-number-small Length = lit< tt
-number-small Verb = lit< tt
-number-small Tick = lit< tt
-number-small Processor = lit< tt
-number-small Entry = lit< tt
-number-small Busy = lit< tt
-number-small Idle = lit< tt
-number-small Unheld = lit< tt
-number-small Room = lit< tt
+-- A reply takes 12 bytes more than its late mark, or two more than its number has digits.
+reply-most : (reply : Response) (n : ℕ) → length (decimal (reply .number)) ≤ 2 + n → length (decimal (reply .late)) ≤ n
+    → length (furtherFields (replyFields reply)) ≤ 12 + n
+reply-most reply n number late = go (eqb (reply .number) 0)
+  where
+    go : (b : Bool)
+        → length (furtherFields (cond b (hex4 (reply .granted) ∷ hex4 (reply .entitled) ∷ decimal (reply .late) ∷ []) (refusedWord ∷ decimal (reply .number) ∷ [])))
+        ≤ 12 + n
+    go true = omega (arith, done-length (reply .granted) (reply .entitled) (reply .late))
+    go false = omega (arith, refused-length (reply .number))
 
-pub longest-refusal : (r : Refusal) → length (refusalLine r) ≤ 11
-longest-refusal r = omega (arith, length-refusal r, most-digits 1 (numberOf r) (number-small r))
-
--- The late mark of a reply, and the tick and the processor of a call.
-abbrev pub lateOf : Reply → ℕ
-lateOf (Reply.Done granted entitled late) = late
-lateOf (Reply.Refused r) = 0
-
-abbrev pub tickOf : Call → ℕ
-tickOf (Call.Issue p e t) = t
-tickOf (Call.Complete p t) = t
-
-abbrev pub processorOf : Call → ℕ
-processorOf (Call.Issue p e t) = p
-processorOf (Call.Complete p t) = p
-
-reply-most : (k : ℕ) (reply : Reply) → lateOf reply < 10 ^ suc k → length (furtherFields (replyFields reply)) ≤ 12 + suc k
-reply-most k (Reply.Done granted entitled late) h =
-    omega (arith, length-done _ granted entitled late refl, most-digits k late h)
-reply-most k (Reply.Refused r) h =
-    omega (arith, length-refused _ r refl, most-digits 1 (numberOf r) (number-small r))
-
-call-length : (call : Call) (reply : Reply)
-    → length (callLine call reply)
-    ≡ length (decimal (tickOf call)) + 3 + length (decimal (processorOf call)) + length (furtherFields (replyFields reply))
+call-length : (c : Call) (reply : Response)
+    → length (callLine c reply)
+    ≡ length (decimal (callSays c .tick)) + 3 + length (decimal (callSays c .processor)) + length (furtherFields (replyFields reply))
 unfolding callLine
-call-length (Call.Issue p e t) reply = length-parts 105 p t reply
-call-length (Call.Complete p t) reply = length-parts 99 p t reply
+call-length c reply = length-parts (letterOf c) (callSays c .processor) (callSays c .tick) reply
 
-module _ (call : Call) (reply : Reply) (processor : processorOf call < 2 ^ 8) where
-  call-most : (j k : ℕ) → tickOf call < 10 ^ suc j → lateOf reply < 10 ^ suc k → length (callLine call reply) ≤ suc j + (suc k + 18)
+pub any-call : (c : Call) (reply : Response) → length (callLine c reply) ≤ 75
+any-call c reply =
+    let number : length (decimal (reply .number)) ≤ 2 + 20 = omega (arith, few-digits (reply .number)) in
+    omega (
+      arith,
+      call-length c reply,
+      few-digits (callSays c .tick),
+      few-digits (callSays c .processor),
+      reply-most reply 20 number (few-digits (reply .late)),
+    )
+
+pub any-refusal : (n : ℕ) → length (refusalLine n) ≤ 29
+any-refusal n = omega (arith, length-refusal n, few-digits n)
+
+pub longest-refusal : (n : ℕ) → n < 10 ^ 2 → length (refusalLine n) ≤ 11
+longest-refusal n h = omega (arith, length-refusal n, most-digits 1 n h)
+
+module _ (c : Call) (reply : Response) (processor : callSays c .processor < 2 ^ 8) (number : reply .number < 10 ^ 2) where
+  call-most : (j k : ℕ) → callSays c .tick < 10 ^ suc j → reply .late < 10 ^ suc k → length (callLine c reply) ≤ suc j + (suc k + 18)
   call-most j k tick late =
-      let small : processorOf call < 10 ^ 3 = omega arith in
-      omega (arith, call-length call reply, most-digits j (tickOf call) tick, most-digits 2 (processorOf call) small, reply-most k reply late)
+      let small : callSays c .processor < 10 ^ 3 = omega arith in
+      let two : length (decimal (reply .number)) ≤ 2 + suc k = omega (arith, most-digits 1 (reply .number) number) in
+      omega (
+        arith,
+        call-length c reply,
+        most-digits j (callSays c .tick) tick,
+        most-digits 2 (callSays c .processor) small,
+        reply-most reply (suc k) two (most-digits k (reply .late) late),
+      )
 
-  pub longest-call : tickOf call < 2 ^ 64 → lateOf reply < 2 ^ 8 → length (callLine call reply) ≤ 41
+  pub longest-call : callSays c .tick < 2 ^ 64 → reply .late < 2 ^ 8 → length (callLine c reply) ≤ 41
   longest-call tick late =
-      let t : tickOf call < 10 ^ 20 = omega arith in
-      let l : lateOf reply < 10 ^ 3 = omega arith in
+      let t : callSays c .tick < 10 ^ 20 = omega arith in
+      let l : reply .late < 10 ^ 3 = omega arith in
       omega (arith, call-most 19 2 t l)
 
-  pub longest-replayed : tickOf call < 2 ^ 40 → lateOf reply ≤ 1 → length (callLine call reply) ≤ 32
+  pub longest-replayed : callSays c .tick < 2 ^ 40 → reply .late ≤ 1 → length (callLine c reply) ≤ 32
   longest-replayed tick late =
-      let t : tickOf call < 10 ^ 13 = omega arith in
-      let l : lateOf reply < 10 ^ 1 = omega arith in
+      let t : callSays c .tick < 10 ^ 13 = omega arith in
+      let l : reply .late < 10 ^ 1 = omega arith in
       omega (arith, call-most 12 0 t l)

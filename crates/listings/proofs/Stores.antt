@@ -6,9 +6,9 @@ use mathlib.Core.Path.{_≡_, refl, sym, ap, _∙_}
 use mathlib.Core.List.{List, [], _∷_, _++_}
 use lib.ListN.{length, getD, set, drop, length-append}
 use lib.Seq.{sets, length-sets, set-comm, drop-cons, drop-length}
-use Rattle.plans.proofs.Stores.{sets-append}
+use Rattle.encoding.proofs.Stores.{sets-append}
 use Rattle.listings.specs.Digits.{decimal, hexDigit, hex4}
-use Rattle.listings.specs.Stored.{Stored}
+use Rattle.listings.specs.inner.Stored.{Stored}
 
 -- What is stored last stands at the end, so it may be stored first.
 pub last-first : (l : List ℕ) (i : ℕ) (a : List ℕ) (x : ℕ) → sets (set l (i + length a) x) i a ≡ sets l i (a ++ (x ∷ []))
@@ -31,9 +31,6 @@ module _ {a b l m k : List ℕ} {at next end : ℕ} where
         stores = t .stores ∙ rw (s .stores, p) (sym (sets-append l at a b));
       }
 
-pub stored-length : {a l m : List ℕ} {at next : ℕ} → Stored a l at next m → length m ≡ length l
-stored-length {a} {l} {m} {at} s = ap length (s .stores) ∙ length-sets l at a
-
 -- A turn stores the next byte of a word.
 pub word-turn : (l w : List ℕ) (at i : ℕ) → i < length w
     → sets (set l (at + i) (getD w i 0)) (at + (i + 1)) (drop (i + 1) w) ≡ sets l (at + i) (drop i w)
@@ -55,6 +52,3 @@ mask-stored l at mask a b c d ea eb ec ed =
     let three : at + 3 ≡ suc (suc (suc at)) = omega arith in
     let four : at + 4 ≡ suc (suc (suc (suc at))) = omega arith in
     record { place = refl; stores = rw (one, two, three, four, ea, eb, ec, ed) refl }
-
-pub two-stored : (l : List ℕ) (at x y : ℕ) → Stored (x ∷ y ∷ []) l at (at + 2) (set (set l at x) (at + 1) y)
-two-stored l at x y = let s : at + 1 ≡ suc at = omega arith in record { place = refl; stores = rw s refl }

@@ -1,4 +1,4 @@
--- How numbers stand in a listing: document 01, "A log and its listing". Bytes are those of ASCII: 48 is `0`, 97 is `a`.
+-- How numbers stand in a listing, in bytes of ASCII: 48 is `0`, 97 is `a`. Specification, clause 9.9.
 use Prim.Native.Nat.{ℕ, zero, suc, _+_, _/_, _%_}
 use mathlib.Core.Bool.{cond}
 use mathlib.Core.List.{List, [], _∷_, _++_}
@@ -9,11 +9,11 @@ unfoldable pub digits : ℕ → ℕ → List ℕ
 digits zero n = []
 digits (suc k) n = cond (ltb n 10) ((48 + n) ∷ []) (digits k (n / 10) ++ ((48 + n % 10) ∷ []))
 
--- "Numbers other than masks are decimal." No number of a listing has more than 20 digits.
+-- Clause 9.9: a decimal number. None in a listing has more than 20 digits.
 abbrev pub decimal : ℕ → List ℕ
 decimal n = digits 20 n
 
--- "Four hexadecimal digits, lower case."
+-- Clause 9.9: a mask in four hexadecimal digits, `a` to `f` in lower case.
 abbrev pub hexDigit : ℕ → ℕ
 hexDigit d = cond (ltb d 10) (48 + d) (87 + d)
 

@@ -1,21 +1,19 @@
--- The lines of a listing: document 01, "A log and its listing". "Fields have one space between them, numbers other than
--- masks are decimal, and each line ends in a line feed." Bytes are those of ASCII: 32 is a space, 10 a line feed.
+-- The lines of a listing, in bytes of ASCII: 32 is a space, 10 a line feed. Specification, section 9.
 use Prim.Native.Nat.{ℕ}
+use mathlib.Core.Bool.{cond}
 use mathlib.Core.List.{List, [], _∷_, _++_}
+use lib.Dec.{eqb}
 use lib.ListN.{length}
-use Rattle.refusals.specs.declared.Refusal.{Refusal}
-use Rattle.refusals.specs.Number.{numberOf}
+use Rattle.refusals.specs.Due.{Said, said}
+use Rattle.encoding.specs.Buffers.{roomFault, bufferAfter}
 use Rattle.plans.specs.declared.Plan.{Plan}
-use Rattle.plans.specs.declared.Verdict.{Verdict}
-use Rattle.plans.specs.Acceptance.{roomFor}
 use Rattle.plans.specs.Figures.{readFigure, writeFigure}
-use Rattle.plans.specs.Writing.{put}
-use Rattle.arbiter.specs.declared.Reply.{Reply}
-use Rattle.logs.specs.declared.Call.{Call}
-use Rattle.listings.specs.declared.LineAnswer.{LineAnswer}
+use Rattle.calls.specs.declared.Call.{Call}
+use Rattle.calls.specs.Calls.{callSays}
+use Rattle.calls.specs.Replies.{Response}
 use Rattle.listings.specs.Digits.{decimal, hex4}
 
--- `processors`, `resources`, `entries`, `read`, `write`, `refused`
+-- Clauses 9.6 to 9.8: the words `processors`, `resources`, `entries`, `read`, `write`, `refused`.
 abbrev pub processorsWord : List ℕ
 processorsWord = 112 ∷ 114 ∷ 111 ∷ 99 ∷ 101 ∷ 115 ∷ 115 ∷ 111 ∷ 114 ∷ 115 ∷ []
 
@@ -34,7 +32,7 @@ writeWord = 119 ∷ 114 ∷ 105 ∷ 116 ∷ 101 ∷ []
 abbrev pub refusedWord : List ℕ
 refusedWord = 114 ∷ 101 ∷ 102 ∷ 117 ∷ 115 ∷ 101 ∷ 100 ∷ []
 
--- The bytes of a line's fields: a space before each further one, and a line feed after the last.
+-- Clause 9.9: a space before each further field, and a line feed after the last.
 unfoldable pub furtherFields : List (List ℕ) → List ℕ
 furtherFields [] = 10 ∷ []
 furtherFields (field ∷ later) = 32 ∷ field ++ furtherFields later
@@ -43,7 +41,7 @@ furtherFields (field ∷ later) = 32 ∷ field ++ furtherFields later
 abbrev pub line : List ℕ → List (List ℕ) → List ℕ
 line field later = field ++ furtherFields later
 
--- "The first line gives the counts and the two figures."
+-- Clause 9.6: the first line has the three counts and the two figures, each behind its word.
 unfoldable pub firstLine : Plan → List ℕ
 firstLine p =
     line processorsWord
@@ -58,39 +56,34 @@ firstLine p =
     ∷ decimal (writeFigure p)
     ∷ [])
 
--- "Refusals 1 to 9 are a line of their own, such as `refused 9`."
-unfoldable pub refusalLine : Refusal → List ℕ
-refusalLine r = line refusedWord (decimal (numberOf r) ∷ [])
+-- Clause 9.8: the line of a fault of the bytes.
+unfoldable pub refusalLine : ℕ → List ℕ
+refusalLine number = line refusedWord (decimal number ∷ [])
 
--- What stands after the processor: "granted mask and entitled mask, late", or "`refused` and its number".
-abbrev pub replyFields : Reply → List (List ℕ)
-replyFields (Reply.Done granted entitled late) = hex4 granted ∷ hex4 entitled ∷ decimal late ∷ []
-replyFields (Reply.Refused r) = refusedWord ∷ decimal (numberOf r) ∷ []
+-- Clause 9.7: what stands behind the processor: both masks and late, or `refused` and the number.
+abbrev pub replyFields : Response → List (List ℕ)
+replyFields reply =
+    cond (eqb (reply .number) 0) (hex4 (reply .granted) ∷ hex4 (reply .entitled) ∷ decimal (reply .late) ∷ [])
+    (refusedWord ∷ decimal (reply .number) ∷ [])
 
--- "A call's line: tick, i or c, processor", and the reply.
-unfoldable pub callLine : Call → Reply → List ℕ
-callLine (Call.Issue p e t) reply = line (decimal t) ((105 ∷ []) ∷ decimal p ∷ replyFields reply)
-callLine (Call.Complete p t) reply = line (decimal t) ((99 ∷ []) ∷ decimal p ∷ replyFields reply)
+-- Clause 9.7: the letter of a call, `i` or `c`.
+abbrev pub letterOf : Call → ℕ
+letterOf (Call.Issue p e t) = 105
+letterOf (Call.Complete p t) = 99
 
--- The bytes of a line go into a lent buffer from a position. 16, "room": fewer bytes from the position than the line needs,
--- or the position past the end.
-abbrev pub lineFault : List ℕ → ℕ → ℕ → Verdict
-lineFault bytes size at = roomFor (length bytes) size at
+-- Clause 9.7: a call's line: its tick, its letter, its processor, and the reply's fields.
+unfoldable pub callLine : Call → Response → List ℕ
+callLine c reply =
+    line (decimal (callSays c .tick)) ((letterOf c ∷ []) ∷ decimal (callSays c .processor) ∷ replyFields reply)
 
--- The size of a line that has room; "a refusal gives its number only".
-abbrev pub answerBy : Verdict → List ℕ → LineAnswer
-answerBy Verdict.Accepted bytes = LineAnswer.Bytes (length bytes)
-answerBy (Verdict.Refused r) bytes = LineAnswer.Refused r
-
--- A refusal writes nothing.
-abbrev pub bufferBy : Verdict → List ℕ → List ℕ → ℕ → List ℕ
-bufferBy Verdict.Accepted bytes buffer at = put buffer at bytes
-bufferBy (Verdict.Refused r) bytes buffer at = buffer
+-- Clauses 9.9 and 2.12: a line goes into a lent buffer from a position. 16 where there is no room for it.
+abbrev pub lineFault : List ℕ → ℕ → ℕ → ℕ
+lineFault bytes size at = roomFault (length bytes) size at
 
 -- How many bytes were written into a buffer of so many bytes, or the refusal.
-unfoldable pub lineOutcome : List ℕ → ℕ → ℕ → LineAnswer
-lineOutcome bytes size at = answerBy (lineFault bytes size at) bytes
+abbrev pub lineSays : List ℕ → ℕ → ℕ → Said
+lineSays bytes size at = said (lineFault bytes size at) (length bytes)
 
--- The buffer after the line: other bytes stay, and a refusal writes nothing.
-unfoldable pub lineBuffer : List ℕ → List ℕ → ℕ → List ℕ
-lineBuffer bytes buffer at = bufferBy (lineFault bytes (length buffer) at) bytes buffer at
+-- Clause 2.12: the buffer after the line. Other bytes stay, and a refusal writes nothing.
+abbrev pub lineBuffer : List ℕ → List ℕ → ℕ → List ℕ
+lineBuffer bytes buffer at = bufferAfter (lineFault bytes (length buffer) at) bytes buffer at

@@ -1,43 +1,41 @@
 // `lockreplay`: a log on standard input, its listing on standard output.
 // A thin loop over `replay`: no contract can say what is read or written, so the work is done on slices there.
-// `replay/specs/Buffers.antt` has the same turns over the same buffers as a definition, which is proved to be the listing.
+// `replay/specs/Buffers.antt` has the same turns over the same buffers as a definition, which is proved to be the
+// listing.
 use arbiter::Board;
 use arbiter::State;
+use encoding::Outcome;
 use libc::STDIN_FILENO;
 use libc::STDOUT_FILENO;
-use listings::LineAnswer;
+use logs::COUNT_BYTES;
 use logs::CountAnswer;
-use plans::Outcome;
+use logs::RECORD_BYTES;
+use replay::BLOCK_ROOM;
+use replay::LINES_ROOM;
+use replay::PLAN_ROOM;
 use replay::begin;
 use replay::count;
 use replay::finish;
+use replay::line_size;
 use replay::run;
-use replay::size_of;
 ghost use mathlib.Core.Path.{_≡_};
 ghost use Prim.Native.Nat.{_-_, _≤_, min};
 ghost use lib.ListN.{length, drop};
 ghost use lib.Seq.{paste};
-ghost use Rattle.replay.specs.Carried.{sizeOf};
-
-// "A buffer of 707 bytes, zero at first": the longest plan.
-const PLAN_BYTES: usize = 707;
-
-// The bytes that the call count takes, and a record.
-const COUNT_BYTES: usize = 2;
-
-const RECORD_BYTES: usize = 8;
+ghost use Rattle.encoding.specs.Buffers.{outcomeSays};
 
 // Writes the line at the start of `out`, if there is one.
-fn show(output: i32, line: LineAnswer, out: &[u8])
-    requires { ⌜ sizeOf line ≤ length (now out) ⌝ }
+fn show(output: i32, line: Outcome, out: &[u8])
+    requires { ⌜ outcomeSays line .value ≤ length (now out) ⌝ }
 {
-    let size = size_of(line);
+    let size = line_size(line);
     io::write_all(output, &out[..size]);
 }
 
 // Copies bytes to the front of the block, as many as it holds, and gives how many.
 fn copy_in(bytes: &[u8], block: &mut [u8]) -> usize
-    ensures { λ r. ⌜ (r ≡ min (length (now (bytes .entry))) (length (now (block .entry)))) × (now (block .exit) ≡ paste (now (block .entry)) 0 (now (bytes .entry)) r) ⌝ }
+    ensures size { λ r. ⌜ r ≡ min (length (now (bytes .entry))) (length (now (block .entry))) ⌝ }
+    ensures bytes { λ r. ⌜ now (block .exit) ≡ paste (now (block .entry)) 0 (now (bytes .entry)) r ⌝ }
 {
     let most = if bytes.len() < block.len() {
         bytes.len()
@@ -55,7 +53,8 @@ fn copy_in(bytes: &[u8], block: &mut [u8]) -> usize
 // Moves the bytes between two positions of the block to its front, and gives how many they are.
 fn move_to_front(block: &mut [u8], from: usize, have: usize) -> usize
     requires { ⌜ (from ≤ have) × (have ≤ length (now block)) ⌝ }
-    ensures { λ r. ⌜ (r ≡ have - from) × (now (block .exit) ≡ paste (now (block .entry)) 0 (drop from (now (block .entry))) r) ⌝ }
+    ensures size { λ r. ⌜ r ≡ have - from ⌝ }
+    ensures bytes { λ r. ⌜ now (block .exit) ≡ paste (now (block .entry)) 0 (drop from (now (block .entry))) r ⌝ }
 {
     let rest = have - from;
     let mut i = 0;
@@ -146,11 +145,11 @@ fn replay_log(input: i32, output: i32, plan: &mut [u8], block: &mut [u8], out: &
     }
 }
 
-// Replays the log of one file into another.
+// Replays the log of one file into another. The plan's buffer holds the longest plan, and begins as zeros.
 fn replay(input: i32, output: i32) {
-    let mut plan = [0u8; PLAN_BYTES];
-    let mut block = io::buffer();
-    let mut out = io::large_buffer();
+    let mut plan = [0u8; PLAN_ROOM];
+    let mut block = [0u8; BLOCK_ROOM];
+    let mut out = [0u8; LINES_ROOM];
     replay_log(input, output, &mut plan, &mut block, &mut out);
 }
 

@@ -1,59 +1,63 @@
--- Document 01, "Plan and log bytes", calls, and "Refused", 1, 2 and 9.
+-- What stands in a log behind its plan, and when it is refused: 1, 2 and 9. Specification, section 9.
 use Prim.Native.Nat.{ℕ}
-use mathlib.Core.Bool.{Bool, cond, _&&_, _||_}
+use mathlib.Core.Bool.{cond, _&&_, _||_}
 use mathlib.Core.List.{List}
-use lib.Dec.{eqb, leb}
+use lib.Dec.{eqb}
 use lib.ListN.{length, getD, take}
 use lib.Seq.{slice}
-use Rattle.refusals.specs.declared.Refusal.{Refusal}
-use Rattle.plans.specs.declared.Verdict.{Verdict}
-use Rattle.plans.specs.Acceptance.{firstOf, due}
-use Rattle.plans.specs.Reading.{number, enough}
-use Rattle.logs.specs.declared.Call.{Call}
+use Rattle.refusals.specs.Number.{numberOf}
+use Rattle.refusals.specs.Due.{Said, due, firstOf, said}
+use Rattle.encoding.specs.Numbers.{number}
+use Rattle.encoding.specs.Buffers.{shortFault}
+use Rattle.calls.specs.Calls.{Fields, callSays}
 use Rattle.logs.specs.declared.CountAnswer.{CountAnswer}
 use Rattle.logs.specs.declared.RecordAnswer.{RecordAnswer}
 
--- "A refusal gives its number only."
-abbrev pub countBy : Verdict → ℕ → CountAnswer
-countBy Verdict.Accepted n = CountAnswer.Calls n
-countBy (Verdict.Refused r) n = CountAnswer.Refused r
+-- Clauses 9.1 and 9.2: the bytes of the number of calls, and those of a call.
+abbrev pub countSize : ℕ
+countSize = 2
 
--- "Calls (in a log only): count, 2 bytes, 0 to 65,535." The bytes s are those after the plan.
-unfoldable pub readCount : List ℕ → CountAnswer
-readCount s = countBy (enough 2 s) (number (take 2 s))
+abbrev pub recordSize : ℕ
+recordSize = 8
 
--- "Each call is 8 bytes: verb (0 issue, 1 complete), processor, entry (0 for complete), tick (5 bytes)."
-abbrev pub verbOf : List ℕ → ℕ
-verbOf s = getD s 0 0
+-- How many calls follow, in numbers.
+abbrev pub countSays : CountAnswer → Said
+countSays (CountAnswer.Calls n) = record { number = 0; value = n }
+countSays (CountAnswer.Refused r) = record { number = numberOf r; value = 0 }
 
-abbrev pub entryOf : List ℕ → ℕ
-entryOf s = getD s 2 0
+-- Clauses 9.1 and 9.4: the number of calls, at the start of the bytes behind the plan; 1 where they are too few.
+abbrev pub readCount : List ℕ → Said
+readCount s = said (shortFault countSize s) (number (take countSize s))
 
-abbrev pub tickOf : List ℕ → ℕ
-tickOf s = number (slice 3 8 s)
+-- Clause 9.2: the fields of the record at the start of the bytes s: its tick is in the last five.
+unfoldable pub fieldsIn : List ℕ → Fields
+fieldsIn s =
+    record { verb = getD s 0 0; processor = getD s 1 0; entry = getD s 2 0; tick = number (slice 3 recordSize s) }
 
--- 9, "verb: above 1, or complete with a nonzero entry".
-abbrev pub verbFault : List ℕ → Verdict
-verbFault s = due (eqb (verbOf s) 0 || (eqb (verbOf s) 1 && eqb (entryOf s) 0)) Refusal.Verb
+-- Clause 9.3: 9 for a verb that is neither 0 nor 1, or a completion with an entry.
+abbrev pub verbFault : Fields → ℕ
+verbFault f = due (eqb (f .verb) 0 || (eqb (f .verb) 1 && eqb (f .entry) 0)) 9
 
--- "Within a call record 1, 9."
-unfoldable pub recordFault : List ℕ → Verdict
-recordFault s = firstOf (enough 8 s) (verbFault s)
+-- Clauses 9.4 and 8.2: the record's bytes are due (1) before its verb is looked at.
+unfoldable pub recordFault : List ℕ → ℕ
+recordFault s = firstOf (shortFault recordSize s) (verbFault (fieldsIn s))
 
--- The call of a record that is not refused: "verb (0 issue, 1 complete)".
-unfoldable pub callOf : List ℕ → Call
-callOf s =
-    cond (eqb (verbOf s) 0) (Call.Issue (getD s 1 0) (entryOf s) (tickOf s)) (Call.Complete (getD s 1 0) (tickOf s))
+-- A record in numbers: what is due, and the call's fields, which are all 0 beside a refusal.
+pub record Recorded : Type 0 where
+  pub number : ℕ
+  pub fields : Fields
 
--- "A refusal gives its number only."
-abbrev pub recordBy : Verdict → Call → RecordAnswer
-recordBy Verdict.Accepted c = RecordAnswer.Is c
-recordBy (Verdict.Refused r) c = RecordAnswer.Refused r
+abbrev pub noFields : Fields
+noFields = record { verb = 0; processor = 0; entry = 0; tick = 0 }
+
+abbrev pub recordSays : RecordAnswer → Recorded
+recordSays (RecordAnswer.Is c) = record { number = 0; fields = callSays c }
+recordSays (RecordAnswer.Refused r) = record { number = numberOf r; fields = noFields }
 
 -- A call's record at the start of the bytes s.
-unfoldable pub readRecord : List ℕ → RecordAnswer
-readRecord s = recordBy (recordFault s) (callOf s)
+unfoldable pub readRecord : List ℕ → Recorded
+readRecord s = record { number = recordFault s; fields = cond (eqb (recordFault s) 0) (fieldsIn s) noFields }
 
--- 2, "tail: bytes follow the last call of a log".
-unfoldable pub tailFault : List ℕ → Verdict
-tailFault s = due (eqb (length s) 0) Refusal.Tail
+-- Clause 9.5: 2 where bytes stand behind the last call.
+abbrev pub tailFault : List ℕ → ℕ
+tailFault s = due (eqb (length s) 0) 2

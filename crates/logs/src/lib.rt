@@ -1,22 +1,19 @@
 // The records of a log after its plan: the call count, each call's 8 bytes, and the end.
 // `lockreplay` reads a log record by record, so each function looks only at the bytes from its record on.
-use plans::Verdict;
+use calls::Call;
+use encoding::read_number;
 use refusals::Refusal;
+use refusals::Verdict;
 ghost use mathlib.Core.Path.{_≡_};
-ghost use Prim.Native.Nat.{_≤_, _<_};
-ghost use lib.ListN.{length};
-ghost use Rattle.logs.specs.Records.{readCount, tickOf, readRecord, tailFault};
+ghost use Rattle.refusals.specs.Number.{verdictNumber};
+ghost use Rattle.logs.specs.Records.{countSays, readCount, recordSays, readRecord, tailFault};
 
-// The bytes that the call count takes, and a call.
-const COUNT_BYTES: usize = 2;
+// The bytes that the call count takes, and a call's record. Its tick stands from the fourth byte on.
+pub const COUNT_BYTES: usize = 2;
 
-const CALL_BYTES: usize = 8;
+pub const RECORD_BYTES: usize = 8;
 
-// A call as it stands in a log.
-pub enum Call {
-    Issue { processor: u8, entry: u8, tick: u64 },
-    Complete { processor: u8, tick: u64 },
-}
+const TICK_PLACE: usize = 3;
 
 // How many calls follow, or the refusal.
 pub enum CountAnswer {
@@ -30,44 +27,28 @@ pub enum RecordAnswer {
     Refused(Refusal),
 }
 
-fn wide(byte: u8) -> u64
-    ensures { λ r. ⌜ (r ≡ byte) × (r < 256) ⌝ }
-{
-    byte as u64
-}
-
-// "Tick (5 bytes)", the low byte first.
-fn tick_of(bytes: &[u8]) -> u64
-    requires { ⌜ 8 ≤ length (now bytes) ⌝ }
-    ensures { λ r. ⌜ r ≡ tickOf (now (bytes .entry)) ⌝ }
-{
-    let low = wide(bytes[3]) + 256 * wide(bytes[4]);
-    let high = wide(bytes[5]) + 256 * wide(bytes[6]) + 65536 * wide(bytes[7]);
-    low + 65536 * high
-}
-
-// "Calls (in a log only): count, 2 bytes, 0 to 65,535." The bytes are those after the plan.
+// Clause 9.1: how many calls the log has. The bytes are those behind the plan.
 pub fn read_count(bytes: &[u8]) -> CountAnswer
-    ensures { λ r. ⌜ r ≡ readCount (now (bytes .entry)) ⌝ }
+    ensures { λ r. ⌜ countSays r ≡ readCount (now (bytes .entry)) ⌝ }
 {
     if bytes.len() < COUNT_BYTES {
         return CountAnswer::Refused(Refusal::Short);
     }
-    let count = wide(bytes[0]) + 256 * wide(bytes[1]);
+    let count = read_number(&bytes[..COUNT_BYTES]);
     CountAnswer::Calls(count as u16)
 }
 
-// The call at the start of the bytes: "within a call record 1, 9".
+// Clause 9.4: the call at the start of the bytes. Refuses by 1, then by 9.
 pub fn read_record(bytes: &[u8]) -> RecordAnswer
-    ensures { λ r. ⌜ r ≡ readRecord (now (bytes .entry)) ⌝ }
+    ensures { λ r. ⌜ recordSays r ≡ readRecord (now (bytes .entry)) ⌝ }
 {
-    if bytes.len() < CALL_BYTES {
+    if bytes.len() < RECORD_BYTES {
         return RecordAnswer::Refused(Refusal::Short);
     }
     let verb = bytes[0];
     let processor = bytes[1];
     let entry = bytes[2];
-    let tick = tick_of(bytes);
+    let tick = read_number(&bytes[TICK_PLACE..RECORD_BYTES]);
     if verb == 0 {
         return RecordAnswer::Is(Call::Issue {
             processor: processor,
@@ -84,9 +65,9 @@ pub fn read_record(bytes: &[u8]) -> RecordAnswer
     RecordAnswer::Refused(Refusal::Verb)
 }
 
-// The bytes after the last call: there are none, or the log is refused by 2.
+// Clause 9.5: the bytes behind the last call: there are none, or the log is refused by 2.
 pub fn check_tail(bytes: &[u8]) -> Verdict
-    ensures { λ r. ⌜ r ≡ tailFault (now (bytes .entry)) ⌝ }
+    ensures { λ r. ⌜ verdictNumber r ≡ tailFault (now (bytes .entry)) ⌝ }
 {
     if bytes.len() == 0 {
         Verdict::Accepted

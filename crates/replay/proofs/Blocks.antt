@@ -9,12 +9,13 @@ use lib.ListN.{length, take, drop, length-append, length-drop, take-append-drop}
 use lib.Seq.{drop-drop, take-all}
 use Rattle.arbiter.specs.declared.Board.{Board}
 use Rattle.arbiter.specs.declared.State.{State}
-use Rattle.plans.specs.Writing.{put}
+use Rattle.encoding.specs.Buffers.{overwritten}
 use Rattle.replay.specs.declared.Carried.{Carried}
 use Rattle.replay.specs.declared.RanBlock.{RanBlock}
-use Rattle.replay.specs.Blocks.{Ran, ran, lineRoom}
-use Rattle.replay.specs.Carried.{carried, ranBlock}
-use Rattle.replay.proofs.Turns.{put-put, front, one-then-more, one-ends, one-line-room}
+use Rattle.replay.specs.Blocks.{Ran, ran, lineRoom, ranBlock}
+use Rattle.replay.specs.inner.Parts.{carried}
+use Rattle.replay.proofs.Records.{one-line-room}
+use Rattle.replay.proofs.Turns.{over-over, front, one-then-more, one-ends}
 
 -- Before a record: what is left from the state st and the bytes from a position on still gives the whole block.
 pub record Leaves (whole : Ran) (b : Board) (due : ℕ) (s out₀ : List ℕ) (st : State) (calls from at : ℕ) (out : List ℕ) : Type 0 where
@@ -22,7 +23,7 @@ pub record Leaves (whole : Ran) (b : Board) (due : ℕ) (s out₀ : List ℕ) (s
   pub place : from ≡ 8 * calls
   pub room : at ≤ lineRoom * calls
   pub long : length out ≡ length out₀
-  pub stands : put out at (ran b st (due - calls) (drop from s) .lines) ≡ put out₀ 0 (whole .lines)
+  pub stands : overwritten out at (ran b st (due - calls) (drop from s) .lines) ≡ overwritten out₀ 0 (whole .lines)
   pub size : at + length (ran b st (due - calls) (drop from s) .lines) ≡ length (whole .lines)
   pub after : ran b st (due - calls) (drop from s) .state ≡ whole .state
   pub counts : calls + ran b st (due - calls) (drop from s) .calls ≡ whole .calls
@@ -51,7 +52,7 @@ module _ (whole : Ran) (b : Board) (due : ℕ) (s out₀ : List ℕ) (st : State
     (h : Leaves whole b due s out₀ st calls from at out) where
   -- After the last record.
   pub last-turn : due ≤ calls
-      → (_≡_ {A = RanBlock} (record { state = st; calls = calls; written = at; ended = false }) (ranBlock whole)) × (out ≡ put out₀ 0 (whole .lines))
+      → (_≡_ {A = RanBlock} (record { state = st; calls = calls; written = at; ended = false }) (ranBlock whole)) × (out ≡ overwritten out₀ 0 (whole .lines))
   unfolding ran
   last-turn e =
       let none : due - calls ≡ 0 = omega arith in
@@ -59,7 +60,7 @@ module _ (whole : Ran) (b : Board) (due : ℕ) (s out₀ : List ℕ) (st : State
       let counts : calls + 0 ≡ whole .calls = rw none at (h .counts) in
       let after : st ≡ whole .state = rw none at (h .after) in
       let ends : false ≡ whole .ended = rw none at (h .ends) in
-      let stands : put out at [] ≡ put out₀ 0 (whole .lines) = rw none at (h .stands) in
+      let stands : overwritten out at [] ≡ overwritten out₀ 0 (whole .lines) = rw none at (h .stands) in
       let w : at ≡ length (whole .lines) = omega arith in
       let n : calls ≡ whole .calls = omega arith in (
         λ i. record { state = after i; calls = n i; written = w i; ended = ends i },
@@ -68,7 +69,7 @@ module _ (whole : Ran) (b : Board) (due : ℕ) (s out₀ : List ℕ) (st : State
 
   module _ (more : calls < due) (fits : lineRoom * due ≤ length out₀) (r : Carried) (out′ : List ℕ)
       (answered : r ≡ carried (ran b st 1 (take (length s - from) (drop from s))))
-      (written : out′ ≡ put out at (ran b st 1 (take (length s - from) (drop from s)) .lines)) where
+      (written : out′ ≡ overwritten out at (ran b st 1 (take (length s - from) (drop from s)) .lines)) where
     -- The bytes from the position on are lent whole.
     lent : take (length s - from) (drop from s) ≡ drop from s
     lent = take-all (length s - from) (drop from s) (rw length-drop (le-refl _))
@@ -76,7 +77,7 @@ module _ (whole : Ran) (b : Board) (due : ℕ) (s out₀ : List ℕ) (st : State
     e : r ≡ carried (ran b st 1 (drop from s))
     e = rw lent at answered
 
-    eo : out′ ≡ put out at (ran b st 1 (drop from s) .lines)
+    eo : out′ ≡ overwritten out at (ran b st 1 (drop from s) .lines)
     eo = rw lent at written
 
     one-written : r .written ≡ length (ran b st 1 (drop from s) .lines)
@@ -87,7 +88,7 @@ module _ (whole : Ran) (b : Board) (due : ℕ) (s out₀ : List ℕ) (st : State
 
     -- After a record that ended the replay.
     pub ended-turn : r .ended ≡ true
-        → (_≡_ {A = RanBlock} (record { state = r .state; calls = calls; written = at + r .written; ended = true }) (ranBlock whole)) × (out′ ≡ put out₀ 0 (whole .lines))
+        → (_≡_ {A = RanBlock} (record { state = r .state; calls = calls; written = at + r .written; ended = true }) (ranBlock whole)) × (out′ ≡ overwritten out₀ 0 (whole .lines))
     ended-turn t =
         let split = one-ends b st (due - (calls + 1)) (drop from s) (sym (ap (λ (x : Carried). x .ended) e) ∙ t) in
         let counts : calls + 0 ≡ whole .calls = rw (left-over, split) at (h .counts) in
@@ -113,7 +114,7 @@ module _ (whole : Ran) (b : Board) (due : ℕ) (s out₀ : List ℕ) (st : State
           place = omega (arith, h .place);
           room = omega (arith, h .room, one-written);
           long = kept ∙ h .long;
-          stands = rw (eo, one-written) (put-put out at (one .lines) (later .lines) fit ∙ ap (put out at) (sym lines) ∙ h .stands);
+          stands = rw (eo, one-written) (over-over out at (one .lines) (later .lines) fit ∙ ap (overwritten out at) (sym lines) ∙ h .stands);
           size = omega (arith, one-written, h .size, ap length lines ∙ length-append (one .lines) (later .lines));
           after = sym (ap (λ (x : Ran). x .state) split) ∙ h .after;
           counts = omega (arith, ap (λ (x : Ran). x .calls) split, h .counts);

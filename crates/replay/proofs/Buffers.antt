@@ -10,7 +10,7 @@ use lib.Dec.{eqb}
 use lib.ListN.{length, take, drop, length-append, length-take, length-drop, take-append-drop, drop-of-length-le}
 use Rattle.arbiter.specs.declared.Board.{Board}
 use Rattle.arbiter.specs.declared.State.{State}
-use Rattle.logs.specs.Records.{tailFault}
+use Rattle.logs.specs.Records.{recordSize}
 use Rattle.replay.specs.Listing.{callsListing}
 use Rattle.replay.specs.Blocks.{Ran, ran, budget, lineRoom, goingOn}
 use Rattle.replay.specs.Ends.{endFault, endLine}
@@ -44,8 +44,8 @@ not-full-ends first t h =
     drop-of-length-le t all
 
 -- A block without a record that is due has the rest of the listing: the line that ends it, if any.
-last-block : (b : Board) (st : State) (n : ℕ) (s t : List ℕ) → wholeRecords n s ≡ 0 → (length s < 8 → t ≡ []) → callsListing b st n (s ++ t) ≡ endLine n s
-unfolding callsListing endFault tailFault
+last-block : (b : Board) (st : State) (n : ℕ) (s t : List ℕ) → wholeRecords n s ≡ 0 → (length s < recordSize → t ≡ []) → callsListing b st n (s ++ t) ≡ endLine n s
+unfolding callsListing endFault
 last-block b st zero [] t none ends = rw (ends (omega arith))
 last-block b st zero (x ∷ s) t none ends =
     rw (ne-eqb (length (x ∷ (s ++ t))) 0 (λ e. omega arith), ne-eqb (length (x ∷ s)) 0 (λ e. omega arith))
@@ -61,7 +61,7 @@ same-rest r f g h = go (r .ended) h
     go false same = ap (λ l. r .lines ++ l) (same refl)
 
 -- The calls, block by block, have the listing of all calls.
-pub in-blocks : (turns : ℕ) (b : Board) (st : State) (n : ℕ) (s t : List ℕ) → n < turns → length s ≤ blockRoom → (length s < 8 → t ≡ [])
+pub in-blocks : (turns : ℕ) (b : Board) (st : State) (n : ℕ) (s t : List ℕ) → n < turns → length s ≤ blockRoom → (length s < recordSize → t ≡ [])
     → inBlocks turns b st n s t ≡ callsListing b st n (s ++ t)
 unfolding inBlocks
 in-blocks zero b st n s t enough holds ends = absurd (omega arith)
@@ -85,7 +85,7 @@ in-blocks (suc turns) b st n s t enough holds ends =
     rest st′ = callsListing b st′ (n - k) (drop (8 * k) s ++ t)
 
     go : (none : Bool) → eqb k 0 ≡ none → (st′ : State)
-        → ((m : ℕ) (s′ t′ : List ℕ) → m < turns → length s′ ≤ blockRoom → (length s′ < 8 → t′ ≡ []) → inBlocks turns b st′ m s′ t′ ≡ callsListing b st′ m (s′ ++ t′))
+        → ((m : ℕ) (s′ t′ : List ℕ) → m < turns → length s′ ≤ blockRoom → (length s′ < recordSize → t′ ≡ []) → inBlocks turns b st′ m s′ t′ ≡ callsListing b st′ m (s′ ++ t′))
         → cond none (endLine n s) (next k st′) ≡ rest st′
     go true e st′ later =
         let zero-due : k ≡ 0 = eqb-true k 0 e in
@@ -100,7 +100,7 @@ in-blocks (suc turns) b st n s t enough holds ends =
         ∙ ap (callsListing b st′ (n - k)) (nothing-lost first t)
 
 -- So the program's blocks are pieces, and it does not matter how the input after the first block is cut.
-pub blocks-are-pieces : (b : Board) (st : State) (n : ℕ) (s : List ℕ) (later : List (List ℕ)) → length s ≤ blockRoom → (length s < 8 → together later ≡ [])
+pub blocks-are-pieces : (b : Board) (st : State) (n : ℕ) (s : List ℕ) (later : List (List ℕ)) → length s ≤ blockRoom → (length s < recordSize → together later ≡ [])
     → inBlocks (suc n) b st n s (together later) ≡ replayed b st n s later
 blocks-are-pieces b st n s later holds ends =
     in-blocks (suc n) b st n s (together later) (omega arith) holds ends ∙ sym (pieces-of-any-size b st n s later)

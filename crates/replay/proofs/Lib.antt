@@ -1,11 +1,10 @@
-pub mod Pieces
-pub mod Rooms
+pub mod Records
 pub mod Turns
 pub mod Blocks
-pub mod Answers
+pub mod Pieces
 pub mod Whole
-pub mod Ranges
 pub mod PlanBuffer
 pub mod Buffers
 pub mod Program
+pub mod Ranges
 pub mod Shown

@@ -1,15 +1,16 @@
 -- A log in pieces: what a block of its bytes adds to the listing, and where the next one goes on.
-use Prim.Native.Nat.{ℕ, zero, suc, _+_, _*_, _/_, min}
+use Prim.Native.Nat.{ℕ, zero, suc, _/_, min}
 use mathlib.Core.Bool.{Bool, true, false, cond}
 use mathlib.Core.List.{List, [], _++_}
+use lib.Dec.{eqb}
 use lib.ListN.{length, drop}
 use Rattle.arbiter.specs.declared.Board.{Board}
 use Rattle.arbiter.specs.declared.State.{State}
-use Rattle.logs.specs.declared.Call.{Call}
-use Rattle.logs.specs.declared.RecordAnswer.{RecordAnswer}
-use Rattle.logs.specs.Records.{readRecord}
+use Rattle.arbiter.specs.Calls.{answered}
+use Rattle.logs.specs.Records.{recordSize, recordFault}
 use Rattle.listings.specs.Lines.{callLine, refusalLine}
-use Rattle.replay.specs.Listing.{answer}
+use Rattle.replay.specs.declared.RanBlock.{RanBlock}
+use Rattle.replay.specs.Listing.{callIn}
 
 -- The lines of some records, the state after them, how many calls were carried out, and whether a refusal ended it.
 pub record Ran : Type 0 where
@@ -17,10 +18,6 @@ pub record Ran : Type 0 where
   pub state : State
   pub calls : ℕ
   pub ended : Bool
-
-abbrev pub ranBy : RecordAnswer → State → (Call → Ran) → Ran
-ranBy (RecordAnswer.Is c) st more = more c
-ranBy (RecordAnswer.Refused r) st more = record { lines = refusalLine r; state = st; calls = 0; ended = true }
 
 -- A call's line in front of what the later records give.
 abbrev pub oneMore : List ℕ → Ran → Ran
@@ -31,8 +28,10 @@ oneMore line later =
 unfoldable pub ran : Board → State → ℕ → List ℕ → Ran
 ran b st zero s = record { lines = []; state = st; calls = 0; ended = false }
 ran b st (suc k) s =
-    ranBy (readRecord s) st
-    (λ c. oneMore (callLine c (answer b st c .reply)) (ran b (answer b st c .state) k (drop 8 s)))
+    cond (eqb (recordFault s) 0)
+    (oneMore (callLine (callIn s) (answered b st (callIn s) .reply))
+    (ran b (answered b st (callIn s) .state) k (drop recordSize s)))
+    (record { lines = refusalLine (recordFault s); state = st; calls = 0; ended = true })
 
 -- The longest line of a call or a refusal, rounded up.
 abbrev pub lineRoom : ℕ
@@ -40,8 +39,13 @@ lineRoom = 80
 
 -- How many records a block carries out: those that are left, are whole in the bytes, and have room for their lines.
 abbrev pub budget : ℕ → List ℕ → ℕ → ℕ
-budget left s room = min left (min (length s / 8) (room / lineRoom))
+budget left s room = min left (min (length s / recordSize) (room / lineRoom))
 
 -- What follows some records: nothing after a refusal, and else what the state after them makes of the rest.
 abbrev pub goingOn : Ran → (State → List ℕ) → List ℕ
 goingOn r later = cond (r .ended) (r .lines) (r .lines ++ later (r .state))
+
+-- What a block answers: the state after its records, how many calls were carried out, how many bytes their lines take,
+-- and whether a refusal ended it.
+abbrev pub ranBlock : Ran → RanBlock
+ranBlock r = record { state = r .state; calls = r .calls; written = length (r .lines); ended = r .ended }

@@ -1,57 +1,24 @@
 -- The lines before and after the calls: the opening of a log, its call count, and its end.
 use Prim.Native.Nat.{ℕ}
 use mathlib.Core.Bool.{cond}
-use mathlib.Core.List.{List, []}
+use mathlib.Core.List.{List}
 use lib.Dec.{eqb}
-use Rattle.plans.specs.declared.Plan.{Plan}
-use Rattle.plans.specs.declared.Verdict.{Verdict}
-use Rattle.plans.specs.declared.Outcome.{Outcome}
-use Rattle.plans.specs.Reading.{readPlan}
-use Rattle.arbiter.specs.Calls.{freshOf}
-use Rattle.logs.specs.declared.CountAnswer.{CountAnswer}
-use Rattle.logs.specs.declared.RecordAnswer.{RecordAnswer}
-use Rattle.logs.specs.Records.{readCount, readRecord, tailFault}
-use Rattle.listings.specs.Lines.{firstLine, refusalLine, lineOutcome}
-use Rattle.replay.specs.Listing.{verdictLine}
-use Rattle.replay.specs.declared.Begun.{Begun}
-use Rattle.replay.specs.declared.Counted.{Counted}
+use Rattle.plans.specs.Reading.{readFault, planRead}
+use Rattle.logs.specs.Records.{readCount, recordFault, tailFault}
+use Rattle.listings.specs.Lines.{firstLine, refusalLine}
+use Rattle.replay.specs.Listing.{faultLine}
 
--- "The first line [..] is printed once the plan is accepted", and a plan's refusal is a line of its own.
-abbrev pub openingBy : Outcome → Plan → List ℕ
-openingBy (Outcome.Bytes n) p = firstLine p
-openingBy (Outcome.Refused r) p = refusalLine r
-
+-- Clauses 9.6 and 9.8: the first line where the plan is accepted, else the line of its refusal.
 abbrev pub openingLine : List ℕ → List ℕ
-openingLine s = openingBy (readPlan s .outcome) (readPlan s .plan)
+openingLine s = cond (eqb (readFault s) 0) (firstLine (planRead s)) (refusalLine (readFault s))
 
--- The plan's outcome, the fresh arbiter, and the opening line in a buffer of so many bytes.
-abbrev pub begun : List ℕ → ℕ → Begun
-begun s size =
-    record {
-      outcome = readPlan s .outcome;
-      board = freshOf (readPlan s .plan) .board;
-      state = freshOf (readPlan s .plan) .state;
-      line = lineOutcome (openingLine s) size 0;
-    }
-
-abbrev pub countVerdict : CountAnswer → Verdict
-countVerdict (CountAnswer.Calls n) = Verdict.Accepted
-countVerdict (CountAnswer.Refused r) = Verdict.Refused r
-
--- How many calls follow, and the line of the count's refusal.
+-- Clause 9.8: the line of the count's refusal.
 abbrev pub countLine : List ℕ → List ℕ
-countLine s = verdictLine (countVerdict (readCount s))
+countLine s = faultLine (readCount s .number)
 
-abbrev pub countedCalls : List ℕ → ℕ → Counted
-countedCalls s size = record { calls = readCount s; line = lineOutcome (countLine s) size 0 }
-
-abbrev pub recordVerdict : RecordAnswer → Verdict
-recordVerdict (RecordAnswer.Is c) = Verdict.Accepted
-recordVerdict (RecordAnswer.Refused r) = Verdict.Refused r
-
--- At the end of the input: a call that is due is short, and after the last call nothing may follow.
-unfoldable pub endFault : ℕ → List ℕ → Verdict
-endFault left s = cond (eqb left 0) (tailFault s) (recordVerdict (readRecord s))
+-- Clauses 9.4 and 9.5: at the end of the input, 1 for a call that is due, and 2 for bytes behind the last call.
+unfoldable pub endFault : ℕ → List ℕ → ℕ
+endFault left s = cond (eqb left 0) (tailFault s) (recordFault s)
 
 abbrev pub endLine : ℕ → List ℕ → List ℕ
-endLine left s = verdictLine (endFault left s)
+endLine left s = faultLine (endFault left s)

@@ -1,52 +1,46 @@
--- The whole listing of a log's bytes: document 01, "A log and its listing".
+-- The whole listing of a log's bytes. Specification, section 9.
 use Prim.Native.Nat.{ℕ, zero, suc}
+use mathlib.Core.Bool.{cond}
 use mathlib.Core.List.{List, [], _++_}
+use lib.Dec.{eqb}
 use lib.ListN.{drop}
-use Rattle.plans.specs.declared.Plan.{Plan}
-use Rattle.plans.specs.declared.Verdict.{Verdict}
-use Rattle.plans.specs.declared.Outcome.{Outcome}
-use Rattle.plans.specs.Reading.{readPlan}
+use Rattle.plans.specs.Reading.{readFault, readSays, planRead}
+use Rattle.calls.specs.declared.Call.{Call}
+use Rattle.calls.specs.Calls.{callOf}
 use Rattle.arbiter.specs.declared.Board.{Board}
 use Rattle.arbiter.specs.declared.State.{State}
-use Rattle.arbiter.specs.declared.Answered.{Answered}
-use Rattle.arbiter.specs.Calls.{boardOf, freshState, issued, completed}
-use Rattle.logs.specs.declared.Call.{Call}
-use Rattle.logs.specs.declared.CountAnswer.{CountAnswer}
-use Rattle.logs.specs.declared.RecordAnswer.{RecordAnswer}
-use Rattle.logs.specs.Records.{readCount, readRecord, tailFault}
+use Rattle.arbiter.specs.Calls.{answered}
+use Rattle.arbiter.specs.Fresh.{boardOf, freshState}
+use Rattle.logs.specs.Records.{countSize, recordSize, readCount, fieldsIn, recordFault, tailFault}
 use Rattle.listings.specs.Lines.{firstLine, callLine, refusalLine}
 
--- The arbiter's answer to a call of a log.
-abbrev pub answer : Board → State → Call → Answered
-answer b st (Call.Issue p e t) = issued b st p e t
-answer b st (Call.Complete p t) = completed b st p t
+-- Clause 9.8: the line of a number that is due, and none for 0.
+abbrev pub faultLine : ℕ → List ℕ
+faultLine number = cond (eqb number 0) [] (refusalLine number)
 
--- "Refusals 1 to 9 are a line of their own [..] and the program ends."
-abbrev pub verdictLine : Verdict → List ℕ
-verdictLine Verdict.Accepted = []
-verdictLine (Verdict.Refused r) = refusalLine r
+-- The call in the record at the start of the bytes.
+abbrev pub callIn : List ℕ → Call
+callIn s = callOf (fieldsIn s)
 
--- A record that is refused ends the listing; a call goes on with what follows it.
-abbrev pub recordLines : RecordAnswer → (Call → List ℕ) → List ℕ
-recordLines (RecordAnswer.Is c) more = more c
-recordLines (RecordAnswer.Refused r) more = refusalLine r
-
--- The lines of n calls in the bytes s. "Calls before the faulty one stay carried out." After the last call, 2 for a tail.
+-- Clauses 9.4 and 9.5: the lines of n calls in the bytes s. A record that is refused ends the listing, and the calls
+-- before it stay carried out. Behind the last call, 2 for a tail.
 unfoldable pub callsListing : Board → State → ℕ → List ℕ → List ℕ
-callsListing b st zero s = verdictLine (tailFault s)
+callsListing b st zero s = faultLine (tailFault s)
 callsListing b st (suc n) s =
-    recordLines (readRecord s) (λ c. callLine c (answer b st c .reply) ++ callsListing b (answer b st c .state) n (drop 8 s))
+    cond (eqb (recordFault s) 0)
+    (callLine (callIn s) (answered b st (callIn s) .reply)
+    ++ callsListing b (answered b st (callIn s) .state) n (drop recordSize s))
+    (refusalLine (recordFault s))
 
--- The call count, and its calls; "short" is a line of its own.
-abbrev pub countedListing : CountAnswer → Board → State → List ℕ → List ℕ
-countedListing (CountAnswer.Calls n) b st s = callsListing b st n (drop 2 s)
-countedListing (CountAnswer.Refused r) b st s = refusalLine r
+-- Clauses 9.1 and 9.4: the number of calls, and the calls; 1 where the number is not there.
+abbrev pub countedListing : Board → State → List ℕ → List ℕ
+countedListing b st s =
+    cond (eqb (readCount s .number) 0) (callsListing b st (readCount s .value) (drop countSize s))
+    (refusalLine (readCount s .number))
 
--- "The first line [..] is printed once the plan is accepted."
-abbrev pub plannedListing : Outcome → Plan → List ℕ → List ℕ
-plannedListing (Outcome.Bytes n) p s = firstLine p ++ countedListing (readCount (drop n s)) (boardOf p) freshState (drop n s)
-plannedListing (Outcome.Refused r) p s = refusalLine r
-
--- What `lockreplay` writes for the bytes of a log.
+-- Clauses 9.6 and 9.8: what `lockreplay` writes for the bytes of a log. The first line comes once the plan is accepted.
 unfoldable pub listingOf : List ℕ → List ℕ
-listingOf s = plannedListing (readPlan s .outcome) (readPlan s .plan) s
+listingOf s =
+    cond (eqb (readFault s) 0)
+    (firstLine (planRead s) ++ countedListing (boardOf (planRead s)) freshState (drop (readSays s .value) s))
+    (refusalLine (readFault s))

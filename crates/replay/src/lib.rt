@@ -1,35 +1,47 @@
 // A log to its listing, block by block: what `lockreplay` does between reading and writing. The bytes of a log come in
 // blocks of any size, and each block's lines go into a lent buffer.
-use arbiter::Answered;
 use arbiter::Board;
 use arbiter::State;
+use arbiter::Terms;
+use arbiter::answer_on;
 use arbiter::fresh_of;
-use listings::LineAnswer;
+use encoding::Outcome;
 use listings::call_line;
 use listings::first_line;
 use listings::refusal_line;
-use logs::Call;
 use logs::CountAnswer;
+use logs::RECORD_BYTES;
 use logs::RecordAnswer;
 use logs::check_tail;
 use logs::read_count;
 use logs::read_record;
-use plans::Outcome;
+use plans::ENTRIES;
 use plans::Plan;
-use plans::Verdict;
+use refusals::Verdict;
 ghost use mathlib.Core.Path.{_≡_};
 ghost use Prim.Native.Nat.{_+_, _/_, _≤_, min};
 ghost use lib.ListN.{length};
-ghost use Rattle.plans.specs.Writing.{put};
-ghost use Rattle.listings.specs.Lines.{lineOutcome, lineBuffer};
-ghost use Rattle.replay.specs.Listing.{answer, verdictLine};
-ghost use Rattle.replay.specs.Blocks.{lineRoom, ran, budget};
-ghost use Rattle.replay.specs.Carried.{sizeOf, carried, ranBlock};
-ghost use Rattle.replay.specs.Ends.{openingBy, openingLine, begun, countVerdict, countLine, countedCalls, endFault, endLine};
+ghost use Rattle.refusals.specs.Number.{verdictNumber};
+ghost use Rattle.encoding.specs.Buffers.{overwritten, outcomeSays};
+ghost use Rattle.plans.specs.Reading.{readSays, planRead};
+ghost use Rattle.arbiter.specs.Fresh.{freshBoard, freshState};
+ghost use Rattle.arbiter.specs.InPlace.{boardBy};
+ghost use Rattle.logs.specs.Records.{recordSize, countSays, readCount};
+ghost use Rattle.listings.specs.Lines.{lineSays, lineBuffer};
+ghost use Rattle.replay.specs.Listing.{faultLine};
+ghost use Rattle.replay.specs.Blocks.{lineRoom, ran, budget, ranBlock};
+ghost use Rattle.replay.specs.Ends.{openingLine, countLine, endFault, endLine};
+ghost use Rattle.replay.specs.Buffers.{planRoom, blockRoom, linesRoom};
+ghost use Rattle.replay.specs.inner.Parts.{openingBy, carried};
 
-// The bytes that a record takes, and the room that a line needs.
-const RECORD_BYTES: usize = 8;
+// The program's buffers: for the plan, for a block of the input, and for a block's lines.
+pub const PLAN_ROOM: usize = 707;
 
+pub const BLOCK_ROOM: usize = 4096;
+
+pub const LINES_ROOM: usize = 65536;
+
+// The room that a line needs: the longest of a call or a refusal, rounded up.
 const LINE_ROOM: usize = 80;
 
 // The plan's outcome, the fresh arbiter of its plan, and the line that opens the listing.
@@ -37,20 +49,20 @@ pub struct Begun {
     pub outcome: Outcome,
     pub board: Board,
     pub state: State,
-    pub line: LineAnswer,
+    pub line: Outcome,
 }
 
 // How many calls follow, or the refusal, and the refusal's line.
-pub struct Counted {
+pub struct CallCount {
     pub calls: CountAnswer,
-    pub line: LineAnswer,
+    pub line: Outcome,
 }
 
 // What one record did: the state after it, how many bytes its line took, and whether it ended the replay.
-pub struct Carried {
-    pub state: State,
-    pub written: usize,
-    pub ended: bool,
+struct Carried {
+    state: State,
+    written: usize,
+    ended: bool,
 }
 
 // What a block of bytes did: the state after it, how many calls were carried out, how many bytes their lines took, and
@@ -62,11 +74,37 @@ pub struct RanBlock {
     pub ended: bool,
 }
 
+// ---- the buffers
+
+// The sizes of the program's buffers are those of the definition. The plan's holds the longest plan.
+pub fn plan_room() -> usize
+    ensures { λ r. ⌜ r ≡ planRoom ⌝ }
+{
+    PLAN_ROOM
+}
+
+pub fn block_room() -> usize
+    ensures { λ r. ⌜ r ≡ blockRoom ⌝ }
+{
+    BLOCK_ROOM
+}
+
+pub fn lines_room() -> usize
+    ensures { λ r. ⌜ r ≡ linesRoom ⌝ }
+{
+    LINES_ROOM
+}
+
 // ---- before the calls
 
 // The first line of an accepted plan, or the line of the plan's refusal.
-fn opening_line(outcome: Outcome, plan: Plan, out: &mut [u8]) -> LineAnswer
-    ensures { λ r. ⌜ (r ≡ lineOutcome (openingBy outcome plan) (length (now (out .entry))) 0) × (now (out .exit) ≡ lineBuffer (openingBy outcome plan) (now (out .entry)) 0) ⌝ }
+fn opening_line(outcome: Outcome, plan: Plan, out: &mut [u8]) -> Outcome
+    ensures outcome { λ r. ⌜
+        outcomeSays r ≡ lineSays (openingBy (outcomeSays outcome .number) plan) (length (now (out .entry))) 0
+        ⌝ }
+    ensures written { λ _. ⌜
+        now (out .exit) ≡ lineBuffer (openingBy (outcomeSays outcome .number) plan) (now (out .entry)) 0
+        ⌝ }
 {
     match outcome {
         Outcome::Bytes(_) => first_line(plan, out, 0),
@@ -74,10 +112,16 @@ fn opening_line(outcome: Outcome, plan: Plan, out: &mut [u8]) -> LineAnswer
     }
 }
 
-// Reads the plan at the start of a log, makes its fresh arbiter, and puts the line that opens the listing at the start of
-// `out`. Where `out` is too short for the line nothing is written.
+// Reads the plan at the start of a log, makes its fresh arbiter, and puts the line that opens the listing at the start
+// of `out`. Where `out` is too short for the line nothing is written.
 pub fn begin(bytes: &[u8], out: &mut [u8]) -> Begun
-    ensures { λ r. ⌜ (r ≡ begun (now (bytes .entry)) (length (now (out .entry)))) × (now (out .exit) ≡ lineBuffer (openingLine (now (bytes .entry))) (now (out .entry)) 0) ⌝ }
+    ensures outcome { λ r. ⌜ outcomeSays (r .outcome) ≡ readSays (now (bytes .entry)) ⌝ }
+    ensures board { λ r. ⌜ r .board ≡ freshBoard (planRead (now (bytes .entry))) ⌝ }
+    ensures state { λ r. ⌜ r .state ≡ freshState ⌝ }
+    ensures line { λ r. ⌜
+        outcomeSays (r .line) ≡ lineSays (openingLine (now (bytes .entry))) (length (now (out .entry))) 0
+        ⌝ }
+    ensures written { λ _. ⌜ now (out .exit) ≡ lineBuffer (openingLine (now (bytes .entry))) (now (out .entry)) 0 ⌝ }
 {
     let read = plan_reader::read(bytes);
     let outcome = read.outcome;
@@ -95,17 +139,22 @@ pub fn begin(bytes: &[u8], out: &mut [u8]) -> Begun
 }
 
 // The line of a refusal, and none where there is no refusal.
-fn verdict_line(verdict: Verdict, out: &mut [u8]) -> LineAnswer
-    ensures { λ r. ⌜ (r ≡ lineOutcome (verdictLine verdict) (length (now (out .entry))) 0) × (now (out .exit) ≡ lineBuffer (verdictLine verdict) (now (out .entry)) 0) ⌝ }
+fn verdict_line(verdict: Verdict, out: &mut [u8]) -> Outcome
+    ensures outcome { λ r. ⌜
+        outcomeSays r ≡ lineSays (faultLine (verdictNumber verdict)) (length (now (out .entry))) 0
+        ⌝ }
+    ensures written { λ _. ⌜
+        now (out .exit) ≡ lineBuffer (faultLine (verdictNumber verdict)) (now (out .entry)) 0
+        ⌝ }
 {
     match verdict {
-        Verdict::Accepted => LineAnswer::Bytes(0),
+        Verdict::Accepted => Outcome::Bytes(0),
         Verdict::Refused(refusal) => refusal_line(refusal, out, 0),
     }
 }
 
 fn count_verdict(calls: CountAnswer) -> Verdict
-    ensures { λ r. ⌜ r ≡ countVerdict calls ⌝ }
+    ensures { λ r. ⌜ verdictNumber r ≡ countSays calls .number ⌝ }
 {
     match calls {
         CountAnswer::Calls(_) => Verdict::Accepted,
@@ -114,13 +163,17 @@ fn count_verdict(calls: CountAnswer) -> Verdict
 }
 
 // Reads the call count at the start of the bytes after the plan. Its refusal's line goes to the start of `out`.
-pub fn count(bytes: &[u8], out: &mut [u8]) -> Counted
-    ensures { λ r. ⌜ (r ≡ countedCalls (now (bytes .entry)) (length (now (out .entry)))) × (now (out .exit) ≡ lineBuffer (countLine (now (bytes .entry))) (now (out .entry)) 0) ⌝ }
+pub fn count(bytes: &[u8], out: &mut [u8]) -> CallCount
+    ensures calls { λ r. ⌜ countSays (r .calls) ≡ readCount (now (bytes .entry)) ⌝ }
+    ensures line { λ r. ⌜
+        outcomeSays (r .line) ≡ lineSays (countLine (now (bytes .entry))) (length (now (out .entry))) 0
+        ⌝ }
+    ensures written { λ _. ⌜ now (out .exit) ≡ lineBuffer (countLine (now (bytes .entry))) (now (out .entry)) 0 ⌝ }
 {
     let calls = read_count(bytes);
     let verdict = count_verdict(calls);
     let line = verdict_line(verdict, out);
-    Counted {
+    CallCount {
         calls: calls,
         line: line,
     }
@@ -128,42 +181,44 @@ pub fn count(bytes: &[u8], out: &mut [u8]) -> Counted
 
 // ---- the calls
 
-// A call of a log goes to the arbiter.
-fn carry_out(board: Board, state: State, call: Call) -> Answered
-    ensures { λ r. ⌜ r ≡ answer board state call ⌝ }
-{
-    match call {
-        Call::Issue {
-            processor,
-            entry,
-            tick,
-        } => arbiter::issue(board, state, processor, entry, tick),
-        Call::Complete { processor, tick } => arbiter::complete(board, state, processor, tick),
-    }
-}
-
-// How many bytes were written: none where there was no room.
-pub fn size_of(line: LineAnswer) -> usize
-    ensures { λ r. ⌜ r ≡ sizeOf line ⌝ }
+// How many bytes a line took: none where there was no room.
+pub fn line_size(line: Outcome) -> usize
+    ensures { λ r. ⌜ r ≡ outcomeSays line .value ⌝ }
 {
     match line {
-        LineAnswer::Bytes(size) => size,
-        LineAnswer::Refused(_) => 0,
+        Outcome::Bytes(size) => size,
+        Outcome::Refused(_) => 0,
     }
 }
 
 // One record: its call is carried out and has its line, or its refusal is a line of its own and ends the replay.
-fn replay_record(board: Board, state: State, bytes: &[u8], out: &mut [u8], at: usize) -> Carried
+fn replay_record(
+    terms: Terms,
+    rows: &[u64; ENTRIES],
+    lengths: &[u16; ENTRIES],
+    state: State,
+    bytes: &[u8],
+    out: &mut [u8],
+    at: usize,
+) -> Carried
     requires { ⌜ at + lineRoom ≤ length (now out) ⌝ }
-    ensures { λ r. ⌜ (r ≡ carried (ran board state 1 (now (bytes .entry)))) × (now (out .exit) ≡ put (now (out .entry)) at (ran board state 1 (now (bytes .entry)) .lines)) ⌝ }
+    ensures result { λ r. ⌜
+        r
+        ≡ carried (ran (boardBy terms (now (rows .entry)) (now (lengths .entry))) state 1 (now (bytes .entry)))
+        ⌝ }
+    ensures written { λ _. ⌜
+        now (out .exit)
+        ≡ overwritten (now (out .entry)) at
+        (ran (boardBy terms (now (rows .entry)) (now (lengths .entry))) state 1 (now (bytes .entry)) .lines)
+        ⌝ }
 {
     let found = read_record(bytes);
     match found {
         RecordAnswer::Is(call) => {
-            let answered = carry_out(board, state, call);
+            let answered = answer_on(terms, rows, lengths, state, call);
             let reply = answered.reply;
             let after = answered.state;
-            let size = size_of(call_line(call, reply, out, at));
+            let size = line_size(call_line(call, reply, out, at));
             Carried {
                 state: after,
                 written: size,
@@ -171,7 +226,7 @@ fn replay_record(board: Board, state: State, bytes: &[u8], out: &mut [u8], at: u
             }
         }
         RecordAnswer::Refused(refusal) => {
-            let written = size_of(refusal_line(refusal, out, at));
+            let written = line_size(refusal_line(refusal, out, at));
             Carried {
                 state: state,
                 written: written,
@@ -183,7 +238,7 @@ fn replay_record(board: Board, state: State, bytes: &[u8], out: &mut [u8], at: u
 
 // How many records a block carries out: those that are left, are whole in the bytes, and have room for their lines.
 fn budget_of(left: u16, size: usize, room: usize) -> u16
-    ensures { λ r. ⌜ r ≡ min left (min (size / 8) (room / lineRoom)) ⌝ }
+    ensures { λ r. ⌜ r ≡ min left (min (size / recordSize) (room / lineRoom)) ⌝ }
 {
     let whole = size / RECORD_BYTES;
     let lines = room / LINE_ROOM;
@@ -196,16 +251,29 @@ fn budget_of(left: u16, size: usize, room: usize) -> u16
 }
 
 // The records of a block, one by one, up to the first that is refused. Their lines go to the start of `out`.
+// The board's arrays are lent to each call.
 pub fn run(board: Board, state: State, left: u16, bytes: &[u8], out: &mut [u8]) -> RanBlock
-    ensures { λ r. ⌜ (r ≡ ranBlock (ran board state (budget left (now (bytes .entry)) (length (now (out .entry)))) (now (bytes .entry)))) × (now (out .exit) ≡ put (now (out .entry)) 0 (ran board state (budget left (now (bytes .entry)) (length (now (out .entry)))) (now (bytes .entry)) .lines)) ⌝ }
+    ensures result { λ r. ⌜
+        r
+        ≡ ranBlock
+        (ran board state (budget left (now (bytes .entry)) (length (now (out .entry)))) (now (bytes .entry)))
+        ⌝ }
+    ensures written { λ _. ⌜
+        now (out .exit)
+        ≡ overwritten (now (out .entry)) 0
+        (ran board state (budget left (now (bytes .entry)) (length (now (out .entry)))) (now (bytes .entry)) .lines)
+        ⌝ }
 {
+    let terms = board.terms;
+    let rows = board.rows;
+    let lengths = board.lengths;
     let due = budget_of(left, bytes.len(), out.len());
     let mut current = state;
     let mut calls: u16 = 0;
     let mut from: usize = 0;
     let mut at: usize = 0;
     while calls < due {
-        let carried = replay_record(board, current, &bytes[from..], out, at);
+        let carried = replay_record(terms, &rows, &lengths, current, &bytes[from..], out, at);
         let next = carried.state;
         at += carried.written;
         if carried.ended {
@@ -232,7 +300,7 @@ pub fn run(board: Board, state: State, left: u16, bytes: &[u8], out: &mut [u8]) 
 
 // What the bytes at the end of the input are refused by: a call that is due, or after the last one any byte.
 fn end_fault(left: u16, bytes: &[u8]) -> Verdict
-    ensures { λ r. ⌜ r ≡ endFault left (now (bytes .entry)) ⌝ }
+    ensures { λ r. ⌜ verdictNumber r ≡ endFault left (now (bytes .entry)) ⌝ }
 {
     if left == 0 {
         return check_tail(bytes);
@@ -245,8 +313,13 @@ fn end_fault(left: u16, bytes: &[u8]) -> Verdict
 }
 
 // The line that ends the listing, if any, where the input ends with less than a record left over, or no call is left.
-pub fn finish(left: u16, bytes: &[u8], out: &mut [u8]) -> LineAnswer
-    ensures { λ r. ⌜ (r ≡ lineOutcome (endLine left (now (bytes .entry))) (length (now (out .entry))) 0) × (now (out .exit) ≡ lineBuffer (endLine left (now (bytes .entry))) (now (out .entry)) 0) ⌝ }
+pub fn finish(left: u16, bytes: &[u8], out: &mut [u8]) -> Outcome
+    ensures outcome { λ r. ⌜
+        outcomeSays r ≡ lineSays (endLine left (now (bytes .entry))) (length (now (out .entry))) 0
+        ⌝ }
+    ensures written { λ _. ⌜
+        now (out .exit) ≡ lineBuffer (endLine left (now (bytes .entry))) (now (out .entry)) 0
+        ⌝ }
 {
     let verdict = end_fault(left, bytes);
     verdict_line(verdict, out)

@@ -1,60 +1,41 @@
 -- `refusal_line` meets its contract. Assumes nothing.
 use native.Mathlib.Omega.{arith}
-use borrow.Author.Tests.{not-false}
-use Rattle.listings.specs.Lines.{refusalLine}
-use Rattle.listings.proofs.Fields.{refusal-size}
+use Rattle.refusals.specs.Number.{numberOf}
+use Rattle.listings.specs.Lines.{furtherFields, refusalLine}
+use Rattle.listings.proofs.Lengths.{refusal-size}
 use Rattle.listings.proofs.Room.{no-room, room}
 use borrow.Author.Needs.{needs}
 use Rattle.listings.proofs.refusal_line.Statement.{statement}
 use Rattle.listings.proofs.refusal_line.Tie as tie
 
-number-requires : tie.Need-number-requires
-number-requires c κs = search needs
-
-cast-n : tie.Need-cast-n
-cast-n c = search needs
-
-digit-count-requires : tie.Need-digit-count-requires
-digit-count-requires c κs = search needs
-
-add-needed : tie.Need-add-needed
-add-needed c = search needs
-
-has-room-requires : tie.Need-has-room-requires
-has-room-requires c κs = search needs
+write-last-requires : tie.Need-write-last-requires
+write-last-requires c κs = omega (arith, c .before .before .before .has-room .ensures .1 (c .before .before .if1 .taken))
 
 returns : tie.Need-returns
+unfolding refusalLine furtherFields
 returns c =
-    no-room (refusalLine (c .before .before .before .before .before .args .refusal)) _ _ _ _ (refusal-size _ _ _ (c .before .before .before .number .ensures) (c .before .before .digit-count .ensures .0)) (c .before .has-room .ensures .0) (c .if1 .taken)
-
-slice-aggregate-write-last-labelled : tie.Need-slice-aggregate-write-last-labelled
-slice-aggregate-write-last-labelled c = search needs
-
-write-last-labelled-requires : tie.Need-write-last-labelled-requires
-write-last-labelled-requires c κs =
-    omega (arith, c .before .before .before .has-room .ensures .1 (not-false _ (c .before .before .if1 .left)))
-
-same-length : tie.Need-same-length
-same-length c = search needs
+    let asked = c .before .before .before .before .before .before in
+    let told = asked .before .before .number .ensures in
+    let r = asked .before .before .before .before .args .refusal in
+    room (refusalLine (numberOf r)) _ _ _ _ (refusal-size r _ _ told (asked .before .digit-count .ensures .0)) (asked .has-room .ensures .0) _ _ (c .before .before .before .before .before .if1 .taken)
+    (rw told at (c .before .before .write-last .ensures))
 
 returns-2 : tie.Need-returns-2
-unfolding refusalLine
 returns-2 c =
-    let r = c .before .before .before .before .before .before .before .before .before .before .args .refusal in
-    room (refusalLine r) _ _ _ _ (refusal-size r _ _ (c .before .before .before .before .before .before .before .before .number .ensures) (c .before .before .before .before .before .before .before .digit-count .ensures .0)) (c .before .before .before .before .before .before .has-room .ensures .0) _ _ (c .before .before .before .before .before .if1 .left)
-    (rw (c .before .before .before .before .before .before .before .before .number .ensures) at (c .before .before .write-last-labelled .ensures))
+    let r = c .before .before .before .before .before .args .refusal in
+    no-room (refusalLine (numberOf r)) _ _ _ _ (refusal-size r _ _ (c .before .before .before .number .ensures) (c .before .before .digit-count .ensures .0)) (c .before .has-room .ensures .0) (c .if1 .left)
 
 pub refusal-line-spec : {M : Type 1} → statement M
 refusal-line-spec =
     tie.close
     (tie.spec
-    number-requires
-    cast-n
-    digit-count-requires
-    add-needed
-    has-room-requires
+    (λ c κs. search needs)
+    (λ c. search needs)
+    (λ c κs. search needs)
+    (λ c. search needs)
+    (λ c κs. search needs)
+    (λ c. search needs)
+    write-last-requires
+    (λ c. search needs)
     returns
-    slice-aggregate-write-last-labelled
-    write-last-labelled-requires
-    same-length
     returns-2)

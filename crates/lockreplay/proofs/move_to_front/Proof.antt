@@ -15,26 +15,8 @@ Inv-loop block₀ from have rest i₀ block i =
 abbrev μ-loop : tie.MeasureT-loop
 μ-loop block₀ from have rest i₀ block i = rest - i
 
-sub-rest : tie.Need-sub-rest Inv-loop μ-loop
-sub-rest c = omega arith
-
 loop-holds : tie.Need-loop-holds Inv-loop μ-loop
 loop-holds c = (omega arith, (refl, paste-zero (c .args .block .now) 0 (drop (c .args .from) (c .args .block .now))))
-
-add-block : tie.Need-add-block Inv-loop μ-loop
-add-block c = omega arith
-
-slice-read-block : tie.Need-slice-read-block Inv-loop μ-loop
-slice-read-block c = omega arith
-
-slice-write-block : tie.Need-slice-write-block Inv-loop μ-loop
-slice-write-block c = omega arith
-
-add-i : tie.Need-add-i Inv-loop μ-loop
-add-i c = omega arith
-
-loop-less : tie.Need-loop-less Inv-loop μ-loop
-loop-less c = omega arith
 
 loop-again : tie.Need-loop-again Inv-loop μ-loop
 loop-again c =
@@ -62,13 +44,13 @@ move-to-front-spec =
     (tie.spec
     Inv-loop
     μ-loop
-    sub-rest
+    (λ c. omega arith)
     loop-holds
-    add-block
-    slice-read-block
-    slice-write-block
-    add-i
-    loop-less
+    (λ c. omega arith)
+    (λ c. omega arith)
+    (λ c. omega arith)
+    (λ c. omega arith)
+    (λ c. omega arith)
     loop-again
     same-length
     returns)

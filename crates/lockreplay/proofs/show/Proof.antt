@@ -6,18 +6,9 @@ use borrow.Author.Needs.{needs}
 use Rattle.lockreplay.proofs.show.Statement.{statement}
 use Rattle.lockreplay.proofs.show.Tie as tie
 
-size-of-requires : tie.Need-size-of-requires
-size-of-requires c κs = search needs
-
 slice-aggregate-write-all : tie.Need-slice-aggregate-write-all
-slice-aggregate-write-all c = sym (length-take-le _ _ (omega (arith, c .before .size-of .ensures)))
-
-write-all-requires : tie.Need-write-all-requires
-write-all-requires c κs = search needs
-
-returns : tie.Need-returns
-returns c = search needs
+slice-aggregate-write-all c = sym (length-take-le _ _ (omega (arith, c .before .line-size .ensures)))
 
 pub show-spec : {M : Type 1} → statement M
 show-spec =
-    tie.close (tie.spec size-of-requires slice-aggregate-write-all write-all-requires returns)
+    tie.close (tie.spec (λ c κs. search needs) slice-aggregate-write-all (λ c κs. search needs) (λ c. search needs))

@@ -1,39 +1,33 @@
 -- `read_record` meets its contract: the verb is looked at only where all 8 bytes are there. Assumes nothing.
-use mathlib.Core.Path.{refl}
-use borrow.Author.Tests.{eq-eqb, le-leb, lt-leb}
-use Rattle.logs.specs.Records.{recordFault, callOf, readRecord}
-use Rattle.logs.proofs.Fields.{a-completion, no-verb}
 use borrow.Author.Needs.{needs}
+use borrow.Author.Tests.{lt-leb}
+use Rattle.logs.specs.Records.{recordFault, readRecord}
+use Rattle.logs.proofs.Fields.{an-issue, a-completion, no-verb}
 use Rattle.logs.proofs.read_record.Statement.{statement}
 use Rattle.logs.proofs.read_record.Tie as tie
 
 returns : tie.Need-returns
 unfolding readRecord recordFault
-returns c = rw (lt-leb _ _ (c .if1 .taken)) refl
+returns c = rw (lt-leb _ _ (c .if1 .taken))
 
+-- Named, so that a verb that is read too early fails here.
 shared-slice-read-verb : tie.Need-shared-slice-read-verb
 shared-slice-read-verb c = search needs
 
-shared-slice-read-processor : tie.Need-shared-slice-read-processor
-shared-slice-read-processor c = search needs
-
-shared-slice-read-entry : tie.Need-shared-slice-read-entry
-shared-slice-read-entry c = search needs
-
-tick-of-requires : tie.Need-tick-of-requires
-tick-of-requires c κs = search needs
-
 returns-2 : tie.Need-returns-2
-unfolding readRecord recordFault callOf
-returns-2 c = rw (le-leb _ _ (c .before .before .before .before .before .if1 .left), eq-eqb _ _ (c .if2 .taken), c .before .tick-of .ensures) refl
+returns-2 c =
+    let read = c .before in
+    an-issue _ (read .before .before .before .before .before .if1 .left) _ (read .read-number .ensures .0) (c .if2 .taken)
 
 returns-3 : tie.Need-returns-3
 returns-3 c =
-    a-completion _ (c .before .before .before .before .before .before .if1 .left) (c .before .if2 .left) _ (c .before .before .tick-of .ensures) (c .if3 .taken)
+    let read = c .before .before in
+    a-completion _ (read .before .before .before .before .before .if1 .left) _ (read .read-number .ensures .0) (c .before .if2 .left) (c .if3 .taken)
 
 returns-4 : tie.Need-returns-4
 returns-4 c =
-    no-verb _ (c .before .before .before .before .before .before .if1 .left) (c .before .if2 .left) _ (c .before .before .tick-of .ensures) (c .if3 .left)
+    let read = c .before .before in
+    no-verb _ (read .before .before .before .before .before .if1 .left) _ (read .read-number .ensures .0) (c .before .if2 .left) (c .if3 .left)
 
 pub read-record-spec : {M : Type 1} → statement M
 read-record-spec =
@@ -41,9 +35,12 @@ read-record-spec =
     (tie.spec
     returns
     shared-slice-read-verb
-    shared-slice-read-processor
-    shared-slice-read-entry
-    tick-of-requires
+    (λ c. search needs)
+    (λ c. search needs)
+    (λ c. search needs)
+    (λ c. search needs)
+    (λ c. search needs)
+    (λ c κs. search needs)
     returns-2
     returns-3
     returns-4)

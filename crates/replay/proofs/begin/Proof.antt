@@ -1,26 +1,19 @@
--- `replay::begin` meets its contract, by the law of its answer. Assumes nothing.
-use Rattle.replay.proofs.Answers.{begun-is}
+-- `replay::begin` meets its contract, the plan and its outcome are those that were read. Assumes nothing.
+use mathlib.Core.Path.{ap, _∙_}
+use Rattle.refusals.specs.Due.{Said}
+use Rattle.arbiter.specs.Fresh.{freshBoard}
 use borrow.Author.Needs.{needs}
 use Rattle.replay.proofs.begin.Statement.{statement}
 use Rattle.replay.proofs.begin.Tie as tie
 
-read-requires : tie.Need-read-requires
-read-requires c κs = search needs
-
-opening-line-requires : tie.Need-opening-line-requires
-opening-line-requires c κs = search needs
-
-fresh-of-requires : tie.Need-fresh-of-requires
-fresh-of-requires c κs = search needs
-
-same-length : tie.Need-same-length
-same-length c = search needs
-
 returns : tie.Need-returns
 returns c =
     let opened = c .before .before .before .before .before in
-    begun-is _ _ _ _ _ _ (opened .before .before .before .read .ensures) (c .before .before .fresh-of .ensures) (opened .opening-line .ensures .0) (opened .opening-line .ensures .1)
+    let read = opened .before .before .before .read .ensures in
+    let fresh = c .before .before .fresh-of .ensures in
+    let line = rw (ap (λ (x : Said). x .number) (read .0), read .1) at (opened .opening-line .ensures) in
+    (read .0, (fresh .1 .0 ∙ ap freshBoard (read .1), (fresh .1 .1, line)))
 
 pub begin-spec : {M : Type 1} → statement M
 begin-spec =
-    tie.close (tie.spec read-requires opening-line-requires fresh-of-requires same-length returns)
+    tie.close (tie.spec (λ c κs. search needs) (λ c κs. search needs) (λ c κs. search needs) (λ c. search needs) returns)

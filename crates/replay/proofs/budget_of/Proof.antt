@@ -5,9 +5,6 @@ use borrow.Author.Needs.{needs}
 use Rattle.replay.proofs.budget_of.Statement.{statement}
 use Rattle.replay.proofs.budget_of.Tie as tie
 
-cast-result : tie.Need-cast-result
-cast-result c = search needs
-
 returns : tie.Need-returns
 returns c = ⊎-elim (λ w. omega arith) (λ w. omega arith) (c .before .before .if1 .came)
 
@@ -15,4 +12,4 @@ returns-2 : tie.Need-returns-2
 returns-2 c = ⊎-elim (λ w. omega arith) (λ w. omega arith) (c .before .if1 .came)
 
 pub budget-of-spec : {M : Type 1} → statement M
-budget-of-spec = tie.close (tie.spec cast-result returns returns-2)
+budget-of-spec = tie.close (tie.spec (λ c. search needs) returns returns-2)

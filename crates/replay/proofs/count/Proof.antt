@@ -1,28 +1,19 @@
--- `replay::count` meets its contract, by the law of its answer. Assumes nothing.
-use Rattle.replay.proofs.Answers.{counted-is}
+-- `replay::count` meets its contract, the line is that of the count's refusal. Assumes nothing.
+use mathlib.Core.Path.{ap, _∙_}
+use Rattle.refusals.specs.Due.{Said}
 use borrow.Author.Needs.{needs}
 use Rattle.replay.proofs.count.Statement.{statement}
 use Rattle.replay.proofs.count.Tie as tie
-
-read-count-requires : tie.Need-read-count-requires
-read-count-requires c κs = search needs
-
-count-verdict-requires : tie.Need-count-verdict-requires
-count-verdict-requires c κs = search needs
-
-verdict-line-requires : tie.Need-verdict-line-requires
-verdict-line-requires c κs = search needs
-
-same-length : tie.Need-same-length
-same-length c = search needs
 
 returns : tie.Need-returns
 returns c =
     let written = c .before .before in
     let judged = written .before .before in
-    counted-is _ _ _ _ _ _ (judged .before .read-count .ensures) (judged .count-verdict .ensures) (written .verdict-line .ensures .0) (written .verdict-line .ensures .1)
+    let read = judged .before .read-count .ensures in
+    let same = judged .count-verdict .ensures ∙ ap (λ (x : Said). x .number) read in
+    (read, rw same at (written .verdict-line .ensures))
 
 pub count-spec : {M : Type 1} → statement M
 count-spec =
     tie.close
-    (tie.spec read-count-requires count-verdict-requires verdict-line-requires same-length returns)
+    (tie.spec (λ c κs. search needs) (λ c κs. search needs) (λ c κs. search needs) (λ c. search needs) returns)

@@ -1,0 +1,38 @@
+-- What an answer that is known tells of the bytes it was read from. Assumes nothing.
+use Prim.Native.Nat.{ℕ, _≤_}
+use mathlib.Core.Path.{_≡_, refl, sym, ap, _∙_}
+use mathlib.Core.List.{List}
+use lib.ListN.{length}
+use Rattle.refusals.specs.declared.Refusal.{Refusal}
+use Rattle.refusals.specs.Number.{numberOf}
+use Rattle.encoding.proofs.Room.{enough-length}
+use Rattle.calls.specs.declared.Call.{Call}
+use Rattle.calls.specs.Calls.{callSays, callOf}
+use Rattle.logs.specs.declared.CountAnswer.{CountAnswer}
+use Rattle.logs.specs.declared.RecordAnswer.{RecordAnswer}
+use Rattle.logs.specs.Records.{countSize, countSays, readCount, fieldsIn, recordFault, recordSays, readRecord}
+
+-- A count that is taken is there.
+pub count-there : (s : List ℕ) → readCount s .number ≡ 0 → countSize ≤ length s
+count-there s e = enough-length countSize s e
+
+pub count-is : (a : CountAnswer) (s : List ℕ) (n : ℕ) → countSays a ≡ readCount s → a ≡ CountAnswer.Calls n → readCount s .number ≡ 0
+count-is a s n says e = ap (λ x. x .number) (sym says ∙ ap countSays e)
+
+-- The call that a call's fields say is the call.
+call-back : (c : Call) → callOf (callSays c) ≡ c
+call-back (Call.Issue p e t) = refl
+call-back (Call.Complete p t) = refl
+
+module _ (a : RecordAnswer) (s : List ℕ) (says : recordSays a ≡ readRecord s) where
+  pub record-is : (c : Call) → a ≡ RecordAnswer.Is c → (recordFault s ≡ 0) × (callOf (fieldsIn s) ≡ c)
+  unfolding readRecord
+  record-is c e =
+      let whole = sym says ∙ ap recordSays e in
+      let none : recordFault s ≡ 0 = ap (λ x. x .number) whole in
+      let fields : fieldsIn s ≡ callSays c = rw none at (ap (λ x. x .fields) whole) in
+      (none, ap callOf fields ∙ call-back c)
+
+  pub record-refused : (r : Refusal) → a ≡ RecordAnswer.Refused r → recordFault s ≡ numberOf r
+  unfolding readRecord
+  record-refused r e = ap (λ x. x .number) (sym says ∙ ap recordSays e)

@@ -1,0 +1,18 @@
+-- What one record did, and the opening line by what was read.
+use Prim.Native.Nat.{ℕ}
+use mathlib.Core.Bool.{cond}
+use mathlib.Core.List.{List}
+use lib.Dec.{eqb}
+use lib.ListN.{length}
+use Rattle.plans.specs.declared.Plan.{Plan}
+use Rattle.listings.specs.Lines.{firstLine, refusalLine}
+use Rattle.replay.specs.Blocks.{Ran}
+use Rattle.replay.specs.declared.Carried.{Carried}
+
+-- The state after some records, how many bytes their lines take, and whether a refusal ended it.
+abbrev pub carried : Ran → Carried
+carried r = record { state = r .state; written = length (r .lines); ended = r .ended }
+
+-- The line that opens a listing, by the number that the plan is refused by and the plan.
+abbrev pub openingBy : ℕ → Plan → List ℕ
+openingBy number p = cond (eqb number 0) (firstLine p) (refusalLine number)
