@@ -1,40 +1,34 @@
 #!/usr/bin/env python3
-"""Write crates/worked/proofs/Logs.antt to standard output: a dozen stored logs, and that the definitions give their listings.
+"""Write crates/worked/proofs/Logs.antt to standard output: a table of a dozen stored logs with their listings, and one
+theorem, that the definitions give these listings.
 
 The listings are the stored ones, which an independent program printed. antt computes `listingOf`, the definition of a
-whole listing, on the log's bytes.
+whole listing, on each log's bytes.
 """
 import pathlib
 
 NAMES = """plan_f empty refused_02_tail refused_07_not_counted refused_09_verb refused_15_entitled order_10_before_11
 read_of_a_widened_resource two_issues_at_one_tick one_processor hold_of_20_and_21 readers_share repeated_tick""".split()
 
-HEAD = """-- A dozen logs, from bytes to listing: `listingOf` computes what an independent program printed. Made by tests/worked/make.py.
--- Assumes nothing.
-use Prim.Native.Nat.{ℕ}
-use mathlib.Core.Path.{_≡_, refl}
-use mathlib.Core.List.{List, [], _∷_}
-use Rattle.masks.specs.Sets.{bit, some, maskOf}
-use Rattle.plans.specs.Acceptance.{countsFault, entryFault, entriesFault, planFault}
-use Rattle.plans.specs.Figures.{longest}
-use Rattle.plans.specs.Reading.{number, entryOf, entriesOf, sectionFault, readFault, planOf, readPlan}
-use Rattle.conflicts.specs.Conflict.{widen, widenedSet, conflict, inConflict, tabulate, conflictsOf}
-use Rattle.arbiter.specs.Requests.{isHolding, isEntitled, isWaiting, cleaned}
-use Rattle.arbiter.specs.Settling.{test1, step1, test2, step2, test3, step3, test4, step4, settled}
-use Rattle.arbiter.specs.Calls.{boardOf, issueFault, completeFault, put, holdsAtOnce, admitted, taken, stamped, done, issued, completed}
-use Rattle.logs.specs.Records.{readCount, recordFault, callOf, readRecord, tailFault}
-use Rattle.listings.specs.Digits.{digits, hex4}
-use Rattle.listings.specs.Lines.{furtherFields, firstLine, refusalLine, callLine}
-use Rattle.replay.specs.Listing.{callsListing, listingOf}
-"""
-
-UNFOLD = (
-    "unfolding bit some maskOf countsFault entryFault entriesFault planFault longest number entryOf entriesOf sectionFault "
-    "readFault planOf readPlan widen widenedSet conflict inConflict tabulate conflictsOf isHolding isEntitled isWaiting cleaned "
-    "test1 step1 test2 step2 test3 step3 test4 step4 settled boardOf issueFault completeFault put holdsAtOnce admitted taken "
-    "stamped done issued completed readCount recordFault callOf readRecord tailFault digits hex4 furtherFields firstLine "
-    "refusalLine callLine callsListing listingOf"
-)
+# What is computed on the way from bytes to a listing, by the module that defines it.
+UNFOLDED = {
+    "masks.specs.Sets": "bit some maskOf",
+    "encoding.specs.Numbers": "number",
+    "plans.specs.Acceptance": "countsFault entryFault entriesFault planFault",
+    "plans.specs.Figures": "longest",
+    "plans.specs.Reading": "entryIn entriesIn sectionFault readFault planIn planRead",
+    "conflicts.specs.Conflict": "widen widenedSet conflict inConflict tabulate conflictsOf",
+    "settling.specs.Settling": "test1 step1 test2 step2 test3 step3 test4 step4 settled holdsAtOnce admitted",
+    "arbiter.specs.Requests": "isHolding isEntitled isWaiting cleaned",
+    "arbiter.specs.Faults": "issueFault completeFault",
+    "arbiter.specs.Acts": "putIn putLast takenOut stamped",
+    "arbiter.specs.Calls": "putState takenState done issueDone takenDone issued completed",
+    "arbiter.specs.Fresh": "boardOf",
+    "logs.specs.Records": "fieldsIn recordFault",
+    "listings.specs.Digits": "digits hex4",
+    "listings.specs.Lines": "furtherFields firstLine refusalLine callLine",
+    "replay.specs.Listing": "callsListing listingOf",
+}
 
 
 def as_list(data):
@@ -43,14 +37,35 @@ def as_list(data):
 
 def main():
     root = pathlib.Path(__file__).resolve().parent.parent / "replay" / "logs"
-    print(HEAD)
+    print("""-- A dozen logs, from bytes to listing: `listingOf` computes what an independent program printed. Made by
+-- tests/worked/make.py. Assumes nothing.
+use Prim.Native.Nat.{ℕ}
+use mathlib.Core.Path.{_≡_, refl}
+use mathlib.Core.List.{List, [], _∷_, map}""")
+    for module, names in UNFOLDED.items():
+        print(f"use Rattle.{module}.{{{', '.join(names.split())}}}")
+    print("""
+-- The bytes of a log, and those of its listing.
+pub record Worked : Type 0 where
+  pub log : List ℕ
+  pub listing : List ℕ
+""")
     for name in NAMES:
         label = name.replace("_", "-")
-        print(f"pub {label} : listingOf ({as_list((root / (name + '.log')).read_bytes())})")
-        print(f"    ≡ {as_list((root / (name + '.listing')).read_bytes())}")
-        print(UNFOLD)
-        print(f"{label} = refl")
+        print(f"abbrev {label} : Worked")
+        print(f"{label} =")
+        print("    record {")
+        print(f"      log = {as_list((root / (name + '.log')).read_bytes())};")
+        print(f"      listing = {as_list((root / (name + '.listing')).read_bytes())};")
+        print("    }")
         print()
+    labels = [name.replace("_", "-") for name in NAMES]
+    print("pub table : List Worked")
+    print(f"table = {' ∷ '.join(labels + ['[]'])}")
+    print()
+    print("pub listings-are-as-printed : map (λ w. listingOf (w .log)) table ≡ map (λ w. w .listing) table")
+    print("unfolding table " + " ".join(UNFOLDED.values()))
+    print("listings-are-as-printed = refl")
 
 
 main()

@@ -85,7 +85,7 @@ impl Iterator for Bits {
 }
 
 impl State {
-    /// Drops a request whose entry or processor is outside the plan, and keeps one phase of each processor.
+    /// Drops the requests of entries and processors that the plan does not have, and keeps one phase of each processor.
     fn clean(&mut self, board: &Board) {
         let mut counted = 0u32;
         for p in 0..16u8 {

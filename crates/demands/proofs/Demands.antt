@@ -1,0 +1,150 @@
+-- The three demands, each with the definitions that say it and the theorem or promise that meets it. Assumes nothing.
+-- Theorems that stand elsewhere and are passed on from here: the round trips of demand 2, demand 3, and freedom from deadlock.
+pub use Rattle.plans.proofs.RoundTrip.{written-in-buffer, written-back}
+pub use Rattle.runs.proofs.refinement.WholeRuns.{whole-runs}
+pub use Rattle.freedom.proofs.Freedom.{no-deadlock}
+use Prim.Native.Nat.{ℕ, _<_}
+use mathlib.Core.Path.{_≡_, refl, _∙_}
+use mathlib.Core.List.{List}
+use lib.ListN.{length}
+use Rattle.refusals.specs.Due.{said}
+use Rattle.refusals.proofs.Numbers.{positive-not-zero, said-refusal}
+use Rattle.encoding.specs.Buffers.{overwritten}
+use Rattle.plans.specs.declared.Plan.{Plan}
+use Rattle.plans.specs.Acceptance.{planFault}
+use Rattle.plans.specs.Reading.{readFault, readSays, planIn, planRead, blankPlan}
+use Rattle.plans.specs.Writing.{planBytes, writeFault, writeSays, writtenBuffer}
+use Rattle.calls.specs.declared.Call.{Call}
+use Rattle.calls.specs.Replies.{refusedWith}
+use Rattle.arbiter.specs.declared.Board.{Board}
+use Rattle.arbiter.specs.declared.State.{State}
+use Rattle.arbiter.specs.Faults.{processorFault, issueFault, completeFault}
+use Rattle.arbiter.specs.Calls.{Answer, phasesOf, putState, takenState, issueDone, takenDone, lateMark, ruled, issued, completed, answered}
+use Rattle.arbiter.specs.Fresh.{boardOf, blankBoard, freshBoard}
+use Rattle.arbiter.specs.InPlace.{boardBy, stateBy}
+use Rattle.queries.specs.Queries.{reachFault, reachBytes, reachQuery, reachScratch}
+use Rattle.logs.specs.Records.{fieldsIn, noFields, recordFault, readRecord}
+
+-- Demand 1. What meets no refusal condition is carried out to the end; everything else is refused by the number due in that
+-- case alone, with the state and all lent buffers unchanged.
+--
+-- Which number is due is said by readFault, writeFault, planFault, issueFault, completeFault, processorFault, reachFault,
+-- recordFault and tailFault; 0 is none. The functions promise, for every value:
+--   plan_reader::read        outcomeSays (r .outcome) ≡ readSays bytes, and r .plan ≡ planRead bytes
+--   plan_writer::write       outcomeSays r ≡ writeSays plan buffer at, and the buffer after it ≡ writtenBuffer plan buffer at
+--   plans::check             verdictNumber r ≡ planFault plan
+--   arbiter::fresh_of        verdictNumber (r .verdict) ≡ planFault plan, r .board ≡ freshBoard plan, r .state ≡ freshState
+--   arbiter::answer          answerOf r ≡ answered board state call
+--   arbiter::issue           answerOf r ≡ issued board state processor entry tick
+--   arbiter::complete        answerOf r ≡ completed board state processor tick
+--   arbiter::answer_on       answerOf r ≡ answered, of the board whose terms, rows and lengths it was lent
+--   arbiter::answer_in_place answerBy r and the arrays after it ≡ answered, of the board and the state that it was lent
+--   arbiter::issue_in_place  the same with issued, and complete_in_place with completed
+--   queries::phase_of        phaseSays r ≡ phaseQuery board state processor
+--   queries::direct_waits    maskSays r ≡ waitsQuery board state processor
+--   queries::reach           maskSays r ≡ reachQuery board state processor scratch, the scratch after it ≡ reachScratch ..
+--   logs::read_count         countSays r ≡ readCount bytes
+--   logs::read_record        recordSays r ≡ readRecord bytes
+--   logs::check_tail         verdictNumber r ≡ tailFault bytes
+-- and the lines of listings and replay: lineSays and lineBuffer of firstLine, callLine and refusalLine.
+
+pub refused-reading-gives-number-only : (s : List ℕ) → 0 < readFault s
+    → (readSays s ≡ record { number = readFault s; value = 0 }) × (planRead s ≡ blankPlan)
+unfolding planRead
+refused-reading-gives-number-only s due = (said-refusal (readFault s) _ due, rw (positive-not-zero (readFault s) due))
+
+pub accepted-reading-gives-plan : (s : List ℕ) → readFault s ≡ 0 → planRead s ≡ planIn s
+unfolding planRead
+accepted-reading-gives-plan s ok = rw ok
+
+module _ (p : Plan) (buffer : List ℕ) (at : ℕ) where
+  pub refused-writing-changes-nothing : 0 < writeFault p (length buffer) at
+      → (writeSays p buffer at ≡ record { number = writeFault p (length buffer) at; value = 0 })
+      × (writtenBuffer p buffer at ≡ buffer)
+  unfolding writtenBuffer
+  refused-writing-changes-nothing due =
+      (said-refusal (writeFault p (length buffer) at) _ due, rw (positive-not-zero (writeFault p (length buffer) at) due))
+
+  pub accepted-writing-puts-plan : writeFault p (length buffer) at ≡ 0
+      → writtenBuffer p buffer at ≡ overwritten buffer at (planBytes p)
+  unfolding writtenBuffer
+  accepted-writing-puts-plan ok = rw ok
+
+pub refused-plan-has-no-board : (p : Plan) → 0 < planFault p → freshBoard p ≡ blankBoard
+unfolding freshBoard
+refused-plan-has-no-board p due = rw (positive-not-zero (planFault p) due)
+
+pub accepted-plan-has-its-board : (p : Plan) → planFault p ≡ 0 → freshBoard p ≡ boardOf p
+unfolding freshBoard
+accepted-plan-has-its-board p ok = rw ok
+
+-- What is due for a call, and what an accepted one is carried out to.
+abbrev pub callFault : Board → State → Call → ℕ
+callFault b s (Call.Issue p e t) = issueFault (b .terms) (s .last) (phasesOf b s) p e t
+callFault b s (Call.Complete p t) = completeFault (b .terms) (s .last) (phasesOf b s) p t
+
+abbrev pub carriedOut : Board → State → Call → Answer
+carriedOut b s (Call.Issue p e t) = issueDone b (putState b s p e t) p
+carriedOut b s (Call.Complete p t) = takenDone b (takenState b s p t) (lateMark b s p t)
+
+module _ (b : Board) (s : State) where
+  call-is-ruled : (c : Call) → answered b s c ≡ ruled (callFault b s c) s (carriedOut b s c)
+  unfolding issued completed
+  call-is-ruled (Call.Issue p e t) = refl
+  call-is-ruled (Call.Complete p t) = refl
+
+  pub refused-call-changes-nothing : (c : Call) → 0 < callFault b s c
+      → answered b s c ≡ record { reply = refusedWith (callFault b s c); state = s }
+  refused-call-changes-nothing c due = call-is-ruled c ∙ rw (positive-not-zero (callFault b s c) due)
+
+  pub accepted-call-is-carried-out : (c : Call) → callFault b s c ≡ 0 → answered b s c ≡ carriedOut b s c
+  accepted-call-is-carried-out c ok = call-is-ruled c ∙ rw ok
+
+  -- A call in place, lent the parts of a board and a state, answers what the call on the values answers.
+  pub in-place-is-by-value : (c : Call)
+      → answered (boardBy (b .terms) (b .rows) (b .lengths))
+      (stateBy (record { last = s .last; phases = s .phases }) (s .entry) (s .since) (s .earlier)) c
+      ≡ answered b s c
+  unfolding putState takenState issueDone takenDone issued completed
+  in-place-is-by-value (Call.Issue p e t) = refl
+  in-place-is-by-value (Call.Complete p t) = refl
+
+  -- Also of the state of a processor and of its direct waits: each is `said` of what is due and its value.
+  pub refused-query-gives-number-only : (p value : ℕ) → 0 < processorFault (b .terms) p
+      → said (processorFault (b .terms) p) value ≡ record { number = processorFault (b .terms) p; value = 0 }
+  refused-query-gives-number-only p value due = said-refusal (processorFault (b .terms) p) value due
+
+  pub refused-reach-changes-nothing : (p : ℕ) (scratch : List ℕ) → 0 < reachFault b p scratch
+      → (reachQuery b s p scratch ≡ record { number = reachFault b p scratch; value = 0 })
+      × (reachScratch b s p scratch ≡ scratch)
+  unfolding reachScratch
+  refused-reach-changes-nothing p scratch due =
+      (said-refusal (reachFault b p scratch) _ due, rw (positive-not-zero (reachFault b p scratch) due))
+
+  pub accepted-reach-fills-scratch : (p : ℕ) (scratch : List ℕ) → reachFault b p scratch ≡ 0
+      → reachScratch b s p scratch ≡ overwritten scratch 0 (reachBytes b s)
+  unfolding reachScratch
+  accepted-reach-fills-scratch p scratch ok = rw ok
+
+pub refused-record-gives-number-only : (s : List ℕ) → 0 < recordFault s
+    → readRecord s ≡ record { number = recordFault s; fields = noFields }
+unfolding readRecord
+refused-record-gives-number-only s due = rw (positive-not-zero (recordFault s) due)
+
+pub accepted-record-is-read : (s : List ℕ) → recordFault s ≡ 0 → readRecord s ≡ record { number = 0; fields = fieldsIn s }
+unfolding readRecord
+accepted-record-is-read s ok = rw ok
+
+-- Demand 2. Each accepted call grants and entitles the very processors that the rules name; late marks, byte counts, waits and
+-- figures are the ones defined; a plan written and then read is the same plan, and an accepted plan written back is the same
+-- bytes.
+--
+-- The rules are `settled`, its four steps and `admitted` (settling), `putIn`, `takenOut`, `stamped` and `done` (arbiter); plan
+-- F's twelve calls are computed by them in runs/proofs/PlanF.antt. The functions promise: settling::settle ≡ settled,
+-- conflicts::conflicts_of ≡ conflictsOf, plans::figures_of ≡ figuresOf; and the calls as above.
+
+-- The round trips are written-in-buffer (a plan written into a buffer reads back as the same plan, and takes as many bytes as
+-- were written) and written-back (a plan that was read is written as the bytes that it was read from), above.
+
+-- Demand 3, of whole lists of calls: whole-runs, above, is the claim `WholeRuns` of runs/specs/Claim.antt, over the answers of
+-- `answered`, for every accepted plan and every list of calls. Beyond the three, no-deadlock: nobody waits in a circle.

@@ -1,0 +1,163 @@
+// The edges of the arbiter's rules, run against the library. The file `stdout` has the answers due.
+use arbiter::Board;
+use arbiter::State;
+use calls::Reply;
+use libc::STDOUT_FILENO;
+use plans::ENTRIES;
+use plans::Entry;
+use plans::Plan;
+use refusals::Refusal;
+use refusals::Verdict;
+
+// The largest tick.
+const LAST_TICK: u64 = 1099511627775;
+
+fn print_refusal(refusal: Refusal) {
+    io::write_all(STDOUT_FILENO, b"refused ");
+    io::print_decimal(STDOUT_FILENO, refusals::number(refusal) as u64);
+    io::write_all(STDOUT_FILENO, b"\n");
+}
+
+fn print_reply(reply: Reply) {
+    match reply {
+        Reply::Done {
+            granted,
+            entitled,
+            late,
+        } => {
+            io::print_hex(STDOUT_FILENO, granted as u64, 4);
+            io::write_all(STDOUT_FILENO, b" ");
+            io::print_hex(STDOUT_FILENO, entitled as u64, 4);
+            io::write_all(STDOUT_FILENO, b" ");
+            io::print_decimal(STDOUT_FILENO, late as u64);
+            io::write_all(STDOUT_FILENO, b"\n");
+        }
+        Reply::Refused(refusal) => print_refusal(refusal),
+    }
+}
+
+fn issue(board: Board, state: State, processor: u8, entry: u8, tick: u64) -> State {
+    let answered = arbiter::issue(board, state, processor, entry, tick);
+    let reply = answered.reply;
+    print_reply(reply);
+    answered.state
+}
+
+fn complete(board: Board, state: State, processor: u8, tick: u64) -> State {
+    let answered = arbiter::complete(board, state, processor, tick);
+    let reply = answered.reply;
+    print_reply(reply);
+    answered.state
+}
+
+// Two writes on one resource, of lengths 30 and 20, and a read of it of length 5.
+fn plan(processors: u8) -> Plan {
+    let mut entries = [Entry {
+        kind: 0,
+        set: 0,
+        length: 0,
+    }; ENTRIES];
+    entries[0] = Entry {
+        kind: 1,
+        set: 1,
+        length: 30,
+    };
+    entries[1] = Entry {
+        kind: 1,
+        set: 1,
+        length: 20,
+    };
+    entries[2] = Entry {
+        kind: 0,
+        set: 1,
+        length: 5,
+    };
+    Plan {
+        processors: processors,
+        resources: 1,
+        count: 3,
+        entries: entries,
+    }
+}
+
+// Clauses 2.3 and 4.5: plans of 1 and of 16 processors, and none of 0 or 17; the highest issues, the next is refused.
+fn counts(processors: u8) {
+    let fresh = arbiter::fresh_of(plan(processors));
+    let verdict = fresh.verdict;
+    match verdict {
+        Verdict::Refused(refusal) => print_refusal(refusal),
+        Verdict::Accepted => {
+            let board = fresh.board;
+            let state = fresh.state;
+            let held = issue(
+                board,
+                state,
+                if processors == 0 { 0 } else { processors - 1 },
+                0,
+                0,
+            );
+            issue(board, held, processors, 0, 0);
+        }
+    }
+}
+
+// Clause 4.5: the same tick again is taken, an earlier one is refused, and a refused tick does not count.
+fn ticks(board: Board, fresh: State) {
+    let a = issue(board, fresh, 0, 2, 7);
+    let b = issue(board, a, 1, 2, 7);
+    let c = issue(board, b, 2, 2, 6);
+    let d = complete(board, c, 0, 6);
+    let e = complete(board, d, 0, 7);
+    complete(board, e, 1, 7);
+}
+
+// Clause 4.8: a hold as long as the length is not late, and one tick more is.
+fn holds(board: Board, fresh: State) {
+    let a = issue(board, fresh, 0, 1, 100);
+    let b = complete(board, a, 0, 120);
+    let c = issue(board, b, 0, 1, 120);
+    complete(board, c, 0, 141);
+}
+
+// Clause 4.8: a hold is counted from the grant and not from the issue.
+fn holds_after_a_wait(board: Board, fresh: State) {
+    let a = issue(board, fresh, 0, 0, 0);
+    let b = issue(board, a, 1, 1, 1);
+    let c = complete(board, b, 0, 30);
+    complete(board, c, 1, 50);
+}
+
+// The largest tick is taken, one above is not.
+fn last_ticks(board: Board, fresh: State) {
+    let a = issue(board, fresh, 0, 0, LAST_TICK + 1);
+    let b = issue(board, a, 0, 0, 18446744073709551615);
+    let c = issue(board, b, 0, 0, LAST_TICK);
+    let d = complete(board, c, 0, LAST_TICK + 1);
+    complete(board, d, 0, LAST_TICK);
+}
+
+// Busy, idle and unheld, with an entitled and with a waiting request.
+fn phases(board: Board, fresh: State) {
+    let a = complete(board, fresh, 0, 1);
+    let b = issue(board, a, 0, 0, 1);
+    let c = issue(board, b, 0, 0, 1);
+    let d = issue(board, c, 1, 2, 2);
+    let e = complete(board, d, 1, 2);
+    let f = issue(board, e, 2, 1, 3);
+    complete(board, f, 2, 3);
+}
+
+fn main() {
+    counts(0);
+    counts(1);
+    counts(16);
+    counts(17);
+    let fresh = arbiter::fresh_of(plan(4));
+    let board = fresh.board;
+    let state = fresh.state;
+    ticks(board, state);
+    holds(board, state);
+    holds_after_a_wait(board, state);
+    last_ticks(board, state);
+    phases(board, state);
+}
