@@ -1,4 +1,4 @@
-//! The rules of document 01, section "Grants", on a list of requests in order of issue.
+//! The rules of the specification's sections 4, 5 and 7, on a list of requests in order of issue.
 use crate::plan::{Plan, Refusal};
 
 #[derive(Clone, Copy, PartialEq, Debug)]

@@ -16,11 +16,11 @@ pub fn output_of(program: &str, input: &[u8]) -> Vec<u8> {
     output.stdout
 }
 
-/// Compares logs `from` to `from + count`. A log that differs is written to the folder, for a replay.
+/// Compares logs `from` to `from + count`; with all queries after each call, the short ones alone. A log that differs is written to the folder, for a replay.
 pub fn compare(program: &str, queries: bool, from: u64, count: u64, folder: &str) -> bool {
     let mut failed = 0;
     for seed in from..from + count {
-        let log = logs::log(seed);
+        let log = if queries { logs::short(seed) } else { logs::log(seed) };
         let mut want = Vec::new();
         listing(&log, queries, &mut want);
         if output_of(program, &log) != want {

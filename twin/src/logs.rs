@@ -107,8 +107,38 @@ fn damaged(r: &mut Random, mut bytes: Vec<u8>) -> Vec<u8> {
     bytes
 }
 
-/// Log number `seed`.
+/// Log number `seed`: one in ten is long.
 pub fn log(seed: u64) -> Vec<u8> {
+    if seed % 10 == 3 { long(seed) } else { short(seed) }
+}
+
+/// A log of 500 to 1,500 calls, which lockreplay takes in two to four blocks of 512. Most have one fault, and it stands after
+/// the first block: a tail, a record that is short, a bad verb, or a completion with an entry.
+fn long(seed: u64) -> Vec<u8> {
+    let r = &mut Random::new(seed);
+    let m = r.within(1, 16) as u8;
+    let reads = r.pick(&[0, 5, 7, 10]);
+    let plan = plan(r, m, reads);
+    let count = r.within(500, 1500) as usize;
+    let calls = if r.once_in(3) { hostile(r, &plan, count) } else { mixed(r, &plan, count) };
+    let mut bytes = log_bytes(&plan, &calls);
+    let last = calls.len() as u64 - 1;
+    let record = plan_bytes(&plan).len() + 2 + 8 * r.within(last.min(512), last) as usize;
+    match r.below(5) {
+        0 => bytes.extend((0..r.within(1, 9)).map(|_| r.below(256) as u8)),
+        1 => bytes.truncate(record + r.below(8) as usize),
+        2 => bytes[record] = r.within(2, 255) as u8,
+        3 => {
+            bytes[record] = 1;
+            bytes[record + 2] = r.within(1, 255) as u8;
+        }
+        _ => {}
+    }
+    bytes
+}
+
+/// Log number `seed`, of at most 200 calls.
+pub fn short(seed: u64) -> Vec<u8> {
     let r = &mut Random::new(seed);
     let m = r.within(1, 16) as u8;
     let reads = r.pick(&[0, 5, 7, 10]);

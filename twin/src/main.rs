@@ -1,5 +1,5 @@
-//! A second implementation of document 01, written from the paper alone and as plain as can be: a list of requests in
-//! order of issue, sets of resources, no conflict rows. It shares no code or table with the library.
+//! A second implementation of the specification, as plain as can be: requests are a list in order of issue, and
+//! resources are sets. It shares no code or table with the library.
 //!
 //! twin replay | queries | viewer            a log or a plan on standard input
 //! twin measure LOG LISTING                  the longest waits of a listing against the plan's figures

@@ -1,4 +1,4 @@
-//! Whole runs measured, from a log's calls and the answers of a listing alone: document 01, "Whole runs".
+//! Whole runs measured, from a log's calls and the answers of a listing alone. Specification, section 6.
 use crate::arbiter::Call;
 use crate::listing::take_call;
 use crate::plan::{take_number, Plan};

@@ -1,7 +1,7 @@
 //! Plans: their bytes, what is refused, the two figures.
 use std::collections::BTreeSet;
 
-/// A refusal's number in document 01.
+/// A refusal's number: clause 8.1 of the specification.
 pub type Refusal = u8;
 
 pub type Resources = BTreeSet<u8>;
@@ -80,7 +80,7 @@ impl Plan {
         (self.processors as u64 - 1) * self.read_figure()
     }
 
-    /// A write's names with the whole set of every read that shares a resource with those names.
+    /// Clause 3.1: a write's names, joined with those of each read that shares one of them.
     fn widened(&self, write: &Entry) -> Resources {
         let mut set = write.names.clone();
         for read in self.entries.iter().filter(|e| !e.write) {
