@@ -1,10 +1,12 @@
 //! Prints the two figures of a plan file, or the number of its refusal.
 //! usage: plan_figures FILE
+//! Exit status: 0 for an accepted plan, 1 for a refused one, 2 where there is no file.
+//! The figures hold if every holder keeps to its entry's declared length; one hold that is longer, and they promise nothing.
 use std::process::ExitCode;
 
 /// The viewer's functions, as include/bittmelon.h declares them. Nothing checks these lines against the library.
 mod viewer {
-    extern "C" {
+    unsafe extern "C" {
         fn bittmelon_plan_refusal(bytes: *const u8, count: usize) -> u32;
         fn bittmelon_read_figure(bytes: *const u8, count: usize) -> u32;
         fn bittmelon_write_figure(bytes: *const u8, count: usize) -> u32;
@@ -28,8 +30,13 @@ fn main() -> ExitCode {
         return ExitCode::from(2);
     };
     match viewer::figures(&plan) {
-        Ok((read, write)) => println!("read {read} write {write}"),
-        Err(number) => println!("refused {number}"),
+        Ok((read, write)) => {
+            println!("read {read} write {write}");
+            ExitCode::SUCCESS
+        }
+        Err(number) => {
+            println!("refused {number}");
+            ExitCode::FAILURE
+        }
     }
-    ExitCode::SUCCESS
 }

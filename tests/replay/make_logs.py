@@ -143,4 +143,5 @@ def main():
         (folder / f"{name}.log").write_bytes(data)
 
 
-main()
+if __name__ == "__main__":
+    main()

@@ -1,5 +1,5 @@
 #!/usr/bin/env python3
-"""Write tests/viewer/vectors.txt: plan bytes with the answers that document 01 asks for.
+"""Write tests/viewer/vectors.txt: plan bytes with the answers that the specification asks for.
 
 The answers come from the plain reader below, which shares nothing with the library, and the cases that a person can
 check by hand are written with their answers, which must agree with it. Run: make_vectors.py > vectors.txt
