@@ -1,4 +1,1 @@
-pub mod Cleaning
-pub mod PutIn
-pub mod Answers
 pub mod PlanEntries

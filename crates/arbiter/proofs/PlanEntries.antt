@@ -15,7 +15,7 @@ use Rattle.plans.specs.Entries.{mostEntries, isWrite, countedEntries, blankEntr
 use Rattle.conflicts.specs.declared.Conflicts.{Conflicts}
 use Rattle.conflicts.specs.Conflict.{conflictsOf}
 use Rattle.conflicts.proofs.Widening.{entry-at}
-use Rattle.arbiter.specs.declared.Board.{Board}
+use Rattle.states.specs.declared.Board.{Board}
 use Rattle.arbiter.specs.Fresh.{boardOf}
 
 -- Past the count an entry is the blank one.

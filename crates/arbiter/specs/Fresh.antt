@@ -8,8 +8,8 @@ use Rattle.plans.specs.declared.Plan.{Plan}
 use Rattle.plans.specs.Entries.{slots, mostEntries, isWrite, entryAt}
 use Rattle.plans.specs.Acceptance.{planFault}
 use Rattle.conflicts.specs.Conflict.{tabulate, conflictsOf}
-use Rattle.arbiter.specs.declared.Board.{Board}
-use Rattle.arbiter.specs.declared.State.{State}
+use Rattle.states.specs.declared.Board.{Board}
+use Rattle.states.specs.declared.State.{State}
 
 -- Clauses 4.3 and 1.5: no request is active, and the last accepted tick is 0. A processor has room for one request.
 abbrev pub freshState : State

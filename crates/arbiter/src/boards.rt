@@ -1,8 +1,5 @@
 // A fresh arbiter of a plan. Specification, clause 4.3.
-use crate::Board;
 use crate::Fresh;
-use crate::State;
-use crate::Terms;
 use conflicts::conflicts_of;
 use masks::add64;
 use plans::ENTRIES;
@@ -13,6 +10,9 @@ use plans::check;
 use plans::is_write;
 use refusals::Verdict;
 use settling::Phases;
+use states::Board;
+use states::State;
+use states::Terms;
 ghost use mathlib.Core.Path.{_≡_};
 ghost use mathlib.Core.Bool.{cond, _&&_};
 ghost use lib.Dec.{ltb};

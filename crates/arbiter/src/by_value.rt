@@ -1,17 +1,18 @@
 // Calls on a board and a state by value: the state goes in, and comes back with the answer.
 use crate::Answered;
-use crate::Board;
-use crate::Moment;
-use crate::State;
-use crate::Terms;
-use crate::in_place::answer_in_place;
-use crate::requests::clean;
+use acting::answer_in_place;
 use calls::Call;
 use plans::ENTRIES;
 use settling::Phases;
+use states::Board;
+use states::Moment;
+use states::State;
+use states::Terms;
+use states::clean;
 ghost use mathlib.Core.Path.{_≡_};
-ghost use Rattle.arbiter.specs.Calls.{phasesOf, issued, completed, answered, answerOf};
-ghost use Rattle.arbiter.specs.InPlace.{boardBy};
+ghost use Rattle.acting.specs.Calls.{phasesOf, issued, completed, answered};
+ghost use Rattle.acting.specs.InPlace.{boardBy};
+ghost use Rattle.arbiter.specs.Answers.{answerOf};
 
 // The phases of the requests that count: who waits, who is entitled and who holds.
 pub fn phases_of(board: Board, state: State) -> Phases

@@ -1,10 +1,10 @@
 // Accepted calls, in place, on a board on which the first so many processors are never idle: each turn completes a
 // holder and issues again at once.
 use crate::board::plan;
-use arbiter::Board;
-use arbiter::Moment;
-use arbiter::State;
 use calls::Reply;
+use states::Board;
+use states::Moment;
+use states::State;
 ghost use Prim.Native.Nat.{_<_, _≤_};
 
 // The next number of a fixed sequence.
@@ -73,7 +73,7 @@ fn sum_from(board: Board, full: State, turns: u64) -> u64
         seed = next(seed);
         let p = holder_from(moment.phases.holding, (seed / 65536 % 16) as u32) as u8;
         let e = (seed / 1048576 % 64) as u8;
-        let first = arbiter::complete_in_place(
+        let first = acting::complete_in_place(
             terms,
             &rows,
             &lengths,
@@ -85,7 +85,7 @@ fn sum_from(board: Board, full: State, turns: u64) -> u64
             tick,
         );
         let left = first.moment;
-        let second = arbiter::issue_in_place(
+        let second = acting::issue_in_place(
             terms,
             &rows,
             left,

@@ -16,12 +16,12 @@ use Rattle.plans.specs.Reading.{readFault, readSays, planIn, planRead, blankPla
 use Rattle.plans.specs.Writing.{planBytes, writeFault, writeSays, writtenBuffer}
 use Rattle.calls.specs.declared.Call.{Call}
 use Rattle.calls.specs.Replies.{refusedWith}
-use Rattle.arbiter.specs.declared.Board.{Board}
-use Rattle.arbiter.specs.declared.State.{State}
-use Rattle.arbiter.specs.Faults.{processorFault, issueFault, completeFault}
-use Rattle.arbiter.specs.Calls.{Answer, phasesOf, putState, takenState, issueDone, takenDone, lateMark, ruled, issued, completed, answered}
+use Rattle.states.specs.declared.Board.{Board}
+use Rattle.states.specs.declared.State.{State}
+use Rattle.states.specs.Faults.{processorFault, issueFault, completeFault}
+use Rattle.acting.specs.Calls.{Answer, phasesOf, putState, takenState, issueDone, takenDone, lateMark, ruled, issued, completed, answered}
 use Rattle.arbiter.specs.Fresh.{boardOf, blankBoard, freshBoard}
-use Rattle.arbiter.specs.InPlace.{boardBy, stateBy}
+use Rattle.acting.specs.InPlace.{boardBy, stateBy}
 use Rattle.queries.specs.Queries.{reachFault, reachBytes, reachQuery, reachScratch}
 use Rattle.logs.specs.Records.{fieldsIn, noFields, recordFault, readRecord}
 
@@ -38,8 +38,8 @@ use Rattle.logs.specs.Records.{fieldsIn, noFields, recordFault, readRecord}
 --   arbiter::issue           answerOf r ≡ issued board state processor entry tick
 --   arbiter::complete        answerOf r ≡ completed board state processor tick
 --   arbiter::answer_on       answerOf r ≡ answered, of the board whose terms, rows and lengths it was lent
---   arbiter::answer_in_place answerBy r and the arrays after it ≡ answered, of the board and the state that it was lent
---   arbiter::issue_in_place  the same with issued, and complete_in_place with completed
+--   acting::answer_in_place answerBy r and the arrays after it ≡ answered, of the board and the state that it was lent
+--   acting::issue_in_place  the same with issued, and complete_in_place with completed
 --   queries::phase_of        phaseSays r ≡ phaseQuery board state processor
 --   queries::direct_waits    maskSays r ≡ waitsQuery board state processor
 --   queries::reach           maskSays r ≡ reachQuery board state processor scratch, the scratch after it ≡ reachScratch ..

@@ -4,12 +4,12 @@ use Prim.Native.Nat.{ℕ, _+_, _≤_, _<_}
 use mathlib.Core.Path.{_≡_, refl, sym, ap, _∙_}
 use mathlib.Core.Bool.{true, not}
 use native.Mathlib.Omega.{arith}
-use Rattle.arbiter.specs.declared.Board.{Board}
-use Rattle.arbiter.specs.declared.State.{State}
+use Rattle.states.specs.declared.Board.{Board}
+use Rattle.states.specs.declared.State.{State}
 use Rattle.plans.specs.Entries.{slots}
 use Rattle.settling.specs.declared.Phases.{Phases}
 use Rattle.settling.specs.Requests.{Facts, isWriter}
-use Rattle.arbiter.specs.Calls.{factsOf}
+use Rattle.acting.specs.Calls.{factsOf}
 use Rattle.runs.specs.Claim.{everyEntry}
 use Rattle.runs.proofs.columns.Columns.{Phase, idle, waiting, entitled, holding, Requests}
 use Rattle.runs.proofs.columns.Phases.{is-active}

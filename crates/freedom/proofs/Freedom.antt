@@ -12,10 +12,10 @@ use Rattle.plans.specs.Entries.{slots}
 use Rattle.plans.specs.Acceptance.{planFault}
 use Rattle.calls.specs.declared.Call.{Call}
 use Rattle.settling.specs.Requests.{unsatisfied}
-use Rattle.arbiter.specs.declared.Board.{Board}
-use Rattle.arbiter.specs.declared.State.{State}
-use Rattle.arbiter.specs.Requests.{isHolding, cleaned}
-use Rattle.arbiter.specs.Calls.{phasesOf}
+use Rattle.states.specs.declared.Board.{Board}
+use Rattle.states.specs.declared.State.{State}
+use Rattle.states.specs.Requests.{isHolding, cleaned}
+use Rattle.acting.specs.Calls.{phasesOf}
 use Rattle.arbiter.specs.Fresh.{boardOf}
 use Rattle.runs.proofs.columns.Columns.{holding}
 use Rattle.runs.proofs.refinement.State.{unsatisfied-phase, held-bit}

@@ -5,12 +5,12 @@ use mathlib.Core.Path.{_≡_, refl, ap, _∙_}
 use mathlib.Core.Bool.{Bool, true, false, not}
 use mathlib.Core.Logic.{_⊎_, inl, inr}
 use native.Mathlib.Omega.{arith}
-use Rattle.arbiter.specs.declared.Board.{Board}
-use Rattle.arbiter.specs.declared.State.{State}
+use Rattle.states.specs.declared.Board.{Board}
+use Rattle.states.specs.declared.State.{State}
 use Rattle.plans.specs.Entries.{slots}
 use Rattle.settling.specs.declared.Phases.{Phases}
 use Rattle.settling.specs.Requests.{Facts, isWriter}
-use Rattle.arbiter.specs.Calls.{factsOf}
+use Rattle.acting.specs.Calls.{factsOf}
 use Rattle.runs.specs.Claim.{everyEntry}
 use Rattle.runs.proofs.columns.Columns.{waiting, entitled, holding, Settled}
 use Rattle.runs.proofs.columns.Phases.{Unsatisfied, unsatisfied-or-holding}

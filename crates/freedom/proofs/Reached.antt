@@ -6,9 +6,9 @@ use Rattle.plans.specs.declared.Plan.{Plan}
 use Rattle.plans.specs.Acceptance.{planFault}
 use Rattle.calls.specs.declared.Call.{Call}
 use Rattle.calls.specs.Calls.{tickOf}
-use Rattle.arbiter.specs.declared.Board.{Board}
-use Rattle.arbiter.specs.declared.State.{State}
-use Rattle.arbiter.specs.Calls.{answered}
+use Rattle.states.specs.declared.Board.{Board}
+use Rattle.states.specs.declared.State.{State}
+use Rattle.acting.specs.Calls.{answered}
 use Rattle.arbiter.specs.Fresh.{boardOf, freshState}
 use Rattle.runs.specs.Claim.{Closed, everyEntry}
 use Rattle.runs.proofs.history.Frame.{Answers, refused, acts, answers}

@@ -4,12 +4,12 @@ use mathlib.Core.Path.{_≡_}
 use mathlib.Core.Bool.{Bool, true}
 use mathlib.Core.List.{List, [], _∷_}
 use Rattle.plans.specs.declared.Plan.{Plan}
-use Rattle.arbiter.specs.declared.Board.{Board}
-use Rattle.arbiter.specs.declared.State.{State}
+use Rattle.states.specs.declared.Board.{Board}
+use Rattle.states.specs.declared.State.{State}
 use Rattle.calls.specs.declared.Call.{Call}
 use Rattle.settling.specs.Requests.{unsatisfied}
-use Rattle.arbiter.specs.Requests.{isHolding}
-use Rattle.arbiter.specs.Calls.{phasesOf, answered}
+use Rattle.states.specs.Requests.{isHolding}
+use Rattle.acting.specs.Calls.{phasesOf, answered}
 use Rattle.arbiter.specs.Fresh.{boardOf, freshState}
 use Rattle.queries.specs.Queries.{Chain}
 

@@ -2,8 +2,6 @@
 // A thin loop over `replay`: no contract can say what is read or written, so the work is done on slices there.
 // `replay/specs/Buffers.antt` has the same turns over the same buffers as a definition, which is proved to be the
 // listing.
-use arbiter::Board;
-use arbiter::State;
 use encoding::Outcome;
 use libc::STDIN_FILENO;
 use libc::STDOUT_FILENO;
@@ -18,6 +16,8 @@ use replay::count;
 use replay::finish;
 use replay::line_size;
 use replay::run;
+use states::Board;
+use states::State;
 ghost use mathlib.Core.Path.{_≡_};
 ghost use Prim.Native.Nat.{_-_, _≤_, min};
 ghost use lib.ListN.{length, drop};

@@ -15,12 +15,12 @@ use Rattle.refusals.proofs.Numbers.{first-accepted, due-accepted, number-not-ze
 use Rattle.encoding.specs.Buffers.{roomFault}
 use Rattle.encoding.proofs.Room.{room-fits}
 use Rattle.plans.specs.Entries.{slots}
-use Rattle.arbiter.specs.declared.Terms.{Terms}
-use Rattle.arbiter.specs.declared.Board.{Board}
-use Rattle.arbiter.specs.declared.State.{State}
-use Rattle.arbiter.specs.Requests.{hasProcessor, isHolding, isEntitled, isWaiting, cleaned}
-use Rattle.arbiter.specs.Faults.{processorFault}
-use Rattle.arbiter.specs.Calls.{phasesOf}
+use Rattle.states.specs.declared.Terms.{Terms}
+use Rattle.states.specs.declared.Board.{Board}
+use Rattle.states.specs.declared.State.{State}
+use Rattle.states.specs.Requests.{hasProcessor, isHolding, isEntitled, isWaiting, cleaned}
+use Rattle.states.specs.Faults.{processorFault}
+use Rattle.acting.specs.Calls.{phasesOf}
 use Rattle.queries.specs.Queries.{stateNumber, scratchSize}
 
 -- ---- an answer says what its check found

@@ -9,8 +9,8 @@ use Rattle.masks.specs.Sets.{some}
 use Rattle.masks.proofs.Some.{some-found, some-at}
 use Rattle.masks.proofs.Truth.{and-left, and-right, and-both, or-cases, or-left, or-right, never-true}
 use Rattle.plans.specs.Entries.{slots}
-use Rattle.arbiter.specs.declared.Board.{Board}
-use Rattle.arbiter.specs.declared.State.{State}
+use Rattle.states.specs.declared.Board.{Board}
+use Rattle.states.specs.declared.State.{State}
 use Rattle.queries.specs.Queries.{waitsFor, Chain, direct, through, chained, reaches}
 use Rattle.queries.proofs.Growing.{Within, stops}
 use Rattle.queries.proofs.Waits.{waits-below}

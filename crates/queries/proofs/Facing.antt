@@ -14,9 +14,9 @@ use Rattle.plans.specs.Entries.{slots}
 use Rattle.conflicts.specs.Conflict.{tabulate}
 use Rattle.settling.specs.declared.Phases.{Phases}
 use Rattle.settling.specs.Requests.{Facts, active, isEarlier, isWriter, entryOf, conflicts, holdingRead, holdingWrite, entitledRead, entitledWrite, waitingRead, waitingWrite}
-use Rattle.arbiter.specs.declared.Board.{Board}
-use Rattle.arbiter.specs.declared.State.{State}
-use Rattle.arbiter.specs.Calls.{factsOf, phasesOf}
+use Rattle.states.specs.declared.Board.{Board}
+use Rattle.states.specs.declared.State.{State}
+use Rattle.acting.specs.Calls.{factsOf, phasesOf}
 use Rattle.queries.specs.Queries.{waitsIn, waitsFor}
 use Rattle.queries.specs.inner.Rows.{facing, directRows}
 

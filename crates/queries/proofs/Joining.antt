@@ -17,8 +17,8 @@ use Rattle.encoding.specs.Buffers.{overwritten}
 use Rattle.plans.specs.Entries.{slots}
 use Rattle.conflicts.specs.Conflict.{tabulate}
 use Rattle.conflicts.proofs.Tabulate.{length-tabulate, getD-tabulate, tabulate-more, tabulate-agree, fill-more}
-use Rattle.arbiter.specs.declared.Board.{Board}
-use Rattle.arbiter.specs.declared.State.{State}
+use Rattle.states.specs.declared.Board.{Board}
+use Rattle.states.specs.declared.State.{State}
 use Rattle.queries.specs.Queries.{waitsFor, chained, reaches, scratchSize, reachBytes}
 use Rattle.queries.specs.inner.Rows.{directRows, chainedRows, byteOf}
 

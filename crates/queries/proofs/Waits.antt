@@ -11,10 +11,10 @@ use Rattle.masks.proofs.Truth.{and-left, and-three, and-all-three, or-cases, or
 use Rattle.plans.specs.Entries.{slots}
 use Rattle.settling.specs.declared.Phases.{Phases}
 use Rattle.settling.specs.Requests.{Facts, isWriter, isEarlier, conflicts, unsatisfied, active, holdingRead, holdingWrite, entitledRead, entitledWrite, waitingRead, waitingWrite}
-use Rattle.arbiter.specs.declared.Board.{Board}
-use Rattle.arbiter.specs.declared.State.{State}
-use Rattle.arbiter.specs.Requests.{isHolding, isEntitled, isWaiting, cleaned}
-use Rattle.arbiter.specs.Calls.{factsOf, phasesOf}
+use Rattle.states.specs.declared.Board.{Board}
+use Rattle.states.specs.declared.State.{State}
+use Rattle.states.specs.Requests.{isHolding, isEntitled, isWaiting, cleaned}
+use Rattle.acting.specs.Calls.{factsOf, phasesOf}
 use Rattle.queries.specs.Queries.{waitsIn, waitsFor}
 
 -- Clause 7.2: why p waits for q.

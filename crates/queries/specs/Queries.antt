@@ -12,11 +12,11 @@ use Rattle.plans.specs.Entries.{slots}
 use Rattle.conflicts.specs.Conflict.{tabulate}
 use Rattle.settling.specs.declared.Phases.{Phases}
 use Rattle.settling.specs.Requests.{Facts, active, isEarlier, isWriter, conflicts, holdingRead, holdingWrite, entitledRead, entitledWrite, waitingRead, waitingWrite}
-use Rattle.arbiter.specs.declared.Board.{Board}
-use Rattle.arbiter.specs.declared.State.{State}
-use Rattle.arbiter.specs.Requests.{isHolding, isEntitled, isWaiting}
-use Rattle.arbiter.specs.Faults.{processorFault}
-use Rattle.arbiter.specs.Calls.{factsOf, phasesOf}
+use Rattle.states.specs.declared.Board.{Board}
+use Rattle.states.specs.declared.State.{State}
+use Rattle.states.specs.Requests.{isHolding, isEntitled, isWaiting}
+use Rattle.states.specs.Faults.{processorFault}
+use Rattle.acting.specs.Calls.{factsOf, phasesOf}
 use Rattle.queries.specs.declared.Phase.{Phase}
 use Rattle.queries.specs.declared.PhaseAnswer.{PhaseAnswer}
 use Rattle.queries.specs.declared.MaskAnswer.{MaskAnswer}

@@ -1,16 +1,16 @@
 // The refusals of the queries: 11, then 16. Specification, clause 7.5.
-use arbiter::Terms;
 use encoding::check_room;
 use plans::SLOTS;
 use refusals::Refusal;
 use refusals::Verdict;
 use refusals::first_of;
 use refusals::refuse_unless;
+use states::Terms;
 ghost use mathlib.Core.Path.{_≡_};
 ghost use Rattle.refusals.specs.Number.{verdictNumber};
 ghost use Rattle.refusals.specs.Due.{firstOf};
 ghost use Rattle.encoding.specs.Buffers.{roomFault};
-ghost use Rattle.arbiter.specs.Faults.{processorFault};
+ghost use Rattle.states.specs.Faults.{processorFault};
 ghost use Rattle.queries.specs.Queries.{scratchSize};
 
 // The bytes of the scratch that are written: one for each pair of processors.

@@ -1,8 +1,6 @@
 // Direct waits, by masks of processors. An entry past the rows conflicts with none. Specification, clause 7.2.
 use crate::MaskAnswer;
 use crate::checks::check_processor;
-use arbiter::Board;
-use arbiter::State;
 use arbiter::phases_of;
 use conflicts::row_at;
 use masks::has32;
@@ -11,6 +9,8 @@ use plans::SLOTS;
 use refusals::Verdict;
 use settling::ALL;
 use settling::Phases;
+use states::Board;
+use states::State;
 ghost use mathlib.Core.Path.{_≡_};
 ghost use mathlib.Core.Bool.{cond, _&&_};
 ghost use Prim.Native.Nat.{ℕ, _<_};

@@ -3,8 +3,6 @@ mod checks;
 mod direct;
 mod reaching;
 
-use arbiter::Board;
-use arbiter::State;
 use arbiter::phases_of;
 use checks::check_processor;
 pub use direct::direct_waits;
@@ -13,6 +11,8 @@ pub use reaching::reach;
 use refusals::Refusal;
 use refusals::Verdict;
 use settling::Phases;
+use states::Board;
+use states::State;
 ghost use mathlib.Core.Path.{_≡_};
 ghost use mathlib.Core.Bool.{cond};
 ghost use Rattle.masks.specs.Sets.{bit};

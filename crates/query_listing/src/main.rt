@@ -1,7 +1,5 @@
 // Replays a short log from standard input, and after each call prints what the queries answer for every processor and
 // one past the last: its number, state, direct waits and reach. A test program: its output is compared with another's.
-use arbiter::Board;
-use arbiter::State;
 use encoding::Outcome;
 use libc::STDIN_FILENO;
 use libc::STDOUT_FILENO;
@@ -13,6 +11,8 @@ use queries::MaskAnswer;
 use queries::PhaseAnswer;
 use refusals::Refusal;
 use replay::RanBlock;
+use states::Board;
+use states::State;
 ghost use Prim.Native.Nat.{_≤_};
 ghost use lib.ListN.{length};
 ghost use Rattle.encoding.specs.Buffers.{outcomeSays};

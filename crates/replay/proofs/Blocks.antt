@@ -7,8 +7,8 @@ use native.Mathlib.Nat.{add-zero, le-refl}
 use native.Mathlib.Omega.{arith}
 use lib.ListN.{length, take, drop, length-append, length-drop, take-append-drop}
 use lib.Seq.{drop-drop, take-all}
-use Rattle.arbiter.specs.declared.Board.{Board}
-use Rattle.arbiter.specs.declared.State.{State}
+use Rattle.states.specs.declared.Board.{Board}
+use Rattle.states.specs.declared.State.{State}
 use Rattle.encoding.specs.Buffers.{overwritten}
 use Rattle.replay.specs.declared.Carried.{Carried}
 use Rattle.replay.specs.declared.RanBlock.{RanBlock}

@@ -9,8 +9,8 @@ use native.Mathlib.Omega.{arith}
 use borrow.Author.Tests.{lt-leb, le-leb, ne-eqb}
 use lib.ListN.{length, take, drop, getD, length-append, length-drop, List·getD-append}
 use lib.Seq.{slice, drop-drop, drop-append-le, take-append-le}
-use Rattle.arbiter.specs.declared.Board.{Board}
-use Rattle.arbiter.specs.declared.State.{State}
+use Rattle.states.specs.declared.Board.{Board}
+use Rattle.states.specs.declared.State.{State}
 use Rattle.logs.specs.Records.{recordSize, fieldsIn, recordFault}
 use Rattle.replay.specs.Listing.{callsListing}
 use Rattle.replay.specs.Blocks.{Ran, oneMore, ran, goingOn}

@@ -11,8 +11,8 @@ use lib.Seq.{take-append-le, drop-append-le}
 use Rattle.refusals.specs.Due.{Said}
 use Rattle.plans.specs.declared.Plan.{Plan}
 use Rattle.plans.specs.Reading.{readFault, readSays, planRead}
-use Rattle.arbiter.specs.declared.Board.{Board}
-use Rattle.arbiter.specs.declared.State.{State}
+use Rattle.states.specs.declared.Board.{Board}
+use Rattle.states.specs.declared.State.{State}
 use Rattle.arbiter.specs.Fresh.{freshBoard, freshState}
 use Rattle.logs.specs.Records.{countSize, readCount}
 use Rattle.logs.proofs.Answers.{count-there}

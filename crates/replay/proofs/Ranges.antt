@@ -15,8 +15,8 @@ use Rattle.encoding.proofs.Room.{room-fits}
 use Rattle.encoding.proofs.Outcomes.{bytes-said}
 use Rattle.plans.specs.Reading.{readSays}
 use Rattle.plans.proofs.RoundTrip.{read-inside}
-use Rattle.arbiter.specs.declared.Board.{Board}
-use Rattle.arbiter.specs.declared.State.{State}
+use Rattle.states.specs.declared.Board.{Board}
+use Rattle.states.specs.declared.State.{State}
 use Rattle.logs.specs.declared.CountAnswer.{CountAnswer}
 use Rattle.logs.specs.Records.{countSize, recordSize, countSays, readCount}
 use Rattle.logs.proofs.Answers.{count-is, count-there}

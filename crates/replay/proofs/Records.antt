@@ -14,9 +14,9 @@ use Rattle.encoding.specs.declared.Outcome.{Outcome}
 use Rattle.encoding.specs.Buffers.{overwritten, outcomeSays}
 use Rattle.calls.specs.declared.Call.{Call}
 use Rattle.calls.specs.Replies.{Response}
-use Rattle.arbiter.specs.declared.Board.{Board}
-use Rattle.arbiter.specs.declared.State.{State}
-use Rattle.arbiter.specs.Calls.{answered}
+use Rattle.states.specs.declared.Board.{Board}
+use Rattle.states.specs.declared.State.{State}
+use Rattle.acting.specs.Calls.{answered}
 use Rattle.logs.specs.declared.RecordAnswer.{RecordAnswer}
 use Rattle.logs.specs.Records.{recordSize, recordFault, recordSays, readRecord}
 use Rattle.logs.proofs.Answers.{record-is, record-refused}

@@ -9,11 +9,11 @@ use native.Mathlib.Omega.{arith}
 use lib.ListN.{length, take, drop, length-append}
 use lib.Seq.{length-take-le, take-at, drop-at, drop-drop}
 use Rattle.encoding.specs.Buffers.{overwritten}
-use Rattle.arbiter.specs.declared.Board.{Board}
-use Rattle.arbiter.specs.declared.State.{State}
-use Rattle.arbiter.specs.Calls.{answered}
-use Rattle.arbiter.specs.InPlace.{boardBy}
-use Rattle.arbiter.proofs.Answers.{call-reads}
+use Rattle.states.specs.declared.Board.{Board}
+use Rattle.states.specs.declared.State.{State}
+use Rattle.acting.specs.Calls.{answered}
+use Rattle.acting.specs.InPlace.{boardBy}
+use Rattle.acting.proofs.Answers.{call-reads}
 use Rattle.logs.specs.Records.{recordSize}
 use Rattle.replay.specs.Listing.{callIn}
 use Rattle.replay.specs.Blocks.{Ran, ran}

@@ -8,8 +8,8 @@ use lib.Dec.{eqb}
 use lib.ListN.{length, drop, length-drop}
 use Rattle.plans.specs.Reading.{readFault, readSays, planRead}
 use Rattle.plans.proofs.RoundTrip.{read-is-accepted}
-use Rattle.arbiter.specs.declared.Board.{Board}
-use Rattle.arbiter.specs.declared.State.{State}
+use Rattle.states.specs.declared.Board.{Board}
+use Rattle.states.specs.declared.State.{State}
 use Rattle.arbiter.specs.Fresh.{boardOf, freshBoard, freshState}
 use Rattle.logs.specs.Records.{countSize, recordSize, readCount}
 use Rattle.replay.specs.Listing.{callsListing, listingOf}

@@ -4,9 +4,9 @@ use mathlib.Core.Bool.{Bool, true, false, cond}
 use mathlib.Core.List.{List, [], _++_}
 use lib.Dec.{eqb}
 use lib.ListN.{length, drop}
-use Rattle.arbiter.specs.declared.Board.{Board}
-use Rattle.arbiter.specs.declared.State.{State}
-use Rattle.arbiter.specs.Calls.{answered}
+use Rattle.states.specs.declared.Board.{Board}
+use Rattle.states.specs.declared.State.{State}
+use Rattle.acting.specs.Calls.{answered}
 use Rattle.logs.specs.Records.{recordSize, recordFault}
 use Rattle.listings.specs.Lines.{callLine, refusalLine}
 use Rattle.replay.specs.declared.RanBlock.{RanBlock}

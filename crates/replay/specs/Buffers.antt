@@ -7,8 +7,8 @@ use lib.Dec.{eqb}
 use lib.ListN.{length, take, drop}
 use Rattle.plans.specs.Entries.{mostEntries, planSize}
 use Rattle.plans.specs.Reading.{readSays, planRead}
-use Rattle.arbiter.specs.declared.Board.{Board}
-use Rattle.arbiter.specs.declared.State.{State}
+use Rattle.states.specs.declared.Board.{Board}
+use Rattle.states.specs.declared.State.{State}
 use Rattle.arbiter.specs.Fresh.{freshState, freshBoard}
 use Rattle.logs.specs.Records.{countSize, recordSize, readCount}
 use Rattle.replay.specs.Blocks.{ran, budget, goingOn}

@@ -7,9 +7,9 @@ use lib.ListN.{drop}
 use Rattle.plans.specs.Reading.{readFault, readSays, planRead}
 use Rattle.calls.specs.declared.Call.{Call}
 use Rattle.calls.specs.Calls.{callOf}
-use Rattle.arbiter.specs.declared.Board.{Board}
-use Rattle.arbiter.specs.declared.State.{State}
-use Rattle.arbiter.specs.Calls.{answered}
+use Rattle.states.specs.declared.Board.{Board}
+use Rattle.states.specs.declared.State.{State}
+use Rattle.acting.specs.Calls.{answered}
 use Rattle.arbiter.specs.Fresh.{boardOf, freshState}
 use Rattle.logs.specs.Records.{countSize, recordSize, readCount, fieldsIn, recordFault, tailFault}
 use Rattle.listings.specs.Lines.{firstLine, callLine, refusalLine}

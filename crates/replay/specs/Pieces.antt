@@ -2,8 +2,8 @@
 use Prim.Native.Nat.{ℕ, _-_, _*_, _/_, min}
 use mathlib.Core.List.{List, [], _∷_, _++_}
 use lib.ListN.{length, drop}
-use Rattle.arbiter.specs.declared.Board.{Board}
-use Rattle.arbiter.specs.declared.State.{State}
+use Rattle.states.specs.declared.Board.{Board}
+use Rattle.states.specs.declared.State.{State}
 use Rattle.logs.specs.Records.{recordSize}
 use Rattle.replay.specs.Blocks.{ran, goingOn}
 use Rattle.replay.specs.Ends.{endLine}

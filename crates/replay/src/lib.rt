@@ -1,8 +1,5 @@
 // A log to its listing, block by block: what `lockreplay` does between reading and writing. The bytes of a log come in
 // blocks of any size, and each block's lines go into a lent buffer.
-use arbiter::Board;
-use arbiter::State;
-use arbiter::Terms;
 use arbiter::answer_on;
 use arbiter::fresh_of;
 use encoding::Outcome;
@@ -18,6 +15,9 @@ use logs::read_record;
 use plans::ENTRIES;
 use plans::Plan;
 use refusals::Verdict;
+use states::Board;
+use states::State;
+use states::Terms;
 ghost use mathlib.Core.Path.{_≡_};
 ghost use Prim.Native.Nat.{_+_, _/_, _≤_, min};
 ghost use lib.ListN.{length};
@@ -25,7 +25,7 @@ ghost use Rattle.refusals.specs.Number.{verdictNumber};
 ghost use Rattle.encoding.specs.Buffers.{overwritten, outcomeSays};
 ghost use Rattle.plans.specs.Reading.{readSays, planRead};
 ghost use Rattle.arbiter.specs.Fresh.{freshBoard, freshState};
-ghost use Rattle.arbiter.specs.InPlace.{boardBy};
+ghost use Rattle.acting.specs.InPlace.{boardBy};
 ghost use Rattle.logs.specs.Records.{recordSize, countSays, readCount};
 ghost use Rattle.listings.specs.Lines.{lineSays, lineBuffer};
 ghost use Rattle.replay.specs.Listing.{faultLine};

@@ -11,10 +11,10 @@ use Rattle.conflicts.specs.Conflict.{widen, widenedSet, conflict, inConflict, t
 use Rattle.calls.specs.declared.Call.{Call}
 use Rattle.calls.specs.Replies.{Response, refusedWith}
 use Rattle.settling.specs.Settling.{test1, step1, test2, step2, test3, step3, test4, step4, settled, holdsAtOnce, admitted}
-use Rattle.arbiter.specs.Requests.{isHolding, isEntitled, isWaiting, cleaned}
-use Rattle.arbiter.specs.Faults.{issueFault, completeFault}
-use Rattle.arbiter.specs.Acts.{putIn, putLast, takenOut, stamped}
-use Rattle.arbiter.specs.Calls.{putState, takenState, done, issueDone, issued, takenDone, completed}
+use Rattle.states.specs.Requests.{isHolding, isEntitled, isWaiting, cleaned}
+use Rattle.states.specs.Faults.{issueFault, completeFault}
+use Rattle.acting.specs.Acts.{putIn, putLast, takenOut, stamped}
+use Rattle.acting.specs.Calls.{putState, takenState, done, issueDone, issued, takenDone, completed}
 use Rattle.arbiter.specs.Fresh.{boardOf, freshState}
 use Rattle.runs.specs.Events.{Event, events}
 

@@ -1,6 +1,4 @@
 // The edges of the arbiter's rules, run against the library. The file `stdout` has the answers due.
-use arbiter::Board;
-use arbiter::State;
 use calls::Reply;
 use libc::STDOUT_FILENO;
 use plans::ENTRIES;
@@ -8,6 +6,8 @@ use plans::Entry;
 use plans::Plan;
 use refusals::Refusal;
 use refusals::Verdict;
+use states::Board;
+use states::State;
 
 // The largest tick.
 const LAST_TICK: u64 = 1099511627775;

@@ -1,12 +1,12 @@
 // The edges of the queries' rules, run against the library. The file `stdout` has the answers due.
-use arbiter::Board;
-use arbiter::State;
 use libc::STDOUT_FILENO;
 use plans::ENTRIES;
 use plans::Entry;
 use plans::Plan;
 use queries::MaskAnswer;
 use queries::PhaseAnswer;
+use states::Board;
+use states::State;
 
 fn print_number(number: u64) {
     io::print_decimal(STDOUT_FILENO, number);

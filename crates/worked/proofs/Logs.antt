@@ -10,10 +10,10 @@ use Rattle.plans.specs.Figures.{longest}
 use Rattle.plans.specs.Reading.{entryIn, entriesIn, sectionFault, readFault, planIn, planRead}
 use Rattle.conflicts.specs.Conflict.{widen, widenedSet, conflict, inConflict, tabulate, conflictsOf}
 use Rattle.settling.specs.Settling.{test1, step1, test2, step2, test3, step3, test4, step4, settled, holdsAtOnce, admitted}
-use Rattle.arbiter.specs.Requests.{isHolding, isEntitled, isWaiting, cleaned}
-use Rattle.arbiter.specs.Faults.{issueFault, completeFault}
-use Rattle.arbiter.specs.Acts.{putIn, putLast, takenOut, stamped}
-use Rattle.arbiter.specs.Calls.{putState, takenState, done, issueDone, takenDone, issued, completed}
+use Rattle.states.specs.Requests.{isHolding, isEntitled, isWaiting, cleaned}
+use Rattle.states.specs.Faults.{issueFault, completeFault}
+use Rattle.acting.specs.Acts.{putIn, putLast, takenOut, stamped}
+use Rattle.acting.specs.Calls.{putState, takenState, done, issueDone, takenDone, issued, completed}
 use Rattle.arbiter.specs.Fresh.{boardOf}
 use Rattle.logs.specs.Records.{fieldsIn, recordFault}
 use Rattle.listings.specs.Digits.{digits, hex4}

@@ -1,7 +1,7 @@
 -- `replay::replay_record` meets its contract: a record that was read has what the law of its case says. Assumes nothing.
 use mathlib.Core.Path.{ap}
 use borrow.Author.Needs.{needs}
-use Rattle.arbiter.specs.Calls.{Answer}
+use Rattle.acting.specs.Calls.{Answer}
 use Rattle.replay.proofs.Records.{call-carried, refusal-carried}
 use Rattle.replay.proofs.replay_record.Statement.{statement}
 use Rattle.replay.proofs.replay_record.Tie as tie

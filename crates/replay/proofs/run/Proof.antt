@@ -2,7 +2,7 @@
 use Prim.Native.Nat.{_-_}
 use mathlib.Core.Path.{_∙_, sym}
 use native.Mathlib.Omega.{arith}
-use Rattle.arbiter.specs.InPlace.{boardBy}
+use Rattle.acting.specs.InPlace.{boardBy}
 use Rattle.replay.specs.Blocks.{ran}
 use Rattle.replay.proofs.Blocks.{Leaves, first-turn, last-turn, ended-turn, next-turn, one-fits}
 use Rattle.replay.proofs.Turns.{ran-reads}

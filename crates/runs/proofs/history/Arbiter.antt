@@ -7,9 +7,9 @@ use lib.ListN.{getD}
 use Rattle.masks.specs.Sets.{bit}
 use Rattle.plans.specs.Entries.{slots}
 use Rattle.settling.specs.Requests.{conflicts}
-use Rattle.arbiter.specs.declared.Board.{Board}
-use Rattle.arbiter.specs.declared.State.{State}
-use Rattle.arbiter.specs.Calls.{factsOf}
+use Rattle.states.specs.declared.Board.{Board}
+use Rattle.states.specs.declared.State.{State}
+use Rattle.acting.specs.Calls.{factsOf}
 use Rattle.arbiter.specs.Fresh.{freshState}
 use Rattle.runs.specs.History.{Act}
 use Rattle.runs.proofs.history.Keeps.{KeptTo, WaitsTo}

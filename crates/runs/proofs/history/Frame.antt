@@ -13,11 +13,11 @@ use Rattle.calls.specs.declared.Call.{Call}
 use Rattle.calls.specs.Calls.{tickOf}
 use Rattle.calls.specs.Replies.{refusedWith}
 use Rattle.settling.specs.Requests.{unsatisfied, active}
-use Rattle.arbiter.specs.declared.Board.{Board}
-use Rattle.arbiter.specs.declared.State.{State}
-use Rattle.arbiter.specs.Faults.{issueFault, completeFault}
-use Rattle.arbiter.specs.Acts.{became}
-use Rattle.arbiter.specs.Calls.{phasesOf, putState, takenState, Answer, done, ruled, issueDone, issued, lateMark, takenDone, completed, answered}
+use Rattle.states.specs.declared.Board.{Board}
+use Rattle.states.specs.declared.State.{State}
+use Rattle.states.specs.Faults.{issueFault, completeFault}
+use Rattle.acting.specs.Acts.{became}
+use Rattle.acting.specs.Calls.{phasesOf, putState, takenState, Answer, done, ruled, issueDone, issued, lateMark, takenDone, completed, answered}
 use Rattle.runs.specs.History.{Act, puts, takes, actsOf}
 use Rattle.runs.proofs.history.Verdicts.{issue-taken, complete-taken}
 use Rattle.runs.proofs.columns.Columns.{holding}

@@ -10,9 +10,9 @@ use borrow.Author.Tests.{ne-eqb}
 use Rattle.masks.specs.Sets.{bit}
 use Rattle.calls.specs.declared.Call.{Call}
 use Rattle.calls.specs.Calls.{tickOf}
-use Rattle.arbiter.specs.declared.Board.{Board}
-use Rattle.arbiter.specs.declared.State.{State}
-use Rattle.arbiter.specs.Calls.{answered}
+use Rattle.states.specs.declared.Board.{Board}
+use Rattle.states.specs.declared.State.{State}
+use Rattle.acting.specs.Calls.{answered}
 use Rattle.arbiter.specs.Fresh.{freshState}
 use Rattle.runs.specs.Events.{events}
 use Rattle.runs.specs.History.{History, Act, allActing, granting, counting, countedIn, nothing, holds}

@@ -10,9 +10,9 @@ use Rattle.masks.proofs.Truth.{and-left, and-right}
 use Rattle.plans.specs.Entries.{slots}
 use Rattle.settling.specs.declared.Phases.{Phases}
 use Rattle.settling.specs.Requests.{unsatisfied, active}
-use Rattle.arbiter.specs.declared.Terms.{Terms}
-use Rattle.arbiter.specs.Requests.{hasProcessor}
-use Rattle.arbiter.specs.Faults.{tickFault, processorFault, issueFault, completeFault}
+use Rattle.states.specs.declared.Terms.{Terms}
+use Rattle.states.specs.Requests.{hasProcessor}
+use Rattle.states.specs.Faults.{tickFault, processorFault, issueFault, completeFault}
 
 -- What both calls check of their tick and processor.
 pub record Admissible (terms : Terms) (last p t : ℕ) : Type 0 where

@@ -17,10 +17,10 @@ use Rattle.conflicts.proofs.Tabulate.{length-tabulate, getD-tabulate}
 use Rattle.settling.specs.declared.Phases.{Phases}
 use Rattle.settling.specs.Requests.{Facts, isWriter}
 use Rattle.settling.specs.Settling.{step1, settled, admitted}
-use Rattle.arbiter.specs.declared.Board.{Board}
-use Rattle.arbiter.specs.declared.State.{State}
-use Rattle.arbiter.specs.Acts.{putIn, putLast, takenOut, began, stamped}
-use Rattle.arbiter.specs.Calls.{factsOf}
+use Rattle.states.specs.declared.Board.{Board}
+use Rattle.states.specs.declared.State.{State}
+use Rattle.acting.specs.Acts.{putIn, putLast, takenOut, began, stamped}
+use Rattle.acting.specs.Calls.{factsOf}
 use Rattle.runs.specs.History.{Act, puts, takes}
 use Rattle.runs.specs.Claim.{everyEntry}
 use Rattle.runs.proofs.history.Cases.{by-processor, getD-set}

@@ -9,9 +9,9 @@ use Rattle.plans.specs.declared.Plan.{Plan}
 use Rattle.plans.specs.Entries.{slots}
 use Rattle.plans.specs.Acceptance.{planFault}
 use Rattle.settling.specs.Requests.{isWriter}
-use Rattle.arbiter.specs.declared.Board.{Board}
-use Rattle.arbiter.specs.declared.State.{State}
-use Rattle.arbiter.specs.Calls.{factsOf}
+use Rattle.states.specs.declared.Board.{Board}
+use Rattle.states.specs.declared.State.{State}
+use Rattle.acting.specs.Calls.{factsOf}
 use Rattle.arbiter.specs.Fresh.{boardOf, freshState}
 use Rattle.runs.specs.History.{Act}
 use Rattle.runs.specs.Claim.{Closed, LengthsAtMost}

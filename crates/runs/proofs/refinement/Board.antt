@@ -24,9 +24,9 @@ use Rattle.conflicts.proofs.Rows.{bit-row, row-below}
 use Rattle.conflicts.proofs.Accepted.{read-or-write}
 use Rattle.settling.specs.Requests.{isWriter, conflicts}
 use Rattle.arbiter.specs.Fresh.{boardOf}
-use Rattle.arbiter.specs.declared.Board.{Board}
-use Rattle.arbiter.specs.declared.State.{State}
-use Rattle.arbiter.specs.Calls.{factsOf}
+use Rattle.states.specs.declared.Board.{Board}
+use Rattle.states.specs.declared.State.{State}
+use Rattle.acting.specs.Calls.{factsOf}
 use Rattle.runs.proofs.history.Cases.{below-or-past}
 use Rattle.runs.specs.Claim.{Closed, LengthsAtMost}
 use Rattle.runs.proofs.history.Arbiter.{lengthOn, Kept}

@@ -7,9 +7,9 @@ use Rattle.plans.specs.Entries.{slots}
 use Rattle.settling.specs.declared.Phases.{Phases}
 use Rattle.settling.specs.Requests.{Facts, isWriter}
 use Rattle.settling.specs.Settling.{step1, step2, step3, settled}
-use Rattle.arbiter.specs.declared.Board.{Board}
-use Rattle.arbiter.specs.declared.State.{State}
-use Rattle.arbiter.specs.Calls.{factsOf}
+use Rattle.states.specs.declared.Board.{Board}
+use Rattle.states.specs.declared.State.{State}
+use Rattle.acting.specs.Calls.{factsOf}
 use Rattle.runs.specs.History.{Act, puts, takes}
 use Rattle.runs.proofs.history.Cases.{by-processor}
 use Rattle.runs.proofs.columns.Columns.{idle, waiting, Start, puts-in, takes-out, Stamp, arrives, Called, Settled}

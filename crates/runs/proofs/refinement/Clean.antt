@@ -8,10 +8,10 @@ use borrow.Author.Tests.{lt-ltb}
 use Rattle.masks.proofs.Masks.{is-mask}
 use Rattle.masks.proofs.Places.{bit-zero}
 use Rattle.plans.specs.Entries.{slots}
-use Rattle.arbiter.specs.declared.Board.{Board}
-use Rattle.arbiter.specs.declared.State.{State}
-use Rattle.arbiter.specs.Requests.{inPlan, isHolding, isEntitled, isWaiting, cleaned}
-use Rattle.arbiter.specs.Calls.{phasesOf}
+use Rattle.states.specs.declared.Board.{Board}
+use Rattle.states.specs.declared.State.{State}
+use Rattle.states.specs.Requests.{inPlan, isHolding, isEntitled, isWaiting, cleaned}
+use Rattle.acting.specs.Calls.{phasesOf}
 use Rattle.arbiter.specs.Fresh.{freshState}
 use Rattle.runs.proofs.columns.Columns.{Phase, idle}
 use Rattle.runs.proofs.columns.Phases.{clash}

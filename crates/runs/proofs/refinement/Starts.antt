@@ -17,7 +17,7 @@ use Rattle.conflicts.proofs.Tabulate.{getD-tabulate}
 use Rattle.settling.specs.declared.Phases.{Phases}
 use Rattle.settling.specs.Requests.{Facts, factsBy, isWriter, isEarlier, against, active, holdingWrite, entitledWrite}
 use Rattle.settling.specs.Settling.{step1, holdsAtOnce, admitted}
-use Rattle.arbiter.specs.Acts.{putIn, putLast, takenOut}
+use Rattle.acting.specs.Acts.{putIn, putLast, takenOut}
 use Rattle.runs.proofs.history.Cases.{by-processor, getD-set}
 use Rattle.runs.proofs.columns.Columns.{idle, waiting, entitled, holding, Requests, None, In, Step1, PutIn, TakenOut}
 use Rattle.runs.proofs.columns.Phases.{clash, true-not-false}

@@ -1,0 +1,107 @@
+-- Issue and complete on whole states. Specification, section 4.
+use Prim.Native.Nat.{ℕ, _-_}
+use mathlib.Core.Bool.{cond}
+use lib.Dec.{eqb, ltb}
+use lib.ListN.{getD, set}
+use Rattle.masks.specs.Sets.{maskOf}
+use Rattle.plans.specs.Entries.{slots}
+use Rattle.calls.specs.declared.Call.{Call}
+use Rattle.calls.specs.Replies.{Response, refusedWith}
+use Rattle.settling.specs.declared.Phases.{Phases}
+use Rattle.settling.specs.Requests.{Facts, factsBy}
+use Rattle.settling.specs.Settling.{settled, admitted}
+use Rattle.states.specs.declared.Board.{Board}
+use Rattle.states.specs.declared.State.{State}
+use Rattle.states.specs.Requests.{cleaned}
+use Rattle.states.specs.Faults.{issueFault, completeFault}
+use Rattle.acting.specs.Acts.{putIn, putLast, takenOut, began, became, stamped}
+
+-- What settling goes by, of a board and a state.
+abbrev pub factsOf : Board → State → Facts
+factsOf b s = factsBy (b .rows) (b .terms .writes) (s .entry) (s .earlier)
+
+-- Clause 4.10: the phases of the requests that count.
+abbrev pub phasesOf : Board → State → Phases
+phasesOf b s = cleaned (b .terms) (s .entry) (s .phases)
+
+-- Clause 4.4: the state, of requests that count, with processor p's request for entry e put in at tick t.
+unfoldable pub putState : Board → State → ℕ → ℕ → ℕ → State
+putState b s p e t =
+    record {
+      last = t;
+      phases = putIn (phasesOf b s) p;
+      since = set (s .since) p t;
+      earlier = putLast (s .earlier) (phasesOf b s) p;
+      entry = set (s .entry) p e;
+    }
+
+-- Clause 4.4: the state, of requests that count, with processor p's taken out at tick t.
+unfoldable pub takenState : Board → State → ℕ → ℕ → State
+takenState b s p t =
+    record {
+      last = t;
+      phases = takenOut (phasesOf b s) p;
+      since = s .since;
+      earlier = s .earlier;
+      entry = s .entry;
+    }
+
+-- The answer to a call, in numbers, and the state after it.
+pub record Answer : Type 0 where
+  pub reply : Response
+  pub state : State
+
+-- Clauses 4.6 and 4.7: what an accepted call answers and leaves. The state x has the request put in or taken out, and
+-- `after` are the phases that settling left: who holds or is entitled in them and was not in x goes into the masks.
+unfoldable pub done : State → Phases → ℕ → Answer
+done x after late =
+    record {
+      reply =
+          record {
+            number = 0;
+            granted = maskOf slots (began (x .phases) after);
+            entitled = maskOf slots (became (x .phases) after);
+            late = late;
+          };
+      state =
+          record {
+            last = x .last;
+            phases = after;
+            since = stamped (x .since) (x .phases) after (x .last);
+            earlier = x .earlier;
+            entry = x .entry;
+          };
+    }
+
+-- Clauses 4.6 and 4.9: a refused call answers its number alone, and the state is the one given.
+abbrev pub ruled : ℕ → State → Answer → Answer
+ruled number s accepted = cond (eqb number 0) accepted (record { reply = refusedWith number; state = s })
+
+-- Clauses 4.6 and 5.1: the new read holds at once where it may, then the four steps. An issue is never late.
+unfoldable pub issueDone : Board → State → ℕ → Answer
+issueDone b x p = done x (settled (factsOf b x) (admitted (factsOf b x) (x .phases) p)) 0
+
+-- Clause 4.4: issue: processor p asks for entry e at tick t.
+unfoldable pub issued : Board → State → ℕ → ℕ → ℕ → Answer
+issued b s p e t =
+    ruled (issueFault (b .terms) (s .last) (phasesOf b s) p e t) s (issueDone b (putState b s p e t) p)
+
+-- Clauses 4.8 and 4.10: late is 1 where the hold was longer than its entry's length. A hold that would run backwards
+-- lasted 0.
+abbrev pub lateMark : Board → State → ℕ → ℕ → ℕ
+lateMark b s p t = cond (ltb (getD (b .lengths) (getD (s .entry) p 0) 0) (t - getD (s .since) p 0)) 1 0
+
+-- Clause 4.6: the request is taken out, then the four steps.
+unfoldable pub takenDone : Board → State → ℕ → Answer
+takenDone b x late = done x (settled (factsOf b x) (x .phases)) late
+
+-- Clause 4.4: complete: processor p gives its request back at tick t.
+unfoldable pub completed : Board → State → ℕ → ℕ → Answer
+completed b s p t =
+    ruled (completeFault (b .terms) (s .last) (phasesOf b s) p t) s
+    (takenDone b (takenState b s p t) (lateMark b s p t))
+
+-- The answer to any call.
+abbrev pub answered : Board → State → Call → Answer
+answered b s (Call.Issue p e t) = issued b s p e t
+answered b s (Call.Complete p t) = completed b s p t

@@ -1,0 +1,142 @@
+// The two acts that calls are made of: a request is put in, or taken out. Specification, clauses 4.4 and 4.6.
+use masks::add32;
+use masks::remove32;
+use plans::ENTRIES;
+use plans::SLOTS;
+use settling::ALL;
+use settling::Phases;
+use settling::holds_at_once;
+use settling::settle;
+ghost use mathlib.Core.Path.{_≡_};
+ghost use mathlib.Core.Bool.{cond, not};
+ghost use mathlib.Core.List.{[]};
+ghost use Prim.Native.Nat.{_<_, _^_};
+ghost use lib.Bits.{bitAnd};
+ghost use lib.Dec.{eqb};
+ghost use lib.ListN.{getD, length};
+ghost use Rattle.masks.specs.Sets.{bit, maskOf};
+ghost use Rattle.plans.specs.Entries.{slots};
+ghost use Rattle.conflicts.specs.Conflict.{tabulate};
+ghost use Rattle.settling.specs.Requests.{factsBy, active};
+ghost use Rattle.settling.specs.Settling.{settled, admitted};
+ghost use Rattle.acting.specs.Acts.{putIn, putLast, takenOut};
+ghost use Rattle.states.specs.inner.Small.{Small};
+
+// What the types of two lent arrays say, for the proofs. Compiled, there is nothing left of them.
+fn ticks_are_whole(since: [u64; SLOTS])
+    ensures { λ r. ⌜ length since ≡ slots ⌝ }
+{}
+
+fn sets_are_whole(earlier: [u32; SLOTS])
+    ensures { λ r. ⌜ length earlier ≡ slots ⌝ }
+{}
+
+// Every processor but this one.
+fn all_but(processor: u8) -> u32
+    ensures { λ r. ⌜ r ≡ maskOf slots (λ q. not (eqb q processor)) ⌝ }
+{
+    remove32(ALL, processor as u32)
+}
+
+// Each set with just the places that are kept.
+fn keep_each(sets: &mut [u32; SLOTS], keep: u32)
+    ensures { λ r. ⌜ now (sets .exit) ≡ tabulate slots (λ q. bitAnd (getD (now (sets .entry)) q 0) keep) ⌝ }
+{
+    sets_are_whole(*sets);
+    let mut q: usize = 0;
+    while q < SLOTS {
+        sets[q] = sets[q] & keep;
+        q += 1;
+    }
+}
+
+// All that are active are earlier than the processor's new request, and it is earlier than none.
+pub fn put_last(earlier: &mut [u32; SLOTS], phases: Phases, processor: u8)
+    requires { ⌜ Small phases × (processor < slots) ⌝ }
+    ensures { λ r. ⌜ now (earlier .exit) ≡ putLast (now (earlier .entry)) phases processor ⌝ }
+{
+    keep_each(earlier, all_but(processor));
+    earlier[processor as usize] = phases.waiting | phases.entitled | phases.holding;
+}
+
+// The phases with the processor's new request put in: it holds at once, or it waits.
+fn admit(
+    rows: &[u64; ENTRIES],
+    writes: u64,
+    entry: &[u8; SLOTS],
+    phases: Phases,
+    processor: u8,
+) -> Phases
+    requires { ⌜ Small phases × (processor < slots) ⌝ }
+    ensures { λ r. ⌜ (let f = factsBy (now (rows .entry)) writes (now (entry .entry)) [] in
+        r ≡ admitted f (putIn phases processor) processor) ⌝ }
+{
+    let p = processor as u32;
+    if holds_at_once(rows, writes, entry, phases, processor) {
+        return Phases {
+            waiting: phases.waiting & all_but(processor),
+            entitled: phases.entitled,
+            holding: add32(phases.holding, p),
+        };
+    }
+    Phases {
+        waiting: add32(phases.waiting, p),
+        entitled: phases.entitled,
+        holding: phases.holding,
+    }
+}
+
+// The phases with the processor's new request put in and settled. Where nobody else is active it holds, read or write,
+// and no row has to be looked at. Where it holds at once and nobody waits or is entitled, there is nothing to settle.
+pub fn settle_new(
+    rows: &[u64; ENTRIES],
+    writes: u64,
+    entry: &[u8; SLOTS],
+    earlier: &[u32; SLOTS],
+    phases: Phases,
+    processor: u8,
+) -> Phases
+    requires { ⌜ Small phases × (processor < slots)
+        × (getD (now earlier) processor 0 ≡ maskOf slots (active phases)) ⌝ }
+    ensures { λ r. ⌜ (let f = factsBy (now (rows .entry)) writes (now (entry .entry)) (now (earlier .entry)) in
+        r ≡ settled f (admitted f (putIn phases processor) processor)) ⌝ }
+{
+    if phases.waiting | phases.entitled | phases.holding == 0 {
+        return Phases {
+            waiting: 0,
+            entitled: 0,
+            holding: add32(0, processor as u32),
+        };
+    }
+    let ready = admit(rows, writes, entry, phases, processor);
+    if ready.waiting | ready.entitled == 0 {
+        return ready;
+    }
+    settle(rows, writes, entry, earlier, ready)
+}
+
+// The phases with the processor's request taken out.
+pub fn take_out(phases: Phases, processor: u8) -> Phases
+    ensures { λ r. ⌜ r ≡ takenOut phases processor ⌝ }
+{
+    let others = all_but(processor);
+    Phases {
+        waiting: phases.waiting & others,
+        entitled: phases.entitled & others,
+        holding: phases.holding & others,
+    }
+}
+
+// The ticks with this one for the processors in the mask.
+pub fn stamp(since: &mut [u64; SLOTS], among: u32, tick: u64)
+    requires { ⌜ among < 2 ^ slots ⌝ }
+    ensures { λ r. ⌜ now (since .exit)
+        ≡ tabulate slots (λ p. cond (bit among p) tick (getD (now (since .entry)) p 0)) ⌝ }
+{
+    ticks_are_whole(*since);
+    let mut left = among;
+    while left != 0 {
+        since[u32::trailing_zeros(left) as usize] = tick;
+        left = left & (left - 1);
+    }
+}

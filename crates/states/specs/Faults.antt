@@ -1,0 +1,30 @@
+-- When a call is refused, and by which number: 10 to 15. The phases are of the requests that count. Specification,
+-- section 4.
+use Prim.Native.Nat.{ℕ}
+use mathlib.Core.Bool.{not, _&&_}
+use lib.Dec.{leb, ltb}
+use Rattle.refusals.specs.Due.{due, firstOf}
+use Rattle.settling.specs.declared.Phases.{Phases}
+use Rattle.settling.specs.Requests.{unsatisfied, active}
+use Rattle.states.specs.declared.Terms.{Terms}
+use Rattle.states.specs.Requests.{hasProcessor}
+
+-- Clauses 1.4 and 4.5: 10 for a tick below the last accepted one or above the largest.
+abbrev pub tickFault : ℕ → ℕ → ℕ
+tickFault last t = due (leb last t && leb t 1099511627775) 10
+
+-- Clause 4.5: 11 for a processor that is not the plan's.
+abbrev pub processorFault : Terms → ℕ → ℕ
+processorFault terms p = due (hasProcessor terms p) 11
+
+-- Clauses 4.5 and 8.2: an issue by 10, 11, then 12 for an entry that is not counted, 13 for an active request of p.
+unfoldable pub issueFault : Terms → ℕ → Phases → ℕ → ℕ → ℕ → ℕ
+issueFault terms last ph p e t =
+    firstOf (tickFault last t)
+    (firstOf (processorFault terms p) (firstOf (due (ltb e (terms .count)) 12) (due (not (active ph p)) 13)))
+
+-- Clauses 4.5 and 8.2: a completion by 10, 11, then 14 for no active request of p, 15 for one that is unsatisfied.
+unfoldable pub completeFault : Terms → ℕ → Phases → ℕ → ℕ → ℕ
+completeFault terms last ph p t =
+    firstOf (tickFault last t)
+    (firstOf (processorFault terms p) (firstOf (due (active ph p) 14) (due (not (unsatisfied ph p)) 15)))

@@ -1,0 +1,3 @@
+pub mod Requests
+pub mod Faults
+pub mod inner
