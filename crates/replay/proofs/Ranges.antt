@@ -1,5 +1,5 @@
 -- What a block answers lies within the block, the calls that are left and the buffer. Assumes nothing.
-use Prim.Native.Nat.{ℕ, _+_, _*_, _≤_}
+use Prim.Native.Nat.{ℕ, zero, suc, _+_, _*_, _≤_}
 use mathlib.Core.Path.{_≡_, refl, ap, _∙_}
 use mathlib.Core.Bool.{Bool, true, false, cond}
 use mathlib.Core.List.{List, _++_}
@@ -23,7 +23,17 @@ use Rattle.logs.proofs.Answers.{count-is, count-there}
 use Rattle.listings.specs.Lines.{lineSays}
 use Rattle.replay.specs.declared.RanBlock.{RanBlock}
 use Rattle.replay.specs.Blocks.{ran, budget, ranBlock}
-use Rattle.replay.proofs.Pieces.{calls-within}
+use Rattle.replay.proofs.Records.{Found, found, stateIn, ran-call, ran-refused}
+
+-- No more calls than records.
+pub calls-within : (b : Board) (k : ℕ) (st : State) (s : List ℕ) → ran b st k s .calls ≤ k
+unfolding ran
+calls-within b zero st s = omega arith
+calls-within b (suc k) st s =
+    elim (found s) [
+      | Found.call h ↦ rw (ran-call b st s k h) (omega (arith, calls-within b k (stateIn b st s) (drop recordSize s)))
+      | Found.refused h ↦ rw (ran-refused b st s k h) (omega arith)
+    ]
 
 -- A line takes no more bytes than the buffer has.
 pub line-within : (bytes : List ℕ) (size at : ℕ) (la : Outcome) → outcomeSays la ≡ lineSays bytes size at → outcomeSays la .value ≤ size

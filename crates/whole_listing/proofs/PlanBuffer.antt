@@ -17,7 +17,7 @@ use Rattle.plans.specs.Acceptance.{countsFault}
 use Rattle.plans.specs.Reading.{entryIn, entriesIn, sectionFault, readFault, blankPlan, planIn, readSays, planRead}
 use Rattle.plans.proofs.Faults.{counts-at-most, read-fault}
 use Rattle.plans.proofs.Accepted.{taken}
-use Rattle.replay.specs.Buffers.{planRoom}
+use Rattle.whole_listing.specs.Buffers.{planRoom}
 
 -- An entry that is whole in the front is read there.
 entry-in-front : (s t : List ℕ) → 11 ≤ length s → entryIn (s ++ t) ≡ entryIn s

@@ -16,13 +16,13 @@ use Rattle.arbiter.specs.declared.State.{State}
 use Rattle.arbiter.specs.Fresh.{freshBoard, freshState}
 use Rattle.logs.specs.Records.{countSize, readCount}
 use Rattle.logs.proofs.Answers.{count-there}
-use Rattle.replay.specs.Listing.{faultLine, callsListing, listingOf}
-use Rattle.replay.specs.Ends.{openingLine, countLine}
-use Rattle.replay.specs.Buffers.{planRoom, blockRoom, filled, toCome, inBlocks, afterPlan, programListing}
+use Rattle.whole_listing.specs.Listing.{callsListing, listingOf}
+use Rattle.replay.specs.Ends.{faultLine, openingLine, countLine}
+use Rattle.whole_listing.specs.Buffers.{planRoom, blockRoom, filled, toCome, inBlocks, afterPlan, programListing}
 use Rattle.replay.specs.inner.Parts.{openingBy}
-use Rattle.replay.proofs.Whole.{afterIt, refused-plan, refused-count, opening-then-calls}
-use Rattle.replay.proofs.PlanBuffer.{fault-in-buffer, says-in-buffer, plan-in-buffer, rest-of-buffer}
-use Rattle.replay.proofs.Buffers.{nothing-lost, block-holds, not-full-ends, in-blocks}
+use Rattle.whole_listing.proofs.Whole.{afterIt, refused-plan, refused-count, opening-then-calls}
+use Rattle.whole_listing.proofs.PlanBuffer.{fault-in-buffer, says-in-buffer, plan-in-buffer, rest-of-buffer}
+use Rattle.whole_listing.proofs.Buffers.{nothing-lost, block-holds, not-full-ends, in-blocks}
 
 -- A count that is whole in the front is read there.
 count-in-front : (s t : List ℕ) → countSize ≤ length s → readCount (s ++ t) ≡ readCount s

@@ -7,15 +7,26 @@ use mathlib.Core.List.{List, [], _∷_, _++_, append-assoc}
 use native.Mathlib.Nat.{zero-add, suc-add, add-sub-of-le}
 use native.Mathlib.Omega.{arith}
 use borrow.Author.Tests.{lt-leb, le-leb, ne-eqb}
+use lib.Dec.{eqb}
 use lib.ListN.{length, take, drop, getD, length-append, length-drop, List·getD-append}
 use lib.Seq.{slice, drop-drop, drop-append-le, take-append-le}
 use Rattle.arbiter.specs.declared.Board.{Board}
 use Rattle.arbiter.specs.declared.State.{State}
 use Rattle.logs.specs.Records.{recordSize, fieldsIn, recordFault}
-use Rattle.replay.specs.Listing.{callsListing}
+use Rattle.listings.specs.Lines.{refusalLine}
+use Rattle.whole_listing.specs.Listing.{callsListing}
 use Rattle.replay.specs.Blocks.{Ran, oneMore, ran, goingOn}
 use Rattle.replay.specs.Ends.{endFault, endLine}
-use Rattle.replay.proofs.Records.{Found, found, lineIn, stateIn, ran-call, ran-refused, listed-call, listed-refused}
+use Rattle.replay.proofs.Records.{Found, found, lineIn, stateIn, ran-call, ran-refused}
+
+module _ (b : Board) (st : State) (s : List ℕ) (k : ℕ) where
+  listed-call : recordFault s ≡ 0 → callsListing b st (suc k) s ≡ lineIn b st s ++ callsListing b (stateIn b st s) k (drop recordSize s)
+  unfolding callsListing
+  listed-call e = rw e
+
+  listed-refused : eqb (recordFault s) 0 ≡ false → callsListing b st (suc k) s ≡ refusalLine (recordFault s)
+  unfolding callsListing
+  listed-refused e = rw e
 
 -- A line in front of what some records and the rest give.
 line-in-front : (line : List ℕ) (e : Bool) (x y : List ℕ) → line ++ cond e x (x ++ y) ≡ cond e (line ++ x) ((line ++ x) ++ y)
@@ -53,16 +64,6 @@ all-carried-out b (suc k) st s e =
   where
     no-end : true ≡ false → ⊥
     no-end h = let z : _≡_ {A = ℕ} 0 1 = cc in omega arith
-
--- No more calls than records.
-pub calls-within : (b : Board) (k : ℕ) (st : State) (s : List ℕ) → ran b st k s .calls ≤ k
-unfolding ran
-calls-within b zero st s = omega arith
-calls-within b (suc k) st s =
-    elim (found s) [
-      | Found.call h ↦ rw (ran-call b st s k h) (omega (arith, calls-within b k (stateIn b st s) (drop recordSize s)))
-      | Found.refused h ↦ rw (ran-refused b st s k h) (omega arith)
-    ]
 
 -- A record that is whole in the front is read there.
 module _ (s t : List ℕ) (h : recordSize ≤ length s) where

@@ -12,11 +12,11 @@ use Rattle.arbiter.specs.declared.Board.{Board}
 use Rattle.arbiter.specs.declared.State.{State}
 use Rattle.arbiter.specs.Fresh.{boardOf, freshBoard, freshState}
 use Rattle.logs.specs.Records.{countSize, recordSize, readCount}
-use Rattle.replay.specs.Listing.{callsListing, listingOf}
+use Rattle.whole_listing.specs.Listing.{callsListing, listingOf}
 use Rattle.replay.specs.Blocks.{ran, goingOn}
 use Rattle.replay.specs.Ends.{openingLine, countLine, endFault, endLine}
-use Rattle.replay.specs.Pieces.{together, wholeRecords, replayed}
-use Rattle.replay.proofs.Pieces.{piece-then-rest, end-of-input}
+use Rattle.whole_listing.specs.Pieces.{together, wholeRecords, replayed}
+use Rattle.whole_listing.proofs.Pieces.{piece-then-rest, end-of-input}
 
 -- A refused plan: its line alone.
 pub refused-plan : (s : List ℕ) → eqb (readFault s) 0 ≡ false → listingOf s ≡ openingLine s

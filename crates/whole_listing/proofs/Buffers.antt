@@ -11,13 +11,13 @@ use lib.ListN.{length, take, drop, length-append, length-take, length-drop, take
 use Rattle.arbiter.specs.declared.Board.{Board}
 use Rattle.arbiter.specs.declared.State.{State}
 use Rattle.logs.specs.Records.{recordSize}
-use Rattle.replay.specs.Listing.{callsListing}
+use Rattle.whole_listing.specs.Listing.{callsListing}
 use Rattle.replay.specs.Blocks.{Ran, ran, budget, lineRoom, goingOn}
 use Rattle.replay.specs.Ends.{endFault, endLine}
-use Rattle.replay.specs.Pieces.{together, wholeRecords, replayed}
-use Rattle.replay.specs.Buffers.{blockRoom, linesRoom, filled, toCome, inBlocks}
-use Rattle.replay.proofs.Pieces.{piece-then-rest, all-carried-out, end-of-input}
-use Rattle.replay.proofs.Whole.{pieces-of-any-size}
+use Rattle.whole_listing.specs.Pieces.{together, wholeRecords, replayed}
+use Rattle.whole_listing.specs.Buffers.{blockRoom, linesRoom, filled, toCome, inBlocks}
+use Rattle.whole_listing.proofs.Pieces.{piece-then-rest, all-carried-out, end-of-input}
+use Rattle.whole_listing.proofs.Whole.{pieces-of-any-size}
 
 -- With 80 bytes of room for each record, a block carries out all that are whole in it.
 pub room-for-all : (n : ℕ) (s : List ℕ) (room : ℕ) → lineRoom * (length s / 8) ≤ room → budget n s room ≡ wholeRecords n s

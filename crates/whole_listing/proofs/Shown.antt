@@ -14,10 +14,9 @@ use Rattle.logs.specs.Records.{readCount}
 use Rattle.listings.specs.Lines.{refusalLine, lineSays, lineBuffer}
 use Rattle.listings.proofs.LongestFirst.{any-first}
 use Rattle.listings.proofs.LongestCall.{any-refusal}
-use Rattle.replay.specs.Listing.{faultLine}
 use Rattle.replay.specs.Blocks.{Ran, ranBlock}
-use Rattle.replay.specs.Ends.{openingLine, countLine, endFault, endLine}
-use Rattle.replay.specs.Buffers.{linesRoom}
+use Rattle.replay.specs.Ends.{faultLine, openingLine, countLine, endFault, endLine}
+use Rattle.whole_listing.specs.Buffers.{linesRoom}
 
 -- What is shown of a line with room is the line.
 pub shown-line : (line out : List ℕ) → length line ≤ length out

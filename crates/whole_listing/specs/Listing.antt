@@ -1,26 +1,18 @@
 -- The whole listing of a log's bytes. Specification, section 9.
 use Prim.Native.Nat.{ℕ, zero, suc}
 use mathlib.Core.Bool.{cond}
-use mathlib.Core.List.{List, [], _++_}
+use mathlib.Core.List.{List, _++_}
 use lib.Dec.{eqb}
 use lib.ListN.{drop}
 use Rattle.plans.specs.Reading.{readFault, readSays, planRead}
-use Rattle.calls.specs.declared.Call.{Call}
-use Rattle.calls.specs.Calls.{callOf}
 use Rattle.arbiter.specs.declared.Board.{Board}
 use Rattle.arbiter.specs.declared.State.{State}
 use Rattle.arbiter.specs.Calls.{answered}
 use Rattle.arbiter.specs.Fresh.{boardOf, freshState}
-use Rattle.logs.specs.Records.{countSize, recordSize, readCount, fieldsIn, recordFault, tailFault}
+use Rattle.logs.specs.Records.{countSize, recordSize, readCount, recordFault, tailFault}
 use Rattle.listings.specs.Lines.{firstLine, callLine, refusalLine}
-
--- Clause 9.8: the line of a number that is due, and none for 0.
-abbrev pub faultLine : ℕ → List ℕ
-faultLine number = cond (eqb number 0) [] (refusalLine number)
-
--- The call in the record at the start of the bytes.
-abbrev pub callIn : List ℕ → Call
-callIn s = callOf (fieldsIn s)
+use Rattle.replay.specs.Blocks.{callIn}
+use Rattle.replay.specs.Ends.{faultLine}
 
 -- Clauses 9.4 and 9.5: the lines of n calls in the bytes s. A record that is refused ends the listing, and the calls
 -- before it stay carried out. Behind the last call, 2 for a tail.
