@@ -4,3 +4,4 @@ pub mod PlanBuffer
 pub mod Buffers
 pub mod Program
 pub mod Shown
+pub mod Ranges

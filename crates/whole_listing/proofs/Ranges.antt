@@ -17,13 +17,11 @@ use Rattle.plans.specs.Reading.{readSays}
 use Rattle.plans.proofs.RoundTrip.{read-inside}
 use Rattle.arbiter.specs.declared.Board.{Board}
 use Rattle.arbiter.specs.declared.State.{State}
-use Rattle.logs.specs.declared.CountAnswer.{CountAnswer}
-use Rattle.logs.specs.Records.{countSize, recordSize, countSays, readCount}
-use Rattle.logs.proofs.Answers.{count-is, count-there}
+use Rattle.logs.specs.Records.{recordSize}
 use Rattle.listings.specs.Lines.{lineSays}
 use Rattle.replay.specs.declared.RanBlock.{RanBlock}
 use Rattle.replay.specs.Blocks.{ran, budget, ranBlock}
 use Rattle.replay.proofs.Records.{Found, found, stateIn, ran-call, ran-refused}
 
 -- No more calls than records.
 pub calls-within : (b : Board) (k : ℕ) (st : State) (s : List ℕ) → ran b st k s .calls ≤ k
@@ -59,14 +57,6 @@ module _ (b : Board) (st : State) (left size : ℕ) (s : List ℕ) (r : RanBlock
   lines-within out out′ eo =
       let lines = ran b st (budget left s size) s .lines in
       omega (arith, ap (λ (x : RanBlock). x .written) e, ap length eo ∙ length-append lines (drop (0 + length lines) out))
-
--- A call count that was read from the first bytes of a block is there.
-pub count-filled : (block : List ℕ) (have n : ℕ) (calls : CountAnswer) → countSays calls ≡ readCount (take have block)
-    → have ≤ length block
-    → calls ≡ CountAnswer.Calls n
-    → countSize ≤ have
-count-filled block have n calls says h e =
-    omega (arith, count-there (take have block) (count-is calls (take have block) n says e), length-take-le have block h)
 
 -- A plan ends within the bytes that were lent.
 pub plan-filled : (plan : List ℕ) (filled n : ℕ) (o : Outcome) → outcomeSays o ≡ readSays (take filled plan) → filled ≤ length plan

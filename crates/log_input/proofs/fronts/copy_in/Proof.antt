@@ -1,25 +1,25 @@
--- `lockreplay::copy_in` meets its contract. The invariant: the first i bytes are copied. Assumes nothing.
+-- `log_input::copy_in` meets its contract. The invariant: the first i bytes are copied. Assumes nothing.
 use Prim.Native.Nat.{_≤_, _-_, min}
 use mathlib.Core.Path.{_≡_, refl}
 use mathlib.Core.Logic.{⊎-elim}
 use native.Mathlib.Omega.{arith}
 use lib.ListN.{length, length-set}
 use lib.Seq.{paste, paste-zero}
-use Rattle.lockreplay.proofs.Copies.{copy-turn}
-use Rattle.lockreplay.proofs.copy_in.Statement.{statement}
-use Rattle.lockreplay.proofs.copy_in.Tie as tie
+use Rattle.log_input.proofs.Copies.{copy-turn, copy-done}
+use Rattle.log_input.proofs.fronts.copy_in.Statement.{statement}
+use Rattle.log_input.proofs.fronts.copy_in.Tie as tie
 
 abbrev Inv-loop : tie.InvT-loop
-Inv-loop bytes block₀ most i₀ block i =
-    (i ≤ most) × ((most ≡ min (length bytes) (length block₀)) × ((length block ≡ length block₀) × (block ≡ paste block₀ 0 bytes i)))
+Inv-loop bytes buffer₀ most i₀ buffer i =
+    (i ≤ most) × ((most ≡ min (length bytes) (length buffer₀)) × ((length buffer ≡ length buffer₀) × (buffer ≡ paste buffer₀ 0 bytes i)))
 
 abbrev μ-loop : tie.MeasureT-loop
-μ-loop bytes block₀ most i₀ block i = most - i
+μ-loop bytes buffer₀ most i₀ buffer i = most - i
 
 loop-holds : tie.Need-loop-holds Inv-loop μ-loop
 loop-holds c = (
   omega arith,
-  (⊎-elim (λ w. omega arith) (λ w. omega arith) (c .if1 .came), (refl, paste-zero (c .before .args .block .now) 0 (c .before .args .bytes .now))),
+  (⊎-elim (λ w. omega arith) (λ w. omega arith) (c .if1 .came), (refl, paste-zero (c .before .args .buffer .now) 0 (c .before .args .bytes .now))),
 )
 
 loop-again : tie.Need-loop-again Inv-loop μ-loop
@@ -33,7 +33,10 @@ same-length : tie.Need-same-length Inv-loop μ-loop
 same-length c = c .before .loop .inv .1 .1 .0
 
 returns : tie.Need-returns Inv-loop μ-loop
-returns c = (omega arith, c .before .loop .inv .1 .1 .1)
+returns c =
+    let inv = c .before .loop .inv in
+    let all : c .before .loop .i ≡ min (length (c .before .before .before .args .bytes .now)) (length (c .before .before .before .args .buffer .now)) = omega arith in
+    (all, copy-done _ _ _ _ (inv .1 .1 .1) _ all)
 
 pub copy-in-spec : {M : Type 1} → statement M
 copy-in-spec =

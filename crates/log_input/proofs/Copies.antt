@@ -6,7 +6,7 @@ use native.Mathlib.Nat.{zero-add}
 use native.Mathlib.Numerals.{add-one}
 use native.Mathlib.Omega.{arith}
 use lib.ListN.{length, take, drop, getD, set, length-drop}
-use lib.Seq.{paste, paste-suc, length-paste-head, getD-append-add, getD-drop}
+use lib.Seq.{paste, paste-suc, length-paste-head, take-take, getD-append-add, getD-drop}
 
 -- A block b that is d with its first j bytes replaced by those of s.
 module _ (d s b : List ℕ) (j : ℕ) (e : b ≡ paste d 0 s j) where
@@ -32,3 +32,7 @@ read-ahead d b from i e h =
     ∙ getD-drop (0 + i) d from 0
     ∙ ap (λ (n : ℕ). getD d n 0) same
     ∙ sym (getD-drop from d i 0)
+
+-- Of two lists that agree in front, shorter fronts agree.
+pub front-kept : (x y : List ℕ) (first have : ℕ) → first ≤ have → take have x ≡ take have y → take first x ≡ take first y
+front-kept x y first have h e = sym (take-take first have x h) ∙ ap (take first) e ∙ take-take first have y h
