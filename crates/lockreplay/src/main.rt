@@ -8,6 +8,7 @@ use encoding::Outcome;
 use libc::STDERR_FILENO;
 use libc::STDIN_FILENO;
 use libc::STDOUT_FILENO;
+use log_input::Fed;
 use log_input::bring_to_front;
 use log_input::copy_in;
 use log_input::due_size;
@@ -28,9 +29,15 @@ ghost use Prim.Native.Nat.{_≤_};
 ghost use lib.ListN.{length};
 ghost use Rattle.encoding.specs.Buffers.{outcomeSays};
 
-// Says on standard error that a read failed, and why.
-fn input_failed() {
-    os::fail(b"lockreplay: standard input");
+// Reads what is needed behind the bytes at hand. Where a read fails, standard error has why.
+fn feed(input: i32, block: &mut [u8], have: usize, needed: usize) -> Fed
+    ensures { λ r. ⌜ r .have ≤ length (now (block .exit)) ⌝ }
+{
+    let fed = fill_to(input, block, have, needed);
+    if fed.failed {
+        os::fail(b"lockreplay: standard input");
+    }
+    fed
 }
 
 // Writes lines, and says whether all of them were written. Where a write fails, standard error has why.
@@ -50,8 +57,8 @@ fn show(output: i32, line: Outcome, out: &[u8]) -> bool
     put(output, &out[..size])
 }
 
-// The calls, as they arrive: a record is waited for only where none is whole in the block. A block that carries no call
-// out is the last: no call is left, or the input ended.
+// The calls, as they arrive: a record is waited for only where none is whole in the block, and after the last call any
+// byte. A block that carries no call out is the last: no call is left, or the input ended.
 fn replay_calls(
     input: i32,
     output: i32,
@@ -61,17 +68,13 @@ fn replay_calls(
     block: &mut [u8],
     filled: usize,
     out: &mut [u8],
-) {
+)
+    requires { ⌜ filled ≤ length (now block) ⌝ }
+{
     let mut current = state;
     let mut left = calls;
     let mut have = filled;
     loop {
-        let fed = fill_to(input, block, have, due_size(left));
-        if fed.failed {
-            input_failed();
-            return;
-        }
-        have = fed.have;
         let ran = run(board, current, left, &block[..have], out);
         let written = ran.written;
         let shown = put(output, &out[..written]);
@@ -84,7 +87,12 @@ fn replay_calls(
         let after = ran.state;
         current = after;
         left -= ran.calls;
-        have = bring_to_front(block, RECORD_BYTES * (ran.calls as usize), have);
+        let rest = bring_to_front(block, RECORD_BYTES * (ran.calls as usize), have);
+        let fed = feed(input, block, rest, due_size(left));
+        if fed.failed {
+            return;
+        }
+        have = fed.have;
     }
     let line = finish(left, &block[..have], out);
     show(output, line, out);
@@ -101,9 +109,8 @@ fn replay_rest(
     out: &mut [u8],
 ) {
     let first = copy_in(bytes, block);
-    let fed = fill_to(input, block, first, COUNT_BYTES);
+    let fed = feed(input, block, first, COUNT_BYTES);
     if fed.failed {
-        input_failed();
         return;
     }
     let have = fed.have;
@@ -114,7 +121,12 @@ fn replay_rest(
     if let CountAnswer::Calls(left) = calls {
         if shown {
             let rest = bring_to_front(block, COUNT_BYTES, have);
-            replay_calls(input, output, board, state, left, block, rest, out);
+            let fed = feed(input, block, rest, due_size(left));
+            if fed.failed {
+                return;
+            }
+            let filled = fed.have;
+            replay_calls(input, output, board, state, left, block, filled, out);
         }
     }
 }
@@ -123,7 +135,7 @@ fn replay_rest(
 fn replay_log(input: i32, output: i32, plan: &mut [u8], block: &mut [u8], out: &mut [u8]) {
     let fed = fill_plan(input, plan);
     if fed.failed {
-        input_failed();
+        os::fail(b"lockreplay: standard input");
         return;
     }
     let filled = fed.have;

@@ -240,9 +240,9 @@ pub fn run(board: Board, state: State, left: u16, bytes: &[u8], out: &mut [u8]) 
     let due = budget_of(left, bytes.len(), out.len());
     let mut current = state;
     let mut calls: u16 = 0;
-    let mut from: usize = 0;
     let mut at: usize = 0;
     while calls < due {
+        let from = RECORD_BYTES * (calls as usize);
         let carried = replay_record(terms, &rows, &lengths, current, &bytes[from..], out, at);
         let next = carried.state;
         at += carried.written;
@@ -255,7 +255,6 @@ pub fn run(board: Board, state: State, left: u16, bytes: &[u8], out: &mut [u8]) 
             };
         }
         current = next;
-        from += RECORD_BYTES;
         calls += 1;
     }
     RanBlock {
