@@ -1,128 +1,183 @@
--- What `lockreplay` writes from its three buffers is the listing of the whole input. Assumes nothing.
+-- What `lockreplay` writes for an input that arrives in pieces: the listing of the pieces together, and before the input
+-- ends the lines that they decide. Assumes nothing.
 use Prim.Native.Nat.{ℕ, suc, _≤_, _<_}
 use mathlib.Core.Path.{_≡_, refl, ap, sym, _∙_}
-use mathlib.Core.Bool.{Bool, true, false, cond}
+use mathlib.Core.Bool.{Bool, true, false, cond, not, _||_}
 use mathlib.Core.List.{List, [], _++_, append-nil}
 use native.Mathlib.Omega.{arith}
-use borrow.Author.Tests.{leb-true, leb-false, le-leb, eqb-true}
+use borrow.Author.Tests.{leb-true, leb-false, le-leb, lt-leb, eqb-true, not-false}
 use lib.Dec.{leb, eqb}
-use lib.ListN.{length, take, drop, length-append, length-take, length-drop}
+use lib.ListN.{length, take, drop, length-append, length-drop}
 use lib.Seq.{take-append-le, drop-append-le}
+use Rattle.masks.proofs.Truth.{or-right}
 use Rattle.refusals.specs.Due.{Said}
+use Rattle.encoding.proofs.Room.{enough-at}
 use Rattle.plans.specs.declared.Plan.{Plan}
 use Rattle.plans.specs.Reading.{readFault, readSays, planRead}
+use Rattle.plans.proofs.RoundTrip.{read-is-accepted}
 use Rattle.arbiter.specs.declared.Board.{Board}
 use Rattle.arbiter.specs.declared.State.{State}
-use Rattle.arbiter.specs.Fresh.{freshBoard, freshState}
+use Rattle.arbiter.specs.Fresh.{boardOf, freshBoard, freshState}
 use Rattle.logs.specs.Records.{countSize, readCount}
-use Rattle.logs.proofs.Answers.{count-there}
-use Rattle.whole_listing.specs.Listing.{callsListing, listingOf}
-use Rattle.replay.specs.Ends.{faultLine, openingLine, countLine}
-use Rattle.whole_listing.specs.Buffers.{planRoom, blockRoom, filled, toCome, inBlocks, afterPlan, programListing}
-use Rattle.replay.specs.inner.Parts.{openingBy}
-use Rattle.whole_listing.proofs.Whole.{afterIt, refused-plan, refused-count, opening-then-calls}
-use Rattle.whole_listing.proofs.PlanBuffer.{fault-in-buffer, says-in-buffer, plan-in-buffer, rest-of-buffer}
-use Rattle.whole_listing.proofs.Buffers.{nothing-lost, block-holds, not-full-ends, in-blocks}
+use Rattle.listings.specs.Lines.{firstLine, refusalLine}
+use Rattle.log_input.specs.Stages.{isShort}
+use Rattle.whole_listing.specs.Rooms.{planRoom, blockRoom}
+use Rattle.whole_listing.specs.Listing.{listingOf}
+use Rattle.whole_listing.specs.SoFar.{listingSoFar}
+use Rattle.whole_listing.specs.Arrivals.{together, Arrived, fed, waited, planThere, countThere, callThere, inBlocks, fromCount, fromPlan, programListing}
+use Rattle.whole_listing.proofs.Waits.{Fed, fed-until-enough, after-wait, all-at-hand}
+use Rattle.whole_listing.proofs.Calls.{callsBy}
+use Rattle.whole_listing.proofs.Blocks.{waits-for-call, in-blocks}
+use Rattle.whole_listing.proofs.Plans.{full-plan, fault-decided, size-decided, plan-inside, plan-decided}
+use Rattle.whole_listing.proofs.Stages.{countedBy, acceptedBy, listedBy, closed-listing, open-listing}
 
--- A count that is whole in the front is read there.
+-- ---- the number of calls
+
+-- A number of calls that is there is read there, whatever follows.
 count-in-front : (s t : List ℕ) → countSize ≤ length s → readCount (s ++ t) ≡ readCount s
 count-in-front s t h =
     let longer : 2 ≤ length (s ++ t) = simp length-append (omega arith) in
     rw (le-leb 2 (length (s ++ t)) longer, le-leb 2 (length s) h, take-append-le 2 s t h)
 
--- The count in the block is that of the block and all that is still to come.
-count-in-block : (first t : List ℕ) → readCount (first ++ t) ≡ readCount (filled first t)
-count-in-block first t = ap (λ s. readCount s) (sym (nothing-lost first t)) ∙ go (leb 2 (length (filled first t))) refl
-  where
-    go : (there : Bool) → leb 2 (length (filled first t)) ≡ there → readCount (filled first t ++ toCome first t) ≡ readCount (filled first t)
-    go true e = count-in-front (filled first t) (toCome first t) (leb-true 2 (length (filled first t)) e)
-    go false e =
-        let few : length (filled first t) < 2 = leb-false 2 (length (filled first t)) e in
-        let none : toCome first t ≡ [] = not-full-ends first t (omega arith) in
-        rw (none, append-nil)
+module _ (closed : Bool) (b : Board) (st : State) where
+  -- What is written from a block with the number of calls in front, and what its bytes give.
+  written-from : (s : List ℕ) (t : List (List ℕ)) → readCount s .number ≡ 0
+      → fromCount closed b st s t
+      ≡ waited closed (callThere (readCount s .value)) (fed blockRoom (callThere (readCount s .value)) (drop countSize s) t)
+      (λ s′ t′. inBlocks closed (suc (readCount s .value)) b st (readCount s .value) s′ t′)
+  written-from s t none = rw none
 
--- After the plan: all calls where the count is taken, and else the count's line.
-module _ (b : Board) (st : State) (s t : List ℕ) where
-  counted : readCount s .number ≡ 0 → afterPlan b st s t ≡ inBlocks (suc (readCount s .value)) b st (readCount s .value) (drop countSize s) t
-  counted e = rw e
-
-  not-counted : eqb (readCount s .number) 0 ≡ false → afterPlan b st s t ≡ countLine s
-  not-counted e = rw (e, append-nil)
-
--- From the plan's buffer on: the bytes that follow the plan, and the input after the buffer.
-module _ (s : List ℕ) (e : readFault s ≡ 0) where
-  abbrev first : List ℕ
-  first = drop (readSays s .value) (take planRoom s)
-
-  abbrev block : List ℕ
-  block = filled first (drop planRoom s)
-
-  abbrev later : List ℕ
-  later = toCome first (drop planRoom s)
-
-  abbrev board : Board
-  board = freshBoard (planRead s)
-
-  holds : length block ≤ blockRoom
-  holds = block-holds first (drop planRoom s) (omega (arith, length-drop (readSays s .value) (take planRoom s), length-take planRoom s))
-
-  whole-rest : afterIt s e ≡ block ++ later
-  whole-rest = rest-of-buffer s e ∙ sym (nothing-lost first (drop planRoom s))
-
-  count-whole : readCount (afterIt s e) ≡ readCount block
-  count-whole = ap (λ x. readCount x) (rest-of-buffer s e) ∙ count-in-block first (drop planRoom s)
-
-  same-number : readCount (afterIt s e) .number ≡ readCount block .number
-  same-number = ap (λ (x : Said). x .number) count-whole
-
-  -- The calls behind the count.
-  calls-in-blocks : (calls : ℕ) → readCount block .number ≡ 0
-      → inBlocks (suc calls) board freshState calls (drop countSize block) later
-      ≡ callsListing board freshState calls (drop countSize (afterIt s e))
-  calls-in-blocks calls ec =
-      let two : 2 ≤ length block = count-there block ec in
-      let fits : length (drop 2 block) ≤ blockRoom = omega (arith, length-drop 2 block, holds) in
-      in-blocks (suc calls) board freshState calls (drop 2 block) later (omega arith) fits
-      (λ few. not-full-ends first (drop planRoom s) (omega (arith, length-drop 2 block)))
-      ∙ ap (callsListing board freshState calls) (sym (ap (drop 2) whole-rest ∙ drop-append-le 2 block later two))
-
-  after-plan : openingLine s ++ afterPlan board freshState block later ≡ listingOf s
-  after-plan = go (eqb (readCount block .number) 0) refl
+  pub counted-from : (s u : List ℕ) → countSize ≤ length s → readCount s .number ≡ 0
+      → countedBy closed b st (s ++ u) ≡ callsBy closed b st (readCount s .value) (drop countSize s ++ u)
+  counted-from s u two none =
+      let longer : 2 ≤ length (s ++ u) = simp length-append (omega arith) in
+      ap (λ c. cond c (by (readCount (s ++ u)) (s ++ u)) []) (or-right closed (countThere (s ++ u)) (le-leb 2 (length (s ++ u)) longer))
+      ∙ ap (λ x. by x (s ++ u)) (count-in-front s u two)
+      ∙ ap (λ k. cond (eqb k 0) (callsBy closed b st (readCount s .value) (drop countSize (s ++ u))) (refusalLine k)) none
+      ∙ ap (callsBy closed b st (readCount s .value)) (drop-append-le 2 s u two)
     where
-      go : (t : Bool) → eqb (readCount block .number) 0 ≡ t → openingLine s ++ afterPlan board freshState block later ≡ listingOf s
-      go true t =
-          let none : readCount block .number ≡ 0 = eqb-true (readCount block .number) 0 t in
-          ap (λ l. openingLine s ++ l)
-          (counted board freshState block later none
-          ∙ calls-in-blocks (readCount block .value) none
-          ∙ ap (λ (x : Said). callsListing board freshState (x .value) (drop countSize (afterIt s e))) (sym count-whole))
-          ∙ sym (opening-then-calls s e (same-number ∙ none))
-      go false t =
-          ap (λ l. openingLine s ++ l)
-          (not-counted board freshState block later t ∙ ap (λ (x : Said). faultLine (x .number)) (sym count-whole))
-          ∙ sym (refused-count s e (rw same-number t))
+      by : Said → List ℕ → List ℕ
+      by x v = cond (eqb (x .number) 0) (callsBy closed b st (x .value) (drop countSize v)) (refusalLine (x .number))
 
--- What the program writes for an input is the listing of the input.
-pub program-writes-listing : (s : List ℕ) → programListing s ≡ listingOf s
-unfolding programListing
-program-writes-listing s =
-    ap (λ f. by f (readSays plan) (planRead plan)) (fault-in-buffer s)
-    ∙ ap (λ (x : Said). by (readFault s) x (planRead plan)) (says-in-buffer s)
-    ∙ ap (by (readFault s) (readSays s)) (plan-in-buffer s)
-    ∙ go (eqb (readFault s) 0) refl
+  counted : (s : List ℕ) (t : List (List ℕ)) → length s ≤ blockRoom → countThere s ≡ true → fromCount closed b st s t ≡ countedBy closed b st (s ++ together t)
+  counted s t holds there =
+      let two : 2 ≤ length s = leb-true 2 (length s) there in
+      let none : readCount s .number ≡ 0 = enough-at countSize s two in
+      let fits : length (drop 2 s) ≤ blockRoom = omega (arith, length-drop 2 s) in
+      let n = readCount s .value in
+      written-from s t none
+      ∙ waits-for-call closed b n st (drop 2 s) t _ fits
+      (λ s′ t′ fits′ ends. in-blocks closed (suc n) b st n s′ t′ (omega arith) fits′ ends)
+      ∙ sym (counted-from s (together t) two none)
+
+  -- At the end of the input without one.
+  not-counted : (s : List ℕ) (t : List (List ℕ)) → countThere s ≡ false → fromCount closed b st s t ≡ countedBy true b st s
+  not-counted s t few = rw (few, append-nil)
+
+  -- The wait for it, from the bytes behind the plan.
+  pub waits-for-count : (s : List ℕ) (t : List (List ℕ)) → length s ≤ blockRoom
+      → waited closed countThere (fed blockRoom countThere s t) (λ s′ t′. fromCount closed b st s′ t′)
+      ≡ countedBy closed b st (s ++ together t)
+  waits-for-count s t fits =
+      after-wait closed countThere a (λ s′ t′. fromCount closed b st s′ t′) (countedBy closed b st (s ++ together t))
+      (λ there. counted (a .bytes) (a .later) (f .holds) there ∙ ap (countedBy closed b st) (f .whole))
+      (λ c few. not-counted (a .bytes) (a .later) few ∙ rw (c, all few))
+      (λ c few. rw (c, all few, few))
+    where
+      a : Arrived
+      a = fed blockRoom countThere s t
+
+      f : Fed blockRoom countThere s t a
+      f = fed-until-enough blockRoom countThere (λ u h. le-leb 2 (length u) (omega arith)) s t fits
+
+      all : countThere (a .bytes) ≡ false → s ++ together t ≡ a .bytes
+      all few = all-at-hand (a .bytes) (together (a .later)) (s ++ together t) (f .whole) (f .ended few)
+
+-- ---- the plan
+
+module _ (closed : Bool) (s : List ℕ) (t : List (List ℕ)) where
+  -- A plan that is there and refused: its line.
+  pub listed-refused : (u : List ℕ) → planThere s ≡ true → eqb (readFault s) 0 ≡ false → listedBy closed (s ++ u) ≡ refusalLine (readFault s)
+  unfolding listedBy
+  listed-refused u there faulty = rw (← fault-decided s u there, or-right closed (planThere s) there, faulty)
+
+  refused : planThere s ≡ true → eqb (readFault s) 0 ≡ false → fromPlan closed s t ≡ listedBy closed (s ++ together t)
+  refused there faulty = written ∙ sym (listed-refused (together t) there faulty)
+    where
+      written : fromPlan closed s t ≡ refusalLine (readFault s)
+      written = rw (faulty, append-nil)
+
+  -- A plan that is there and accepted: the first line, and what follows.
+  written-after : readFault s ≡ 0
+      → fromPlan closed s t
+      ≡ firstLine (planRead s)
+      ++ waited closed countThere (fed blockRoom countThere (drop (readSays s .value) s) t)
+      (λ s′ t′. fromCount closed (boardOf (planRead s)) freshState s′ t′)
+  unfolding freshBoard
+  written-after none = rw (read-is-accepted s none, none)
+
+  pub listed-after : (u : List ℕ) → planThere s ≡ true → readFault s ≡ 0
+      → listedBy closed (s ++ u)
+      ≡ firstLine (planRead s) ++ countedBy closed (boardOf (planRead s)) freshState (drop (readSays s .value) s ++ u)
+  unfolding listedBy
+  listed-after u there none =
+      let same : readFault (s ++ u) ≡ readFault s = sym (fault-decided s u there) in
+      let size = readSays s .value in
+      ap (λ c. cond c (cond (eqb (readFault (s ++ u)) 0) (acceptedBy closed (s ++ u)) (refusalLine (readFault (s ++ u)))) [])
+      (or-right closed (planThere (s ++ u)) (ap (λ f. not (eqb f 1)) same ∙ there))
+      ∙ ap (λ f. cond (eqb f 0) (acceptedBy closed (s ++ u)) (refusalLine f)) (same ∙ none)
+      ∙ ap (λ v. from v (planRead (s ++ u)) (s ++ u)) (size-decided s u there none)
+      ∙ ap (λ p. from size p (s ++ u)) (plan-decided s u there none)
+      ∙ ap (λ r. firstLine (planRead s) ++ countedBy closed (boardOf (planRead s)) freshState r)
+      (drop-append-le size s u (plan-inside s u there none))
+    where
+      from : ℕ → Plan → List ℕ → List ℕ
+      from v p w = firstLine p ++ countedBy closed (boardOf p) freshState (drop v w)
+
+  accepted : length s ≤ planRoom → planThere s ≡ true → readFault s ≡ 0 → fromPlan closed s t ≡ listedBy closed (s ++ together t)
+  accepted holds there none =
+      let size = readSays s .value in
+      let fits : length (drop size s) ≤ blockRoom = omega (arith, length-drop size s) in
+      written-after none
+      ∙ ap (λ l. firstLine (planRead s) ++ l) (waits-for-count closed (boardOf (planRead s)) freshState (drop size s) t fits)
+      ∙ sym (listed-after (together t) there none)
+
+  there-listed : length s ≤ planRoom → planThere s ≡ true → fromPlan closed s t ≡ listedBy closed (s ++ together t)
+  there-listed holds there = go (eqb (readFault s) 0) refl
+    where
+      go : (none : Bool) → eqb (readFault s) 0 ≡ none → fromPlan closed s t ≡ listedBy closed (s ++ together t)
+      go true e = accepted holds there (eqb-true (readFault s) 0 e)
+      go false e = refused there e
+
+  -- At the end of the input without one: refusal 1.
+  short-listed : planThere s ≡ false → fromPlan closed s t ≡ listedBy true s
+  unfolding listedBy
+  short-listed few =
+      let one : readFault s ≡ 1 = eqb-true (readFault s) 1 (not-false (isShort s) few) in
+      rw (one, append-nil)
+
+-- What the program writes is what the bytes of all pieces give.
+pub program-lists : (closed : Bool) (pieces : List (List ℕ)) → programListing closed pieces ≡ listedBy closed (together pieces)
+unfolding programListing listedBy
+program-lists closed pieces =
+    after-wait closed planThere a (λ s t. fromPlan closed s t) (listedBy closed (together pieces))
+    (λ there. there-listed closed (a .bytes) (a .later) (f .holds) there ∙ ap (listedBy closed) (f .whole))
+    (λ c few. short-listed closed (a .bytes) (a .later) few ∙ rw (c, all few))
+    (λ c few. rw (c, all few, few))
   where
-    plan : List ℕ
-    plan = take planRoom s
+    a : Arrived
+    a = fed planRoom planThere [] pieces
 
-    -- What the program writes, by what was read from the plan's buffer.
-    after : Said → Plan → List ℕ
-    after x p =
-        let first = drop (x .value) plan in
-        afterPlan (freshBoard p) freshState (filled first (drop planRoom s)) (toCome first (drop planRoom s))
+    f : Fed planRoom planThere [] pieces a
+    f = fed-until-enough planRoom planThere full-plan [] pieces (omega arith)
 
-    by : ℕ → Said → Plan → List ℕ
-    by f x p = openingBy f p ++ cond (eqb (x .number) 0) (after x p) []
+    all : planThere (a .bytes) ≡ false → together pieces ≡ a .bytes
+    all few = all-at-hand (a .bytes) (together (a .later)) (together pieces) (f .whole) (f .ended few)
 
-    go : (t : Bool) → eqb (readFault s) 0 ≡ t → openingLine s ++ cond t (after (readSays s) (planRead s)) [] ≡ listingOf s
-    go true t = after-plan s (eqb-true (readFault s) 0 t)
-    go false t = append-nil (openingLine s) ∙ sym (refused-plan s t)
+-- For an input in any pieces, what is written is the listing of the pieces together.
+pub program-writes-listing : (pieces : List (List ℕ)) → programListing true pieces ≡ listingOf (together pieces)
+program-writes-listing pieces = program-lists true pieces ∙ closed-listing (together pieces)
+
+-- Before the input ends, or where a read fails, the lines that the pieces so far decide are written, all of them and no other.
+pub program-writes-so-far : (pieces : List (List ℕ)) → programListing false pieces ≡ listingSoFar (together pieces)
+program-writes-so-far pieces = program-lists false pieces ∙ open-listing (together pieces)

@@ -16,7 +16,7 @@ use Rattle.listings.proofs.LongestFirst.{any-first}
 use Rattle.listings.proofs.LongestCall.{any-refusal}
 use Rattle.replay.specs.Blocks.{Ran, ranBlock}
 use Rattle.replay.specs.Ends.{faultLine, openingLine, countLine, endFault, endLine}
-use Rattle.whole_listing.specs.Buffers.{linesRoom}
+use Rattle.whole_listing.specs.Rooms.{linesRoom}
 
 -- What is shown of a line with room is the line.
 pub shown-line : (line out : List ℕ) → length line ≤ length out

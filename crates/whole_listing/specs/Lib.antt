@@ -1,3 +1,4 @@
 pub mod Listing
-pub mod Pieces
-pub mod Buffers
+pub mod SoFar
+pub mod Rooms
+pub mod Arrivals

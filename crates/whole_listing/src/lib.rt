@@ -1,7 +1,7 @@
 // The sizes of a replay's buffers, and with them the theorem: what is written is the listing of the whole log
 // (proofs/Program.antt).
 ghost use mathlib.Core.Path.{_≡_};
-ghost use Rattle.whole_listing.specs.Buffers.{planRoom, blockRoom, linesRoom};
+ghost use Rattle.whole_listing.specs.Rooms.{planRoom, blockRoom, linesRoom};
 
 // The program's buffers: for the plan, for a block of the input, and for a block's lines.
 pub const PLAN_ROOM: usize = 707;
