@@ -20,7 +20,7 @@ unfoldable pub together : List (List ℕ) → List ℕ
 together [] = []
 together (piece ∷ later) = piece ++ together later
 
--- A read with room for n bytes gets at most n of the first piece. A piece without bytes is none.
+-- Clause 9.10: a read with room for n bytes gets at most n of the first piece. A piece without bytes is none.
 unfoldable pub got : ℕ → List (List ℕ) → List ℕ
 got n [] = []
 got n ([] ∷ later) = got n later
@@ -48,8 +48,8 @@ reads (suc turns) room enough s t =
 abbrev pub fed : ℕ → (List ℕ → Bool) → List ℕ → List (List ℕ) → Arrived
 fed room enough s t = reads room room enough s t
 
--- What is written after a wait. The input was closed behind its pieces, or not: then a wait for bytes that do not come,
--- or a read that fails, is the end of what is written.
+-- Clauses 9.10 and 9.11: what is written after a wait. The input was closed behind its pieces, or not: then a wait for
+-- bytes that do not come, or a read that fails, is the end of what is written.
 abbrev pub waited : Bool → (List ℕ → Bool) → Arrived → (List ℕ → List (List ℕ) → List ℕ) → List ℕ
 waited closed enough a next = cond (closed || enough (a .bytes)) (next (a .bytes) (a .later)) []
 
