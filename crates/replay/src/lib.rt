@@ -245,16 +245,16 @@ pub fn run(board: Board, state: State, left: u16, bytes: &[u8], out: &mut [u8]) 
         let from = RECORD_BYTES * (calls as usize);
         let carried = replay_record(terms, &rows, &lengths, current, &bytes[from..], out, at);
         let next = carried.state;
+        current = next;
         at += carried.written;
         if carried.ended {
             return RanBlock {
-                state: next,
+                state: current,
                 calls: calls,
                 written: at,
                 ended: true,
             };
         }
-        current = next;
         calls += 1;
     }
     RanBlock {
