@@ -21,8 +21,8 @@ pub record Begins (whole front : List ℕ) : Type 0 where
   pub rest : List ℕ
   pub is : whole ≡ front ++ rest
 
--- Clause 9.10: of n calls, the lines of those whose records are there, and then nothing; 9 for a record that is there, and
--- 2 for a byte behind the last call.
+-- Clause 9.10: of n calls, the lines of those whose records are there, and then nothing; 9 for a record that is there,
+-- and 2 for a byte behind the last call.
 unfoldable pub callsSoFar : Board → State → ℕ → List ℕ → List ℕ
 callsSoFar b st zero s = faultLine (tailFault s)
 callsSoFar b st (suc n) s =
