@@ -1,6 +1,6 @@
 #!/usr/bin/env python3
-"""Write the stored logs: make_logs.py DIR. With --largest, write the log of 65,535 calls to standard output instead; with
---largest CALLS, one like it of so many calls."""
+"""Write the stored logs: make_logs.py DIR. With --largest, write the log of 65,535 calls to standard output instead;
+with --largest CALLS, one like it of so many calls."""
 import pathlib
 import random
 import sys
