@@ -3,6 +3,5 @@ pub mod FourSteps
 pub mod Known
 pub mod KnownSteps
 pub mod Quiet
-pub mod AtOnce
 pub mod Idle
 pub mod Bounds

@@ -5,6 +5,7 @@ mod requests;
 
 pub use faults::check_complete;
 pub use faults::check_issue;
+pub use faults::check_withdraw;
 use plans::ENTRIES;
 use plans::SLOTS;
 pub use requests::clean;
