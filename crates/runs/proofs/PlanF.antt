@@ -18,14 +18,14 @@ use Rattle.acting.specs.Calls.{putState, takenState, done, settledDone, issued,
 use Rattle.arbiter.specs.Fresh.{boardOf, freshState}
 use Rattle.runs.specs.Events.{Event, events}
 
-read : ℕ → ℕ → Entry
+unfoldable pub read : ℕ → ℕ → Entry
 read names ticks = record { kind = 0; set = names; length = ticks }
 
-write : ℕ → ℕ → Entry
+unfoldable pub write : ℕ → ℕ → Entry
 write names ticks = record { kind = 1; set = names; length = ticks }
 
 -- Plan F: 4 processors, 3 resources, five entries.
-pub planF : Plan
+unfoldable pub planF : Plan
 planF =
     record {
       processors = 4;

@@ -5,3 +5,4 @@ pub mod KnownSteps
 pub mod Quiet
 pub mod Idle
 pub mod Bounds
+pub mod AtOnce

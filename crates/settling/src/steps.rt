@@ -39,7 +39,8 @@ fn clear_of(rows: &[u64; ENTRIES], entry: &[u8; SLOTS], candidates: u32, set: u6
 // The candidates whose requests conflict with that of none of the others. With no candidate nothing is looked at.
 fn unopposed(rows: &[u64; ENTRIES], entry: &[u8; SLOTS], candidates: u32, others: u32) -> u32
     requires { ⌜ Table (now rows) × (Known (now entry) candidates × Known (now entry) others) ⌝ }
-    ensures { λ r. ⌜ r ≡ unopposedIn (factsBy (now (rows .entry)) 0 (now (entry .entry)) []) candidates others ⌝ }
+    ensures { λ r. ⌜ (r ≡ unopposedIn (factsBy (now (rows .entry)) 0 (now (entry .entry)) []) candidates others)
+        × Known (now (entry .entry)) r ⌝ }
 {
     if candidates == 0 {
         return 0;

@@ -26,20 +26,14 @@ sides c =
     let active = and-known (bitOr (bitOr (a .waiting) (a .entitled)) (a .holding)) known in
     (known-and _ known, known-kept _ active (c .writers .ensures))
 
--- The writes among the candidates and the opponents of each walk lie within these.
 requires-ahead : tie.Need-unopposed-requires
 requires-ahead c κs = let s = sides c in (c .before .pre .1, search (s, and-known))
 
 requires1 : tie.Need-unopposed-requires-2
 requires1 c κs =
-    let s = sides (c .before) in (
-      c .before .before .pre .1,
-      (
-        known-or (and-known (c .before .before .args .entitled) (s .0))
-            (known-kept _ (and-known (c .before .before .args .waiting) (s .0)) (c .unopposed .ensures)),
-        and-known (c .before .before .args .holding) (s .1),
-      ),
-    )
+    let s = sides (c .before) in
+    let ahead = c .unopposed .ensures .1 in
+    (c .before .before .pre .1, (known-or (and-known (c .before .before .args .entitled) (s .0)) ahead, search (s, and-known)))
 
 requires2 : tie.Need-unopposed-requires-3
 requires2 c κs =
@@ -49,11 +43,8 @@ requires2 c κs =
 
 requires-line : tie.Need-first-in-line-requires
 requires-line c κs =
-    let first = c .before .before in
-    let s = sides (first .before) in
-    let a = first .before .before .args in
-    let reads = bitOr (without 32 (bitOr (a .waiting) (a .entitled)) (a .known)) (c .before .unopposed2 .result) in
-    (known-kept _ (and-known (without 32 (a .waiting) reads) (s .1)) (c .unopposed3 .ensures), search (s, and-known))
+    let s = sides (c .before .before .before) in
+    (c .unopposed3 .ensures .1, search (s, and-known))
 
 requires3 : tie.Need-unopposed-requires-4
 requires3 c κs =
@@ -89,10 +80,10 @@ returns c ph given =
     let table = start .pre .1 in
     let all = start .pre .0 in
     let zero = at-known f small table all given (ahead .before .writers .ensures) in
-    let one = known-after1 f small table all zero (ahead .unopposed .ensures) (first .unopposed2 .ensures) in
-    let two = known-after2 f small table all one (second .unopposed3 .ensures) (line .first-in-line .ensures) in
-    let three = known-after3 f small table all two (third .unopposed4 .ensures) in
-    at-last ph _ (known-after4 f small table all three (fourth .unopposed5 .ensures) (c .unopposed6 .ensures))
+    let one = known-after1 f small table all zero (ahead .unopposed .ensures .0) (first .unopposed2 .ensures .0) in
+    let two = known-after2 f small table all one (second .unopposed3 .ensures .0) (line .first-in-line .ensures) in
+    let three = known-after3 f small table all two (third .unopposed4 .ensures .0) in
+    at-last ph _ (known-after4 f small table all three (fourth .unopposed5 .ensures .0) (c .unopposed6 .ensures .0))
 
 pub four-steps-spec : {M : Type 1} → statement M
 four-steps-spec =
