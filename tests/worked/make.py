@@ -17,7 +17,7 @@ UNFOLDED = {
     "plans.specs.Acceptance": "countsFault entryFault entriesFault planFault",
     "plans.specs.Figures": "longest",
     "plans.specs.Reading": "entryIn entriesIn sectionFault readFault planIn planRead",
-    "conflicts.specs.Conflict": "widen widenedSet conflict inConflict tabulate conflictsOf",
+    "conflicts.specs.Conflict": "widen widenedSet shared conflict inConflict tabulate conflictsOf",
     "settling.specs.Settling": "test1 step1 test2 step2 test3 step3 test4 step4 settled",
     "states.specs.Requests": "isHolding isEntitled isWaiting cleaned",
     "states.specs.Faults": "issueFault completeFault withdrawFault",

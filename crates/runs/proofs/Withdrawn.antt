@@ -4,7 +4,7 @@ use Prim.Native.Nat.{ℕ}
 use mathlib.Core.Path.{_≡_, refl}
 use mathlib.Core.List.{List, [], _∷_, map}
 use Rattle.masks.specs.Sets.{bit, some, maskOf}
-use Rattle.conflicts.specs.Conflict.{widen, widenedSet, conflict, inConflict, tabulate, conflictsOf}
+use Rattle.conflicts.specs.Conflict.{widen, widenedSet, shared, conflict, inConflict, tabulate, conflictsOf}
 use Rattle.calls.specs.declared.Call.{Call}
 use Rattle.settling.specs.Settling.{test1, step1, test2, step2, test3, step3, test4, step4, settled}
 use Rattle.states.specs.Requests.{isHolding, isEntitled, isWaiting, cleaned}
@@ -31,7 +31,7 @@ pub withdrawn-request : historyOf planF calls
       requests = counted 0 0 0 (at 0) (at 8) ∷ counted 1 0 1 never (at 5) ∷ counted 1 4 6 (at 8) never ∷ [];
       last = 8;
     }
-unfolding planF read write calls counted bit some maskOf widen widenedSet conflict inConflict tabulate conflictsOf isHolding isEntitled isWaiting cleaned test1 step1 test2 step2 test3 step3 test4 step4 settled boardOf issueFault completeFault withdrawFault putIn putLast takenOut stamped putState takenState done settledDone issued left completed withdrawn events allActing countedIn historyOf
+unfolding planF read write calls counted bit some maskOf widen widenedSet shared conflict inConflict tabulate conflictsOf isHolding isEntitled isWaiting cleaned test1 step1 test2 step2 test3 step3 test4 step4 settled boardOf issueFault completeFault withdrawFault putIn putLast takenOut stamped putState takenState done settledDone issued left completed withdrawn events allActing countedIn historyOf
 withdrawn-request = refl
 
 -- The waits of the three: the withdrawn one has waited from tick 1 to tick 5.
