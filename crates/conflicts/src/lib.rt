@@ -101,7 +101,9 @@ fn pair_conflict(e: Entry, e_widened: u64, f: Entry, f_widened: u64) -> Conflict
 {
     let writes = is_write(e) & is_write(f);
     let reads = is_read(e) & is_read(f);
-    conflict_by(writes, reads, e.set & f.set, e_widened & f_widened)
+    let names = e.set & f.set;
+    let widened = e_widened & f_widened;
+    conflict_by(writes, reads, names, widened)
 }
 
 // The set with the place in it, where the test says so.

@@ -1,7 +1,7 @@
 -- `conflict_over` meets its contract: trailing zeros and ones of the set, at its width. Assumes nothing.
 use native.Mathlib.Omega.{arith}
 use Prim.Native.Nat.{_<_}
-use lib.Count.{ones-le}
+use lib.Count.{ones-le, leading-le}
 use Rattle.masks.proofs.Lowest.{lowest-below}
 use Rattle.plans.specs.Entries.{mostResources}
 use Rattle.conflicts.proofs.Over.{over-none, over-some}
@@ -22,6 +22,6 @@ conflict-over-spec =
     tie.close
     (tie.spec
     returns
-    (λ c. omega (arith, lowest-below mostResources _ (some c) (c .before .fits .set .fits)))
+    (λ c. omega (arith, lowest-below mostResources _ (some c) (c .before .fits .set .fits), leading-le mostResources (c .before .args .set)))
     (λ c. omega (arith, ones-le mostResources _ (c .before .fits .set .fits)))
     returns-2)
