@@ -5,7 +5,7 @@ import pathlib
 import random
 import sys
 
-ISSUE, COMPLETE = 0, 1
+ISSUE, COMPLETE, WITHDRAW = 0, 1, 2
 LAST = 2**40 - 1
 
 
@@ -33,6 +33,10 @@ def complete(processor, tick):
     return bytes([COMPLETE, processor, 0]) + tick.to_bytes(5, "little")
 
 
+def withdraw(processor, tick):
+    return bytes([WITHDRAW, processor, 0]) + tick.to_bytes(5, "little")
+
+
 def log(plan_bytes, calls, count=None):
     return plan_bytes + (len(calls) if count is None else count).to_bytes(2, "little") + b"".join(calls)
 
@@ -47,7 +51,7 @@ PAIR = plan(2, 2, [write([0], 20), read([0], 5), write([1], 9)])
 
 
 def refusals():
-    """Every refusal number from 1 to 15, and every order of refusals."""
+    """Every refusal number that a listing shows, and every order of refusals."""
     yield "empty", b""
     yield "refused_01_no_count", F
     yield "refused_01_half_count", F + b"\1"
@@ -64,8 +68,9 @@ def refusals():
     yield "refused_07_empty", plan(1, 1, [read([], 1)])
     yield "refused_07_not_counted", plan(1, 1, [read([1], 1)])
     yield "refused_08", plan(1, 1, [read([0], 0)])
-    yield "refused_09_verb", log(F, F_CALLS[:2] + [bytes([2, 0, 0, 9, 0, 0, 0, 0])] + F_CALLS[2:])
+    yield "refused_09_verb", log(F, F_CALLS[:2] + [bytes([255, 0, 0, 9, 0, 0, 0, 0])] + F_CALLS[2:])
     yield "refused_09_complete_with_entry", log(F, F_CALLS[:2] + [bytes([1, 0, 1, 9, 0, 0, 0, 0])])
+    yield "refused_09_withdraw_with_entry", log(F, F_CALLS[:2] + [bytes([2, 1, 1, 9, 0, 0, 0, 0])])
     yield "refused_10_one_less", log(PAIR, [issue(0, 0, 9), issue(1, 1, 8), issue(1, 1, 9)])
     yield "refused_11", log(PAIR, [issue(2, 0, 1), issue(255, 0, 1), complete(2, 1), complete(255, 2)])
     yield "refused_12", log(PAIR, [issue(0, 3, 1), issue(0, 255, 1), issue(0, 2, 1)])
@@ -73,6 +78,9 @@ def refusals():
     yield "refused_14", log(PAIR, [complete(0, 1), issue(0, 0, 2), complete(0, 3), complete(0, 4)])
     yield "refused_15_entitled", log(PAIR, [issue(0, 0, 1), issue(1, 1, 2), complete(1, 3), complete(0, 4), complete(1, 5)])
     yield "refused_15_waiting", log(plan(2, 1, [write([0], 4)]), [issue(0, 0, 1), issue(1, 0, 2), complete(1, 3)])
+    yield "refused_17_read", log(PAIR, [issue(0, 1, 1), withdraw(0, 2), complete(0, 3)])
+    yield "refused_17_write", log(PAIR, [issue(0, 0, 1), withdraw(0, 1), complete(0, 3)])
+    yield "order_of_a_withdrawal", log(PAIR, [issue(0, 0, 5), withdraw(9, 4), withdraw(2, 5), withdraw(1, 5), withdraw(0, 5)])
     yield "order_10_before_11", log(PAIR, [issue(0, 0, 5), issue(9, 9, 4), complete(9, 4)])
     yield "order_11_before_12", log(PAIR, [issue(2, 3, 5)])
     yield "order_12_before_13", log(PAIR, [issue(0, 0, 5), issue(0, 3, 5)])
@@ -103,9 +111,22 @@ def boards():
     yield "last_tick", log(PAIR, [issue(0, 0, LAST), complete(0, LAST), issue(0, 0, LAST - 1)])
     yield "repeated_tick", log(PAIR, [issue(0, 0, 4), issue(1, 2, 4), complete(1, 4), complete(0, 4)])
     yield "readers_share", log(plan(3, 1, [read([0], 4), write([0], 4)]), [issue(0, 0, 1), issue(1, 0, 2), issue(2, 1, 3), complete(0, 4), complete(1, 5), complete(2, 6)])
+    yield from withdrawals()
     rng = random.Random(7)
     for size in (60, 300):
         yield f"busy_board_{size}", log(full, busy(rng, 16, entries, size))
+
+
+def withdrawals():
+    """Requests that leave the line, in each phase that they may leave in."""
+    line = plan(5, 2, [write([0], 9), read([0], 4), write([0, 1], 9), read([1], 4)])
+    # A read holds, a write is entitled behind it, reads wait behind the write: it leaves, and they hold.
+    yield "withdrawn_write_leaves_reads", log(line, [issue(0, 1, 1), issue(1, 0, 2), issue(2, 1, 3), issue(3, 1, 4), withdraw(1, 5), complete(0, 6), complete(2, 7), complete(3, 8)])
+    yield "withdrawn_write_leaves_next_write", log(line, [issue(0, 1, 1), issue(1, 0, 2), issue(2, 2, 3), issue(3, 1, 4), withdraw(1, 5), complete(0, 6), complete(3, 7), complete(2, 9)])
+    yield "withdrawn_waiting_write", log(line, [issue(0, 0, 1), issue(1, 0, 2), issue(2, 0, 3), withdraw(1, 4), complete(0, 5), complete(2, 6)])
+    yield "withdrawn_waiting_read", log(line, [issue(0, 1, 1), issue(1, 0, 2), issue(2, 1, 3), withdraw(2, 4), complete(0, 5), complete(1, 6)])
+    yield "withdrawn_entitled_read", log(line, [issue(0, 0, 1), issue(1, 1, 2), issue(2, 0, 3), withdraw(1, 4), complete(0, 5), complete(2, 6)])
+    yield "withdrawn_and_issued_again", log(line, [issue(0, 0, 1), issue(1, 0, 2), withdraw(1, 3), withdraw(1, 3), issue(1, 1, 3), complete(0, 4), complete(1, 5)])
 
 
 def busy(rng, processors, entries, size):

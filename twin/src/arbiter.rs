@@ -22,6 +22,7 @@ pub struct Request {
 pub enum Call {
     Issue { processor: u8, entry: u8, tick: u64 },
     Complete { processor: u8, tick: u64 },
+    Withdraw { processor: u8, tick: u64 },
 }
 
 #[derive(Clone, Copy, PartialEq, Debug)]
@@ -78,6 +79,7 @@ impl Arbiter {
 
     fn settle(&mut self) {
         self.step(false, Entitled, Holding, |a, i| !a.any(i, true, Holding));
+        self.step(false, Waiting, Holding, |a, i| !a.any(i, true, Entitled) && !a.any(i, true, Holding));
         self.step(true, Waiting, Entitled, |a, i| {
             let earlier_unsatisfied = a.against(i, true, Waiting).chain(a.against(i, true, Entitled)).any(|j| j < i);
             !earlier_unsatisfied && !a.any(i, true, Holding) && !a.any(i, false, Entitled)
@@ -96,7 +98,8 @@ impl Arbiter {
 
     pub fn call(&mut self, call: Call) -> Result<Done, Refusal> {
         let (processor, tick) = match call {
-            Call::Issue { processor, tick, .. } | Call::Complete { processor, tick } => (processor, tick),
+            Call::Issue { processor, tick, .. } => (processor, tick),
+            Call::Complete { processor, tick } | Call::Withdraw { processor, tick } => (processor, tick),
         };
         if tick < self.last || tick > 1_099_511_627_775 {
             return Err(10);
@@ -129,6 +132,13 @@ impl Arbiter {
                 }
                 let request = self.requests.remove(at);
                 late = tick - request.granted_at > self.plan.entries[request.entry as usize].length;
+            }
+            Call::Withdraw { .. } => {
+                let at = place.ok_or(14)?;
+                if self.requests[at].phase == Holding {
+                    return Err(17);
+                }
+                self.requests.remove(at);
             }
         }
         self.last = tick;

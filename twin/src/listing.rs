@@ -14,6 +14,7 @@ pub fn take_call(bytes: &mut &[u8]) -> Result<Call, Refusal> {
     match (verb, entry) {
         (0, _) => Ok(Call::Issue { processor, entry, tick }),
         (1, 0) => Ok(Call::Complete { processor, tick }),
+        (2, 0) => Ok(Call::Withdraw { processor, tick }),
         _ => Err(9),
     }
 }
@@ -22,6 +23,7 @@ fn call_line(call: Call, answer: Result<Done, Refusal>) -> String {
     let head = match call {
         Call::Issue { processor, tick, .. } => format!("{tick} i {processor}"),
         Call::Complete { processor, tick } => format!("{tick} c {processor}"),
+        Call::Withdraw { processor, tick } => format!("{tick} w {processor}"),
     };
     match answer {
         Ok(done) => format!("{head} {:04x} {:04x} {}\n", done.granted, done.entitled, done.late as u8),

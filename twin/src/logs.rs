@@ -20,6 +20,7 @@ pub fn log_bytes(plan: &Plan, calls: &[Call]) -> Vec<u8> {
         let (verb, processor, entry, tick) = match *call {
             Call::Issue { processor, entry, tick } => (0, processor, entry, tick),
             Call::Complete { processor, tick } => (1, processor, 0, tick),
+            Call::Withdraw { processor, tick } => (2, processor, 0, tick),
         };
         bytes.extend([verb, processor, entry]);
         bytes.extend(&tick.to_le_bytes()[..5]);
@@ -42,8 +43,9 @@ pub fn plan(r: &mut Random, m: u8, reads: u64) -> Plan {
     Plan { processors: m, resources, entries }
 }
 
-/// Calls of any kind, most of them ones that fit what the processor does.
-pub fn mixed(r: &mut Random, plan: &Plan, count: usize) -> Vec<Call> {
+/// Calls of any kind, most of them ones that fit what the processor does. Where `leaving`, a fifth are withdrawals, most of
+/// them by a processor that is in line.
+pub fn mixed(r: &mut Random, plan: &Plan, count: usize, leaving: bool) -> Vec<Call> {
     let mut arbiter = Arbiter::new(plan.clone());
     let (mut tick, mut calls) = (0u64, Vec::new());
     for _ in 0..count {
@@ -51,6 +53,14 @@ pub fn mixed(r: &mut Random, plan: &Plan, count: usize) -> Vec<Call> {
         let at = if r.once_in(30) { tick.saturating_sub(r.within(1, 3)) } else { tick };
         let processor = if r.once_in(30) { r.below(256) as u8 } else { r.below(plan.processors as u64) as u8 };
         let entry = if r.once_in(30) { r.below(256) as u8 } else { r.below(plan.entries.len() as u64) as u8 };
+        if leaving && r.once_in(5) {
+            let line: Vec<u8> = arbiter.requests.iter().filter(|q| q.phase != Phase::Holding).map(|q| q.processor).collect();
+            let processor = if line.is_empty() || r.once_in(4) { processor } else { line[r.below(line.len() as u64) as usize] };
+            let call = Call::Withdraw { processor, tick: at };
+            arbiter.call(call).ok();
+            calls.push(call);
+            continue;
+        }
         let holds = arbiter.requests.iter().any(|q| q.processor == processor && q.phase == Phase::Holding);
         let call = if holds != r.once_in(8) {
             Call::Complete { processor, tick: at }
@@ -63,8 +73,9 @@ pub fn mixed(r: &mut Random, plan: &Plan, count: usize) -> Vec<Call> {
     calls
 }
 
-/// Every holder holds exactly its length and issues again at once, so that the others wait as long as they can.
-pub fn hostile(r: &mut Random, plan: &Plan, count: usize) -> Vec<Call> {
+/// Every holder holds exactly its length and issues again at once, so that the others wait as long as they can. Where
+/// `leaving`, one in line withdraws now and then, and asks for something else.
+pub fn hostile(r: &mut Random, plan: &Plan, count: usize, leaving: bool) -> Vec<Call> {
     let mut arbiter = Arbiter::new(plan.clone());
     let mut calls = Vec::new();
     let mut call = |arbiter: &mut Arbiter, call: Call| {
@@ -87,6 +98,14 @@ pub fn hostile(r: &mut Random, plan: &Plan, count: usize) -> Vec<Call> {
         }
         if call(&mut arbiter, Call::Issue { processor, entry, tick }) >= count {
             return calls;
+        }
+        let line: Vec<u8> = arbiter.requests.iter().filter(|q| q.phase != Phase::Holding).map(|q| q.processor).collect();
+        if leaving && !line.is_empty() && r.once_in(2) {
+            let processor = line[r.below(line.len() as u64) as usize];
+            let entry = r.below(plan.entries.len() as u64) as u8;
+            if call(&mut arbiter, Call::Withdraw { processor, tick }) >= count || call(&mut arbiter, Call::Issue { processor, entry, tick }) >= count {
+                return calls;
+            }
         }
     }
 }
@@ -113,23 +132,24 @@ pub fn log(seed: u64) -> Vec<u8> {
 }
 
 /// A log of 500 to 1,500 calls, which lockreplay takes in two to four blocks of 512. Most have one fault, and it stands after
-/// the first block: a tail, a record that is short, a bad verb, or a completion with an entry.
+/// the first block: a tail, a record that is short, a bad verb, or a completion or a withdrawal with an entry.
 fn long(seed: u64) -> Vec<u8> {
     let r = &mut Random::new(seed);
     let m = r.within(1, 16) as u8;
     let reads = r.pick(&[0, 5, 7, 10]);
     let plan = plan(r, m, reads);
     let count = r.within(500, 1500) as usize;
-    let calls = if r.once_in(3) { hostile(r, &plan, count) } else { mixed(r, &plan, count) };
+    let leaving = r.once_in(3);
+    let calls = if r.once_in(3) { hostile(r, &plan, count, leaving) } else { mixed(r, &plan, count, leaving) };
     let mut bytes = log_bytes(&plan, &calls);
     let last = calls.len() as u64 - 1;
     let record = plan_bytes(&plan).len() + 2 + 8 * r.within(last.min(512), last) as usize;
     match r.below(5) {
         0 => bytes.extend((0..r.within(1, 9)).map(|_| r.below(256) as u8)),
         1 => bytes.truncate(record + r.below(8) as usize),
-        2 => bytes[record] = r.within(2, 255) as u8,
+        2 => bytes[record] = r.within(3, 255) as u8,
         3 => {
-            bytes[record] = 1;
+            bytes[record] = r.within(1, 2) as u8;
             bytes[record + 2] = r.within(1, 255) as u8;
         }
         _ => {}
@@ -144,9 +164,10 @@ pub fn short(seed: u64) -> Vec<u8> {
     let reads = r.pick(&[0, 5, 7, 10]);
     let plan = plan(r, m, reads);
     let count = r.pick(&[0, 3, 20, 60, 200]);
+    let leaving = r.once_in(3);
     let bytes = match seed % 4 {
-        0 => log_bytes(&plan, &hostile(r, &plan, count)),
-        _ => log_bytes(&plan, &mixed(r, &plan, count)),
+        0 => log_bytes(&plan, &hostile(r, &plan, count, leaving)),
+        _ => log_bytes(&plan, &mixed(r, &plan, count, leaving)),
     };
     match seed % 5 {
         0 => damaged(r, bytes),

@@ -1,15 +1,17 @@
 //! A second implementation of the specification, as plain as can be: requests are a list in order of issue, and
 //! resources are sets. It shares no code or table with the library.
 //!
-//! twin replay | queries | viewer            a log or a plan on standard input
+//! twin replay | queries | viewer | conflicts    a log or a plan on standard input
 //! twin measure LOG LISTING                  the longest waits of a listing against the plan's figures
 //! twin compare PROGRAM FROM COUNT DIR       seeded logs through a program and the twin, byte for byte
 //! twin compare-queries PROGRAM FROM COUNT DIR
+//! twin compare-conflicts PROGRAM FROM COUNT DIR
 //! twin waits PROGRAM COUNT                  hostile logs through a program: no wait passes its figure, and how near they come
 //! twin log SEED                             writes one of the seeded logs
 //! twin calls BUSY TURNS | plans TURNS       the benchmarks' workloads, to a checksum
 mod arbiter;
 mod compare;
+mod conflicts;
 mod listing;
 mod logs;
 mod measure;
@@ -66,12 +68,17 @@ fn main() -> io::Result<()> {
             true
         }
         ["viewer"] => print_viewer(&mut out).is_ok(),
+        ["conflicts"] => {
+            conflicts::listing(&stdin_bytes(), &mut out);
+            true
+        }
         ["calls", busy, turns] => writeln!(out, "{}", speed::calls(number(busy) as u8, number(turns))).is_ok(),
         ["plans", turns] => writeln!(out, "{}", speed::plans(number(turns))).is_ok(),
         ["log", seed] => out.write_all(&logs::log(number(seed))).is_ok(),
         ["measure", log, listing] => print_measured(log, listing),
-        ["compare", program, from, count, dir] => compare::compare(program, false, number(from), number(count), dir),
-        ["compare-queries", program, from, count, dir] => compare::compare(program, true, number(from), number(count), dir),
+        ["compare", program, from, count, dir] => compare::compare(program, "replay", number(from), number(count), dir),
+        ["compare-queries", program, from, count, dir] => compare::compare(program, "queries", number(from), number(count), dir),
+        ["compare-conflicts", program, from, count, dir] => compare::compare(program, "conflicts", number(from), number(count), dir),
         ["waits", program, count] => waits::waits(program, number(count)),
         _ => {
             eprintln!("usage: see the head of twin/src/main.rs");

@@ -37,21 +37,21 @@ pub fn measure(mut log: &[u8], listing: &str) -> Result<(Plan, Measured), String
                 last = tick;
                 requests.push(Counted { processor, entry, issued: tick, granted: None, ended: None });
             }
-            Call::Complete { processor, tick } => {
+            Call::Complete { processor, tick } | Call::Withdraw { processor, tick } => {
                 last = tick;
-                for r in requests.iter_mut().filter(|r| r.processor == processor && r.granted.is_some() && r.ended.is_none()) {
+                for r in requests.iter_mut().filter(|r| r.processor == processor && r.ended.is_none()) {
                     r.ended = Some(tick);
                 }
             }
         }
-        for r in requests.iter_mut().filter(|r| r.granted.is_none() && granted >> r.processor & 1 == 1) {
+        for r in requests.iter_mut().filter(|r| r.granted.is_none() && r.ended.is_none() && granted >> r.processor & 1 == 1) {
             r.granted = Some(last);
         }
     }
     let mut measured = Measured { requests: requests.len() as u64, ..Measured::default() };
     for r in &requests {
         let entry = &plan.entries[r.entry as usize];
-        let wait = r.granted.unwrap_or(last) - r.issued;
+        let wait = r.granted.or(r.ended).unwrap_or(last) - r.issued;
         let longest = if entry.write { &mut measured.write } else { &mut measured.read };
         *longest = wait.max(*longest);
         if let Some(granted) = r.granted {

@@ -91,12 +91,17 @@ impl Plan {
         set
     }
 
-    pub fn conflict(&self, e: u8, f: u8) -> bool {
+    /// Clause 3.2: the resources that stand between two entries.
+    pub fn shared(&self, e: u8, f: u8) -> Resources {
         let (e, f) = (&self.entries[e as usize], &self.entries[f as usize]);
         match (e.write, f.write) {
-            (false, false) => false,
-            (true, true) => !self.widened(e).is_disjoint(&self.widened(f)),
-            _ => !e.names.is_disjoint(&f.names),
+            (false, false) => Resources::new(),
+            (true, true) => self.widened(e).intersection(&self.widened(f)).copied().collect(),
+            _ => e.names.intersection(&f.names).copied().collect(),
         }
+    }
+
+    pub fn conflict(&self, e: u8, f: u8) -> bool {
+        !self.shared(e, f).is_empty()
     }
 }

@@ -136,11 +136,18 @@ impl State {
         let active = self.waiting | self.entitled | self.holding;
         let w = Bits(active).fold(0u32, |w, p| w | ((board.writes & self.place::<KIND>(p) != 0) as u32) << p);
         // 1
-        let candidates = self.entitled & !w;
+        let mut candidates = self.entitled & !w;
+        if self.waiting & !w != 0 {
+            let against = self.entries_of::<KIND>(self.entitled & w);
+            for p in Bits(self.waiting & !w) {
+                candidates |= ((self.row::<KIND>(board, p) & against == 0) as u32) << p;
+            }
+        }
         if candidates != 0 {
             let against = self.entries_of::<KIND>(self.holding & w);
             for p in Bits(candidates) {
                 if self.row::<KIND>(board, p) & against == 0 {
+                    self.waiting &= !(1 << p);
                     self.entitled &= !(1 << p);
                     self.holding |= 1 << p;
                 }
@@ -223,16 +230,7 @@ impl State {
             self.holding = 1 << p;
             return Ok(Done { granted: 1 << p, entitled: 0, late: 0 });
         }
-        let mut writes = 0u64;
-        for q in Bits(entitled | held) {
-            let f = self.entry[q] & 63;
-            writes |= board.writes & 1 << f;
-        }
-        if board.writes >> e & 1 == 0 && board.rows[e as usize] & writes == 0 {
-            self.holding |= 1 << p;
-        } else {
-            self.waiting |= 1 << p;
-        }
+        self.waiting |= 1 << p;
         Ok(self.answer::<KIND>(board, held, entitled, 0))
     }
 

@@ -1,4 +1,4 @@
--- The answers to issue and complete, put together from what their parts give. Assumes nothing.
+-- The answers to the calls, put together from what their parts give. Assumes nothing.
 use mathlib.Core.Path.{_≡_, refl, sym, ap, ap₂, _∙_}
 use mathlib.Core.Bool.{Bool, cond, not, _&&_}
 use mathlib.Core.List.{List}
@@ -22,15 +22,15 @@ use Rattle.conflicts.proofs.Tabulate.{tabulate-agree}
 use Rattle.calls.specs.Replies.{refusedWith}
 use Rattle.calls.specs.declared.Call.{Call}
 use Rattle.settling.specs.declared.Phases.{Phases}
-use Rattle.settling.specs.Requests.{factsBy}
-use Rattle.settling.specs.Settling.{settled, admitted}
+use Rattle.settling.specs.Requests.{Facts, factsBy}
+use Rattle.settling.specs.Settling.{settled}
 use Rattle.states.specs.declared.Terms.{Terms}
 use Rattle.states.specs.declared.Board.{Board}
 use Rattle.states.specs.declared.State.{State}
 use Rattle.states.specs.Requests.{hasProcessor}
-use Rattle.states.specs.Faults.{tickFault, processorFault, issueFault, completeFault}
+use Rattle.states.specs.Faults.{tickFault, processorFault, issueFault, completeFault, withdrawFault}
 use Rattle.acting.specs.Acts.{putIn, putLast, takenOut, began, stamped}
-use Rattle.acting.specs.Calls.{Answer, phasesOf, putState, takenState, done, ruled, issueDone, issued, lateMark, takenDone, completed, answered}
+use Rattle.acting.specs.Calls.{Answer, phasesOf, putState, takenState, done, ruled, settledDone, issued, lateMark, left, completed, withdrawn, answered}
 use Rattle.acting.specs.InPlace.{boardBy, stateBy}
 use Rattle.states.specs.inner.Small.{Small}
 
@@ -102,47 +102,85 @@ module _ (b : Board) (s : State) (before : Phases) (cleans : before ≡ phasesOf
 
     pub issue-accepted : v ≡ Verdict.Accepted → (line : List ℕ) (after : Phases) (a : Answer)
         → line ≡ putLast (s .earlier) before p
-        → after
-        ≡ settled (factsBy (b .rows) (b .terms .writes) (set (s .entry) p e) line)
-        (admitted (factsBy (b .rows) (b .terms .writes) (set (s .entry) p e) line) (putIn before p) p)
+        → after ≡ settled (factsBy (b .rows) (b .terms .writes) (set (s .entry) p e) line) (putIn before p)
         → a ≡ done (stateBy (record { last = t; phases = before }) (set (s .entry) p e) (set (s .since) p t) line) after 0
         → a ≡ issued b s p e t
-    unfolding putIn putState stamped done issueDone issued
+    unfolding putIn putState stamped done settledDone issued
     issue-accepted w line after a el ef eq =
         eq ∙ ap (λ after. done (put before line) after 0) ef
-        ∙ ap₂ (λ ph line. issueDone b (put ph line) p) cleans (el ∙ ap (λ ph. putLast (s .earlier) ph p) cleans)
+        ∙ ap₂ (λ ph line. settledDone b (put ph line) 0) cleans (el ∙ ap (λ ph. putLast (s .earlier) ph p) cleans)
         ∙ ruled-accepts _ v s _ decides w
       where
         put : Phases → List ℕ → State
         put ph line = stateBy (record { last = t; phases = putIn ph p }) (set (s .entry) p e) (set (s .since) p t) line
 
-  module _ (p t : ℕ) (says : verdictNumber v ≡ completeFault (b .terms) (s .last) before p t) where
-    ends : verdictNumber v ≡ completeFault (b .terms) (s .last) (phasesOf b s) p t
-    ends = says ∙ ap (λ ph. completeFault (b .terms) (s .last) ph p t) cleans
+  -- A request that leaves.
+  module _ (p t late : ℕ) (number : Phases → ℕ) (says : verdictNumber v ≡ number before) where
+    ends : verdictNumber v ≡ number (phasesOf b s)
+    ends = says ∙ ap number cleans
 
+    leave-refused : (r : Refusal) → v ≡ Verdict.Refused r
+        → _≡_ {A = Answer} (record { reply = refusedWith (numberOf r); state = s }) (left b s p t (number (phasesOf b s)) late)
+    unfolding left
+    leave-refused r w = ruled-refuses (number (phasesOf b s)) v r s _ ends w
+
+    leave-accepted : v ≡ Verdict.Accepted → (a : Answer)
+        → a
+        ≡ done (stateBy (record { last = t; phases = takenOut before p }) (s .entry) (s .since) (s .earlier))
+        (settled (factsBy (b .rows) (b .terms .writes) (s .entry) (s .earlier)) (takenOut before p)) late
+        → a ≡ left b s p t (number (phasesOf b s)) late
+    unfolding takenState settledDone left
+    leave-accepted w a eq =
+        eq
+        ∙ ap (λ ph.
+        settledDone b (stateBy (record { last = t; phases = takenOut ph p }) (s .entry) (s .since) (s .earlier)) late) cleans
+        ∙ ruled-accepts (number (phasesOf b s)) v s _ ends w
+
+  -- What is left once p's request is taken out, as `leave` gives it.
+  abbrev Gone : Answer → ℕ → ℕ → ℕ → Type 0
+  Gone a p t late =
+      a
+      ≡ done (stateBy (record { last = t; phases = takenOut before p }) (s .entry) (s .since) (s .earlier))
+      (settled (factsBy (b .rows) (b .terms .writes) (s .entry) (s .earlier)) (takenOut before p)) late
+
+  module _ (p t : ℕ) (says : verdictNumber v ≡ completeFault (b .terms) (s .last) before p t) where
     pub complete-refused : (r : Refusal) → v ≡ Verdict.Refused r
         → _≡_ {A = Answer} (record { reply = refusedWith (numberOf r); state = s }) (completed b s p t)
     unfolding completed
-    complete-refused r w = ruled-refuses _ v r s _ ends w
+    complete-refused = leave-refused p t (lateMark b s p t) (λ ph. completeFault (b .terms) (s .last) ph p t) says
 
-    pub complete-accepted : v ≡ Verdict.Accepted → (length late : ℕ) (ready after : Phases) (a : Answer)
+    pub complete-accepted : v ≡ Verdict.Accepted → (length late : ℕ) (a : Answer)
         → length ≡ getD (b .lengths) (getD (s .entry) p 0) 0 → late ≡ cond (ltb length (t - getD (s .since) p 0)) 1 0
-        → ready ≡ takenOut before p → after ≡ settled (factsBy (b .rows) (b .terms .writes) (s .entry) (s .earlier)) ready
-        → a ≡ done (stateBy (record { last = t; phases = ready }) (s .entry) (s .since) (s .earlier)) after late
-        → a ≡ completed b s p t
-    unfolding takenState takenDone completed
-    complete-accepted w length late ready after a eh el er ef eq =
-        eq ∙ ap₂ (done (taken ready)) ef (el ∙ ap (λ (x : ℕ). cond (ltb x (t - getD (s .since) p 0)) 1 0) eh)
-        ∙ ap (λ ph. takenDone b (taken ph) (lateMark b s p t)) (er ∙ ap (λ ph. takenOut ph p) cleans)
-        ∙ ruled-accepts _ v s _ ends w
-      where
-        taken : Phases → State
-        taken ph = stateBy (record { last = t; phases = ph }) (s .entry) (s .since) (s .earlier)
+        → Gone a p t late → a ≡ completed b s p t
+    unfolding completed
+    complete-accepted w length late a eh el eq =
+        leave-accepted p t late (λ ph. completeFault (b .terms) (s .last) ph p t) says w a eq
+        ∙ ap (left b s p t (completeFault (b .terms) (s .last) (phasesOf b s) p t))
+        (el ∙ ap (λ (x : ℕ). cond (ltb x (t - getD (s .since) p 0)) 1 0) eh)
+
+  module _ (p t : ℕ) (says : verdictNumber v ≡ withdrawFault (b .terms) (s .last) before p t) where
+    pub withdraw-refused : (r : Refusal) → v ≡ Verdict.Refused r
+        → _≡_ {A = Answer} (record { reply = refusedWith (numberOf r); state = s }) (withdrawn b s p t)
+    unfolding withdrawn
+    withdraw-refused = leave-refused p t 0 (λ ph. withdrawFault (b .terms) (s .last) ph p t) says
+
+    pub withdraw-accepted : v ≡ Verdict.Accepted → (a : Answer) → Gone a p t 0 → a ≡ withdrawn b s p t
+    unfolding withdrawn
+    withdraw-accepted = leave-accepted p t 0 (λ ph. withdrawFault (b .terms) (s .last) ph p t) says
+
+-- What is left is settled, from the phases that were worked out.
+pub left-done : (f : Facts) (tick late : ℕ) (entry since earlier : List ℕ) {ready gone after : Phases} {a : Answer} → ready ≡ gone
+    → after ≡ settled f ready → a ≡ done (stateBy (record { last = tick; phases = ready }) entry since earlier) after late
+    → a ≡ done (stateBy (record { last = tick; phases = gone }) entry since earlier) (settled f gone) late
+left-done f tick late entry since earlier er ea e =
+    e
+    ∙ ap₂ (λ ph after. done (stateBy (record { last = tick; phases = ph }) entry since earlier) after late) er (ea ∙ ap (settled f) er)
 
 -- ---- what a call reads
 
 -- Of a board its terms, its conflict rows and its lengths.
 pub call-reads : (b : Board) (s : State) (call : Call) → answered (boardBy (b .terms) (b .rows) (b .lengths)) s call ≡ answered b s call
-unfolding putState issueDone issued takenState takenDone completed
+unfolding putState settledDone issued takenState left completed withdrawn
 call-reads b s (Call.Issue p e t) = refl
 call-reads b s (Call.Complete p t) = refl
+call-reads b s (Call.Withdraw p t) = refl

@@ -19,8 +19,7 @@ use Rattle.conflicts.specs.Conflict.{tabulate}
 use Rattle.conflicts.proofs.Tabulate.{length-tabulate, getD-tabulate}
 use Rattle.settling.specs.declared.Phases.{Phases}
 use Rattle.settling.specs.Requests.{Facts, active}
-use Rattle.settling.specs.Settling.{holdsAtOnce, admitted, settled}
-use Rattle.settling.proofs.Bounds.{admitted-small}
+use Rattle.settling.specs.Settling.{settled}
 use Rattle.settling.proofs.Quiet.{quiet}
 use Rattle.settling.proofs.Idle.{alone-holds}
 use Rattle.acting.specs.Acts.{putIn, putLast, takenOut}
@@ -91,74 +90,25 @@ last-own line earlier ph p l e =
     ∙ getD-tabulate slots (λ q. cond (eqb q p) (maskOf slots (active ph)) (maskOf slots (λ r. bit (getD earlier q 0) r && not (eqb r p)))) p 0 l
     ∙ ap (λ t. cond t (maskOf slots (active ph)) (maskOf slots (λ r. bit (getD earlier p 0) r && not (eqb r p)))) (eq-eqb p p refl)
 
--- ---- the new request, put in and admitted
+-- ---- the new request put in
 
-module _ (f : Facts) (ph : Phases) (p : ℕ) (s : Small ph) (l : p < slots) where
-  waits-in : Mask slots (λ q. bit (ph .waiting) q || eqb q p) (maskOf slots (λ q. bit (ph .waiting) q || eqb q p))
-  waits-in = record { is = refl }
-
-  -- It holds at once.
-  in-and-out : (b e : Bool) → (b && not e) ≡ ((b || e) && not (e && true))
-  in-and-out true true = refl
-  in-and-out true false = refl
-  in-and-out false true = refl
-  in-and-out false false = refl
-
-  pub admitted-holding : (keep holding : ℕ) → true ≡ holdsAtOnce f ph p → keep ≡ maskOf slots (others p)
-      → holding ≡ cond (ltb p 32) (added (ph .holding) p) (ph .holding)
-      → _≡_ {A = Phases} (record { waiting = bitAnd (ph .waiting) keep; entitled = ph .entitled; holding = holding }) (admitted f (putIn ph p) p)
-  unfolding putIn holdsAtOnce admitted
-  admitted-holding keep holding once ek eh = λ i. record { waiting = w i; entitled = ph .entitled; holding = h i }
-    where
-      w : bitAnd (ph .waiting) keep ≡ maskOf slots (λ q. bit (maskOf slots (λ q. bit (ph .waiting) q || eqb q p)) q && not (eqb q p && holdsAtOnce f ph p))
-      w =
-          agree-is
-          (λ q m. in-and-out (bit (ph .waiting) q) (eqb q p)
-          ∙ ap₂ (λ t u. t && not (eqb q p && u)) (sym (bit-is waits-in q m)) once)
-          (any-and (ph .waiting) (record { is = ek })) .is
-
-      h : holding ≡ maskOf slots (λ q. bit (ph .holding) q || (eqb q p && holdsAtOnce f ph p))
-      h =
-          eh
-          ∙ agree-is
-          (λ q m. ap (λ t. bit (ph .holding) q || t) (sym (and-true (eqb q p)) ∙ ap (λ t. eqb q p && t) once))
-          (in-is 32 p (omega arith) l (own-is slots (ph .holding) (s .2))) .is
-
-  -- It waits.
-  pub admitted-waiting : (waiting : ℕ) → false ≡ holdsAtOnce f ph p → waiting ≡ cond (ltb p 32) (added (ph .waiting) p) (ph .waiting)
-      → _≡_ {A = Phases} (record { waiting = waiting; entitled = ph .entitled; holding = ph .holding }) (admitted f (putIn ph p) p)
-  unfolding putIn holdsAtOnce admitted
-  admitted-waiting waiting once ew = λ i. record { waiting = w i; entitled = ph .entitled; holding = h i }
-    where
-      w : waiting ≡ maskOf slots (λ q. bit (maskOf slots (λ q. bit (ph .waiting) q || eqb q p)) q && not (eqb q p && holdsAtOnce f ph p))
-      w =
-          ew
-          ∙ agree-is
-          (λ q m. sym (bit-is waits-in q m) ∙ sym (and-true _) ∙ ap (λ t. bit (maskOf slots (λ q. bit (ph .waiting) q || eqb q p)) q && not t) (sym (and-false (eqb q p)) ∙ ap (λ t. eqb q p && t) once))
-          (in-is 32 p (omega arith) l (own-is slots (ph .waiting) (s .0))) .is
-
-      h : ph .holding ≡ maskOf slots (λ q. bit (ph .holding) q || (eqb q p && holdsAtOnce f ph p))
-      h =
-          agree-is
-          (λ q m. sym (or-false (bit (ph .holding) q)) ∙ ap (λ t. bit (ph .holding) q || t) (sym (and-false (eqb q p)) ∙ ap (λ t. eqb q p && t) once))
-          (own-is slots (ph .holding) (s .2)) .is
+module _ (ph : Phases) (p : ℕ) (s : Small ph) (l : p < slots) where
+  pub new-waits : (waiting : ℕ) → waiting ≡ cond (ltb p 32) (added (ph .waiting) p) (ph .waiting)
+      → _≡_ {A = Phases} (record { waiting = waiting; entitled = ph .entitled; holding = ph .holding }) (putIn ph p)
+  unfolding putIn
+  new-waits waiting e =
+      let w = e ∙ in-is 32 p (omega arith) l (own-is slots (ph .waiting) (s .0)) .is in
+      λ i. record { waiting = w i; entitled = ph .entitled; holding = ph .holding }
 
   -- Where nobody else is active it holds.
-  pub idle-holds : (alone : ℕ) → bitOr (bitOr (ph .waiting) (ph .entitled)) (ph .holding) ≡ 0 → getD (f .earlier) p 0 ≡ maskOf slots (active ph)
-      → alone ≡ cond (ltb p 32) (added 0 p) 0
-      → _≡_ {A = Phases} (record { waiting = 0; entitled = 0; holding = alone }) (settled f (admitted f (putIn ph p) p))
+  pub idle-holds : (f : Facts) (alone : ℕ) → bitOr (bitOr (ph .waiting) (ph .entitled)) (ph .holding) ≡ 0
+      → getD (f .earlier) p 0 ≡ maskOf slots (active ph) → alone ≡ cond (ltb p 32) (added 0 p) 0
+      → _≡_ {A = Phases} (record { waiting = 0; entitled = 0; holding = alone }) (settled f (putIn ph p))
   unfolding putIn
-  idle-holds alone idle first e =
+  idle-holds f alone idle first e =
       let any = neither (or-is (own-is slots (ph .waiting) (s .0)) (own-is slots (ph .entitled) (s .1))) (own-is slots (ph .holding) (s .2)) idle in
       let unsatisfied = neither (own-is slots (ph .waiting) (s .0)) (own-is slots (ph .entitled) (s .1)) (any .0) in
       (λ i. record { waiting = 0; entitled = 0; holding = (e ∙ same-is (in-is 32 p (omega arith) l (none-is slots)) (one-is slots p l)) i })
       ∙ alone-holds f p l (putIn ph p)
       (sym (agree-is (λ q m. ap (λ t. t || eqb q p) (sym (bit-none (ph .waiting) q (unsatisfied .0)))) (one-is slots p l) .is))
       (unsatisfied .1) (any .1) (first ∙ sym (active-is ph s .is) ∙ idle)
-
-  -- Where nobody is unsatisfied with it put in, nothing is settled.
-  pub quiet-with : (ready : Phases) → ready ≡ admitted f (putIn ph p) p → bitOr (ready .waiting) (ready .entitled) ≡ 0
-      → ready ≡ settled f (admitted f (putIn ph p) p)
-  unfolding putIn
-  quiet-with ready e none =
-      nothing-settled f ready (subst Small (sym e) (admitted-small f (putIn ph p) p (mask-below slots _, s .1, s .2))) none ∙ ap (settled f) e

@@ -1,4 +1,4 @@
--- Issue and complete on whole states. Specification, section 4.
+-- Issue, complete and withdraw on whole states. Specification, section 4.
 use Prim.Native.Nat.{ℕ, _-_}
 use mathlib.Core.Bool.{cond}
 use lib.Dec.{eqb, ltb}
@@ -9,11 +9,11 @@ use Rattle.calls.specs.declared.Call.{Call}
 use Rattle.calls.specs.Replies.{Response, refusedWith}
 use Rattle.settling.specs.declared.Phases.{Phases}
 use Rattle.settling.specs.Requests.{Facts, factsBy}
-use Rattle.settling.specs.Settling.{settled, admitted}
+use Rattle.settling.specs.Settling.{settled}
 use Rattle.states.specs.declared.Board.{Board}
 use Rattle.states.specs.declared.State.{State}
 use Rattle.states.specs.Requests.{cleaned}
-use Rattle.states.specs.Faults.{issueFault, completeFault}
+use Rattle.states.specs.Faults.{issueFault, completeFault, withdrawFault}
 use Rattle.acting.specs.Acts.{putIn, putLast, takenOut, began, became, stamped}
 
 -- What settling goes by, of a board and a state.
@@ -77,31 +77,34 @@ done x after late =
 abbrev pub ruled : ℕ → State → Answer → Answer
 ruled number s accepted = cond (eqb number 0) accepted (record { reply = refusedWith number; state = s })
 
--- Clauses 4.6 and 5.1: the new read holds at once where it may, then the four steps. An issue is never late.
-unfoldable pub issueDone : Board → State → ℕ → Answer
-issueDone b x p = done x (settled (factsOf b x) (admitted (factsOf b x) (x .phases) p)) 0
+-- Clauses 4.6 and 5.2: the state x has the request put in or taken out; then all requests are settled.
+unfoldable pub settledDone : Board → State → ℕ → Answer
+settledDone b x late = done x (settled (factsOf b x) (x .phases)) late
 
--- Clause 4.4: issue: processor p asks for entry e at tick t.
+-- Clause 4.4: issue: processor p asks for entry e at tick t. An issue is never late.
 unfoldable pub issued : Board → State → ℕ → ℕ → ℕ → Answer
 issued b s p e t =
-    ruled (issueFault (b .terms) (s .last) (phasesOf b s) p e t) s (issueDone b (putState b s p e t) p)
+    ruled (issueFault (b .terms) (s .last) (phasesOf b s) p e t) s (settledDone b (putState b s p e t) 0)
 
 -- Clauses 4.8 and 4.10: late is 1 where the hold was longer than its entry's length. A hold that would run backwards
 -- lasted 0.
 abbrev pub lateMark : Board → State → ℕ → ℕ → ℕ
 lateMark b s p t = cond (ltb (getD (b .lengths) (getD (s .entry) p 0) 0) (t - getD (s .since) p 0)) 1 0
 
--- Clause 4.6: the request is taken out, then the four steps.
-unfoldable pub takenDone : Board → State → ℕ → Answer
-takenDone b x late = done x (settled (factsOf b x) (x .phases)) late
+-- Clauses 4.4 and 4.6: processor p's request leaves at tick t, unless a number is due.
+unfoldable pub left : Board → State → ℕ → ℕ → ℕ → ℕ → Answer
+left b s p t number late = ruled number s (settledDone b (takenState b s p t) late)
 
 -- Clause 4.4: complete: processor p gives its request back at tick t.
 unfoldable pub completed : Board → State → ℕ → ℕ → Answer
-completed b s p t =
-    ruled (completeFault (b .terms) (s .last) (phasesOf b s) p t) s
-    (takenDone b (takenState b s p t) (lateMark b s p t))
+completed b s p t = left b s p t (completeFault (b .terms) (s .last) (phasesOf b s) p t) (lateMark b s p t)
+
+-- Clauses 4.4 and 4.8: withdraw: processor p leaves the line at tick t. It held nothing, so it is never late.
+unfoldable pub withdrawn : Board → State → ℕ → ℕ → Answer
+withdrawn b s p t = left b s p t (withdrawFault (b .terms) (s .last) (phasesOf b s) p t) 0
 
 -- The answer to any call.
 abbrev pub answered : Board → State → Call → Answer
 answered b s (Call.Issue p e t) = issued b s p e t
 answered b s (Call.Complete p t) = completed b s p t
+answered b s (Call.Withdraw p t) = withdrawn b s p t

@@ -9,9 +9,9 @@ use Rattle.states.specs.declared.Moment.{Moment}
 use Rattle.acting.specs.declared.Changed.{Changed}
 use Rattle.acting.specs.Calls.{Answer}
 
--- The board of these terms, conflict rows and lengths. No call reads a widened set.
+-- The board of these terms, conflict rows and lengths. No call reads names or a widened set.
 abbrev pub boardBy : Terms → List ℕ → List ℕ → Board
-boardBy terms rows lengths = record { terms = terms; lengths = lengths; widened = []; rows = rows }
+boardBy terms rows lengths = record { terms = terms; lengths = lengths; names = []; widened = []; rows = rows }
 
 -- The state of this moment and these arrays.
 abbrev pub stateBy : Moment → List ℕ → List ℕ → List ℕ → State

@@ -5,11 +5,9 @@ use plans::ENTRIES;
 use plans::SLOTS;
 use settling::ALL;
 use settling::Phases;
-use settling::holds_at_once;
 use settling::settle;
 ghost use mathlib.Core.Path.{_≡_};
 ghost use mathlib.Core.Bool.{cond, not};
-ghost use mathlib.Core.List.{[]};
 ghost use Prim.Native.Nat.{_<_, _^_};
 ghost use lib.Bits.{bitAnd};
 ghost use lib.Dec.{eqb};
@@ -18,7 +16,7 @@ ghost use Rattle.masks.specs.Sets.{bit, maskOf};
 ghost use Rattle.plans.specs.Entries.{slots};
 ghost use Rattle.conflicts.specs.Conflict.{tabulate};
 ghost use Rattle.settling.specs.Requests.{factsBy, active};
-ghost use Rattle.settling.specs.Settling.{settled, admitted};
+ghost use Rattle.settling.specs.Settling.{settled};
 ghost use Rattle.acting.specs.Acts.{putIn, putLast, takenOut};
 ghost use Rattle.states.specs.inner.Small.{Small};
 
@@ -59,35 +57,20 @@ pub fn put_last(earlier: &mut [u32; SLOTS], phases: Phases, processor: u8)
     earlier[processor as usize] = phases.waiting | phases.entitled | phases.holding;
 }
 
-// The phases with the processor's new request put in: it holds at once, or it waits.
-fn admit(
-    rows: &[u64; ENTRIES],
-    writes: u64,
-    entry: &[u8; SLOTS],
-    phases: Phases,
-    processor: u8,
-) -> Phases
+// The phases with the processor's new request put in, waiting.
+fn put_in(phases: Phases, processor: u8) -> Phases
     requires { ⌜ Small phases × (processor < slots) ⌝ }
-    ensures { λ r. ⌜ (let f = factsBy (now (rows .entry)) writes (now (entry .entry)) [] in
-        r ≡ admitted f (putIn phases processor) processor) ⌝ }
+    ensures { λ r. ⌜ r ≡ putIn phases processor ⌝ }
 {
-    let p = processor as u32;
-    if holds_at_once(rows, writes, entry, phases, processor) {
-        return Phases {
-            waiting: phases.waiting & all_but(processor),
-            entitled: phases.entitled,
-            holding: add32(phases.holding, p),
-        };
-    }
     Phases {
-        waiting: add32(phases.waiting, p),
+        waiting: add32(phases.waiting, processor as u32),
         entitled: phases.entitled,
         holding: phases.holding,
     }
 }
 
 // The phases with the processor's new request put in and settled. Where nobody else is active it holds, read or write,
-// and no row has to be looked at. Where it holds at once and nobody waits or is entitled, there is nothing to settle.
+// and no row has to be looked at.
 pub fn settle_new(
     rows: &[u64; ENTRIES],
     writes: u64,
@@ -98,8 +81,9 @@ pub fn settle_new(
 ) -> Phases
     requires { ⌜ Small phases × (processor < slots)
         × (getD (now earlier) processor 0 ≡ maskOf slots (active phases)) ⌝ }
-    ensures { λ r. ⌜ (let f = factsBy (now (rows .entry)) writes (now (entry .entry)) (now (earlier .entry)) in
-        r ≡ settled f (admitted f (putIn phases processor) processor)) ⌝ }
+    ensures { λ r. ⌜ r ≡ settled
+        (factsBy (now (rows .entry)) writes (now (entry .entry)) (now (earlier .entry)))
+        (putIn phases processor) ⌝ }
 {
     if phases.waiting | phases.entitled | phases.holding == 0 {
         return Phases {
@@ -108,11 +92,7 @@ pub fn settle_new(
             holding: add32(0, processor as u32),
         };
     }
-    let ready = admit(rows, writes, entry, phases, processor);
-    if ready.waiting | ready.entitled == 0 {
-        return ready;
-    }
-    settle(rows, writes, entry, earlier, ready)
+    settle(rows, writes, entry, earlier, put_in(phases, processor))
 }
 
 // The phases with the processor's request taken out.

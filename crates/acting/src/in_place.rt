@@ -16,6 +16,7 @@ use states::Moment;
 use states::Terms;
 use states::check_complete;
 use states::check_issue;
+use states::check_withdraw;
 use states::clean;
 ghost use mathlib.Core.Path.{_≡_};
 ghost use mathlib.Core.Bool.{cond};
@@ -25,7 +26,8 @@ ghost use lib.Dec.{ltb};
 ghost use lib.ListN.{getD};
 ghost use Rattle.settling.specs.Requests.{factsBy};
 ghost use Rattle.settling.specs.Settling.{settled};
-ghost use Rattle.acting.specs.Calls.{done, issued, completed, answered};
+ghost use Rattle.acting.specs.Acts.{takenOut};
+ghost use Rattle.acting.specs.Calls.{done, issued, completed, withdrawn, answered};
 ghost use Rattle.acting.specs.InPlace.{boardBy, stateBy, answerBy};
 ghost use Rattle.states.specs.inner.Small.{Small};
 
@@ -130,6 +132,29 @@ fn settle_left(
     settle(rows, writes, entry, earlier, phases)
 }
 
+// The processor's request is taken out and the others are settled: what a completion and a withdrawal do alike.
+fn leave(
+    rows: &[u64; ENTRIES],
+    writes: u64,
+    entries: &[u8; SLOTS],
+    since: &mut [u64; SLOTS],
+    earlier: &[u32; SLOTS],
+    phases: Phases,
+    processor: u8,
+    tick: u64,
+    late: u8,
+) -> Changed
+    ensures { λ r. ⌜ answerBy r (now (entries .entry)) (now (since .exit)) (now (earlier .entry))
+        ≡ done (stateBy (record { last = tick; phases = takenOut phases processor }) (now (entries .entry))
+        (now (since .entry)) (now (earlier .entry)))
+        (settled (factsBy (now (rows .entry)) writes (now (entries .entry)) (now (earlier .entry)))
+        (takenOut phases processor)) late ⌝ }
+{
+    let ready = take_out(phases, processor);
+    let after = settle_left(rows, writes, entries, earlier, ready);
+    accept(tick, ready, after, since, late)
+}
+
 // Processor gives its request back at a tick. Refused by 10, 11, 14, 15, in that order.
 pub fn complete_in_place(
     terms: Terms,
@@ -160,9 +185,57 @@ pub fn complete_in_place(
     }
     let length = length_at(lengths, entries[processor as usize]);
     let late = late_mark(length, since[processor as usize], tick);
-    let ready = take_out(before, processor);
-    let after = settle_left(rows, terms.writes, entries, earlier, ready);
-    accept(tick, ready, after, since, late)
+    leave(
+        rows,
+        terms.writes,
+        entries,
+        since,
+        earlier,
+        before,
+        processor,
+        tick,
+        late,
+    )
+}
+
+// Processor leaves the line at a tick, with a request that does not hold. Refused by 10, 11, 14, 17, in that order.
+pub fn withdraw_in_place(
+    terms: Terms,
+    rows: &[u64; ENTRIES],
+    moment: Moment,
+    entries: &[u8; SLOTS],
+    since: &mut [u64; SLOTS],
+    earlier: &[u32; SLOTS],
+    processor: u8,
+    tick: u64,
+) -> Changed
+    ensures { λ r. ⌜ answerBy r (now (entries .entry)) (now (since .exit)) (now (earlier .entry))
+        ≡ withdrawn (boardBy terms (now (rows .entry)) [])
+        (stateBy moment (now (entries .entry)) (now (since .entry)) (now (earlier .entry))) processor tick ⌝ }
+{
+    let given = moment.phases;
+    let before = clean(terms, *entries, given);
+    let verdict = check_withdraw(terms, moment.last, before, processor, tick);
+    match verdict {
+        Verdict::Accepted => {}
+        Verdict::Refused(refusal) => {
+            return Changed {
+                reply: Reply::Refused(refusal),
+                moment: moment,
+            };
+        }
+    }
+    leave(
+        rows,
+        terms.writes,
+        entries,
+        since,
+        earlier,
+        before,
+        processor,
+        tick,
+        0,
+    )
 }
 
 // The answer to any call, on the three arrays of a state. The terms, the rows and the lengths are a board's, and the
@@ -204,6 +277,18 @@ pub fn answer_in_place(
                 terms,
                 rows,
                 lengths,
+                moment,
+                entries,
+                since,
+                earlier,
+                processor,
+                tick,
+            )
+        }
+        Call::Withdraw { processor, tick } => {
+            withdraw_in_place(
+                terms,
+                rows,
                 moment,
                 entries,
                 since,

@@ -7,6 +7,7 @@ use calls::Reply;
 pub use in_place::answer_in_place;
 pub use in_place::complete_in_place;
 pub use in_place::issue_in_place;
+pub use in_place::withdraw_in_place;
 use states::Moment;
 
 // What a call in place returns: the reply, and the moment after it.

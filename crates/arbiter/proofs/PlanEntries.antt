@@ -18,18 +18,6 @@ use Rattle.conflicts.proofs.Widening.{entry-at}
 use Rattle.states.specs.declared.Board.{Board}
 use Rattle.arbiter.specs.Fresh.{boardOf}
 
--- Past the count an entry is the blank one.
-past-count : (p : Plan) (i : ℕ) → ltb i (p .count) ≡ false → entryAt p i ≡ blankEntry
-past-count p i e =
-    List·getD-eq-default (countedEntries p) blankEntry {n = i} (omega (arith, length-take (p .count) (p .entries), ltb-false i (p .count) e))
-
-pub length-at-entry : (p : Plan) (i : ℕ) → cond (ltb i (p .count)) (getD (p .entries) i blankEntry .length) 0 ≡ entryAt p i .length
-length-at-entry p i = go (ltb i (p .count)) refl
-  where
-    go : (t : Bool) → ltb i (p .count) ≡ t → cond t (getD (p .entries) i blankEntry .length) 0 ≡ entryAt p i .length
-    go true e = ap (λ (x : Entry). x .length) (sym (entry-at p i (ltb-true i (p .count) e)))
-    go false e = ap (λ (x : Entry). x .length) (sym (past-count p i e))
-
 -- Which counted entries are writes.
 abbrev pub writesIn : Plan → ℕ → Bool
 writesIn p i = ltb i (p .count) && isWrite (entryAt p i)
@@ -57,8 +45,8 @@ writes-more p i out place next l eo ep en =
 pub board-made : (p : Plan) (writes : ℕ) (lengths : List ℕ) (worked : Conflicts) → lengths ≡ boardOf p .lengths → worked ≡ conflictsOf p
     → writes ≡ boardOf p .terms .writes
     → _≡_ {A = Board}
-    (record { terms = record { processors = p .processors; count = p .count; writes = writes }; lengths = lengths; widened = worked .widened; rows = worked .rows })
+    (record { terms = record { processors = p .processors; count = p .count; writes = writes }; lengths = lengths; names = worked .names; widened = worked .widened; rows = worked .rows })
     (boardOf p)
 unfolding boardOf
 board-made p writes lengths worked el ec ew =
-    λ i. record { terms = record { processors = p .processors; count = p .count; writes = ew i }; lengths = el i; widened = ec i .widened; rows = ec i .rows }
+    λ i. record { terms = record { processors = p .processors; count = p .count; writes = ew i }; lengths = el i; names = ec i .names; widened = ec i .widened; rows = ec i .rows }

@@ -22,7 +22,8 @@ freshState =
       entry = replicate slots 0;
     }
 
--- Clause 3.3: the board of a plan: its counts, which entries are writes, their lengths, and conflict worked out once.
+-- Clause 3.3: the board of a plan: its counts, which entries are writes, their lengths, and conflict worked out once, with
+-- the names and widened sets that it was worked out from.
 unfoldable pub boardOf : Plan → Board
 boardOf p =
     record {
@@ -33,6 +34,7 @@ boardOf p =
             writes = maskOf mostEntries (λ i. ltb i (p .count) && isWrite (entryAt p i));
           };
       lengths = tabulate mostEntries (λ i. entryAt p i .length);
+      names = conflictsOf p .names;
       widened = conflictsOf p .widened;
       rows = conflictsOf p .rows;
     }
@@ -43,6 +45,7 @@ blankBoard =
     record {
       terms = record { processors = 0; count = 0; writes = 0 };
       lengths = replicate mostEntries 0;
+      names = replicate mostEntries 0;
       widened = replicate mostEntries 0;
       rows = replicate mostEntries 0;
     }

@@ -72,6 +72,7 @@ fn board_of(plan: Plan) -> Board
 {
     let lengths = lengths_of(plan);
     let worked = conflicts_of(plan);
+    let names = worked.names;
     let widened = worked.widened;
     let rows = worked.rows;
     Board {
@@ -81,6 +82,7 @@ fn board_of(plan: Plan) -> Board
             writes: writes_of(plan),
         },
         lengths: lengths,
+        names: names,
         widened: widened,
         rows: rows,
     }
@@ -91,6 +93,7 @@ fn blank_board() -> Board
     ensures { λ r. ⌜ r ≡ blankBoard ⌝ }
 {
     let lengths = [0; ENTRIES];
+    let names = [0; ENTRIES];
     let widened = [0; ENTRIES];
     let rows = [0; ENTRIES];
     Board {
@@ -100,6 +103,7 @@ fn blank_board() -> Board
             writes: 0,
         },
         lengths: lengths,
+        names: names,
         widened: widened,
         rows: rows,
     }

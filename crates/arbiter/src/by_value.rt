@@ -10,7 +10,7 @@ use states::State;
 use states::Terms;
 use states::clean;
 ghost use mathlib.Core.Path.{_≡_};
-ghost use Rattle.acting.specs.Calls.{phasesOf, issued, completed, answered};
+ghost use Rattle.acting.specs.Calls.{phasesOf, issued, completed, withdrawn, answered};
 ghost use Rattle.acting.specs.InPlace.{boardBy};
 ghost use Rattle.arbiter.specs.Answers.{answerOf};
 
@@ -97,4 +97,11 @@ pub fn complete(board: Board, state: State, processor: u8, tick: u64) -> Answere
     ensures { λ r. ⌜ answerOf r ≡ completed board state processor tick ⌝ }
 {
     answer(board, state, Call::Complete { processor, tick })
+}
+
+// Processor leaves the line at a tick, with a request that does not hold. Refused by 10, 11, 14, 17, in that order.
+pub fn withdraw(board: Board, state: State, processor: u8, tick: u64) -> Answered
+    ensures { λ r. ⌜ answerOf r ≡ withdrawn board state processor tick ⌝ }
+{
+    answer(board, state, Call::Withdraw { processor, tick })
 }

@@ -1,6 +1,6 @@
 // The arbiter: a board made once from an accepted plan, and a state that goes in by value and comes back.
-// Every core's call goes through `answer`; the reply says who began to hold. `issue` and `complete` are the same by
-// name. The crate `acting` has the same calls on the arrays of a state that the caller lends: no copies.
+// Every core's call goes through `answer`; the reply says who began to hold. `issue`, `complete` and `withdraw` are the
+// same by name. The crate `acting` has the same calls on the arrays of a state that the caller lends: no copies.
 mod boards;
 mod by_value;
 
@@ -10,6 +10,7 @@ pub use by_value::answer_on;
 pub use by_value::complete;
 pub use by_value::issue;
 pub use by_value::phases_of;
+pub use by_value::withdraw;
 use calls::Reply;
 use refusals::Verdict;
 use states::Board;

@@ -2,22 +2,27 @@
 -- Assumes nothing.
 use Prim.Native.Nat.{ℕ, _+_, _<_}
 use mathlib.Core.Path.{_≡_, refl, ap, _∙_}
-use mathlib.Core.Bool.{Bool, true, false, cond, _&&_}
+use mathlib.Core.Bool.{Bool, true, false, cond, not, _&&_}
 use mathlib.Core.List.{List}
-use lib.Dec.{ltb}
+use lib.Bits.{bitAnd}
+use lib.Dec.{eqb, ltb}
 use lib.ListN.{getD}
 use borrow.Author.Tests.{ltb-true}
-use Rattle.masks.specs.Sets.{added, meets, maskOf}
+use Rattle.masks.specs.Sets.{added, maskOf}
 use Rattle.masks.proofs.Masks.{mask-next}
 use Rattle.plans.specs.declared.Entry.{Entry}
 use Rattle.plans.specs.declared.Plan.{Plan}
 use Rattle.plans.specs.Entries.{mostEntries, isRead, isWrite, countedEntries, blankEntry, entryAt}
-use Rattle.conflicts.specs.Conflict.{widenedSet, conflict, inConflict, conflictsOf}
+use Rattle.conflicts.specs.Conflict.{widenedSet, sharedBy, shared, conflict, Over, over, inConflict, conflictsOf}
+use Rattle.conflicts.proofs.Over.{over-is}
 use Rattle.conflicts.proofs.Widening.{entry-at, widened-counted, widened-at}
 
--- Conflict of two entries by their widened sets a and b.
-abbrev pub pair : Entry → ℕ → Entry → ℕ → Bool
-pair e a f b = cond (isWrite e && isWrite f) (meets a b) (cond (isRead e && isRead f) false (meets (e .set) (f .set)))
+-- What two entries share, by their widened sets a and b, and whether they conflict.
+abbrev pub pairShares : Entry → ℕ → Entry → ℕ → ℕ
+pairShares e a f b = sharedBy (isWrite e && isWrite f) (isRead e && isRead f) (bitAnd (e .set) (f .set)) (bitAnd a b)
+
+abbrev pair : Entry → ℕ → Entry → ℕ → Bool
+pair e a f b = not (eqb (pairShares e a f b) 0)
 
 module _ (p : Plan) (sets : List ℕ) (made : sets ≡ conflictsOf p .widened) where
   set-read : (i : ℕ) → i < mostEntries → i < p .count → getD sets i 0 ≡ widenedSet (countedEntries p) (getD (p .entries) i blankEntry)
@@ -27,7 +32,7 @@ module _ (p : Plan) (sets : List ℕ) (made : sets ≡ conflictsOf p .widened) w
       → ((ltb i (p .count) && ltb j (p .count))
       && pair (getD (p .entries) i blankEntry) (getD sets i 0) (getD (p .entries) j blankEntry) (getD sets j 0))
       ≡ inConflict p i j
-  unfolding inConflict conflict
+  unfolding inConflict conflict shared
   pair-in-conflict i j li lj = go (ltb i (p .count)) (ltb j (p .count)) refl refl
     where
       go : (t u : Bool) → ltb i (p .count) ≡ t → ltb j (p .count) ≡ u
@@ -41,10 +46,11 @@ module _ (p : Plan) (sets : List ℕ) (made : sets ≡ conflictsOf p .widened) w
       go false u hi hj = refl
 
   -- The row of entry i with column j, where the pair was found to conflict or not.
-  pub row-next : (i j row next : ℕ) (found : Bool) → i < mostEntries → j < mostEntries → row ≡ maskOf j (inConflict p i)
-      → found ≡ pair (getD (p .entries) i blankEntry) (getD sets i 0) (getD (p .entries) j blankEntry) (getD sets j 0)
-      → next ≡ cond ((ltb i (p .count) && ltb j (p .count)) && found) (added row j) row
+  pub row-next : (i j row next : ℕ) (found : Over) → i < mostEntries → j < mostEntries → row ≡ maskOf j (inConflict p i)
+      → found ≡ over (pairShares (getD (p .entries) i blankEntry) (getD sets i 0) (getD (p .entries) j blankEntry) (getD sets j 0))
+      → next ≡ cond ((ltb i (p .count) && ltb j (p .count)) && eqb (found .number) 1) (added row j) row
       → next ≡ maskOf (j + 1) (inConflict p i)
   row-next i j row next found li lj before e after =
-      mask-next j (inConflict p i) row next ((ltb i (p .count) && ltb j (p .count)) && found) after before
-      (ap (λ t. (ltb i (p .count) && ltb j (p .count)) && t) e ∙ pair-in-conflict i j li lj)
+      mask-next j (inConflict p i) row next ((ltb i (p .count) && ltb j (p .count)) && eqb (found .number) 1) after before
+      (ap (λ t. (ltb i (p .count) && ltb j (p .count)) && t) (ap (λ (o : Over). eqb (o .number) 1) e ∙ over-is _)
+      ∙ pair-in-conflict i j li lj)

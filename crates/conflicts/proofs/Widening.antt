@@ -2,13 +2,13 @@
 -- Assumes nothing.
 use Prim.Native.Nat.{ℕ, suc, _-_, _<_, _≤_, min}
 use native.Mathlib.Omega.{arith}
-use mathlib.Core.Path.{_≡_, sym, ap, ap₂, _∙_}
-use mathlib.Core.Bool.{cond, _&&_}
+use mathlib.Core.Path.{_≡_, refl, sym, ap, ap₂, _∙_}
+use mathlib.Core.Bool.{Bool, true, false, cond, _&&_}
 use lib.Bits.{bitOr}
 use lib.Dec.{ltb}
-use lib.ListN.{length, drop, getD, length-take, drop-of-length-le}
+use lib.ListN.{length, drop, getD, length-take, drop-of-length-le, List·getD-eq-default}
 use lib.Seq.{drop-cons, getD-take}
-use borrow.Author.Tests.{lt-ltb}
+use borrow.Author.Tests.{lt-ltb, ltb-true, ltb-false}
 use Rattle.masks.specs.Sets.{meets}
 use Rattle.plans.specs.declared.Entry.{Entry}
 use Rattle.plans.specs.declared.Plan.{Plan}
@@ -49,6 +49,20 @@ module _ (p : Plan) (i : ℕ) (h : i < p .count) where
 
   pub widened-counted : widenedAt p i ≡ widenedSet (countedEntries p) (getD (p .entries) i blankEntry)
   widened-counted = ap₂ (λ t e. cond t (widenedSet (countedEntries p) e) 0) (lt-ltb i (p .count) h) entry-at
+
+-- Past the count an entry is the blank one.
+pub past-count : (p : Plan) (i : ℕ) → ltb i (p .count) ≡ false → entryAt p i ≡ blankEntry
+past-count p i e =
+    List·getD-eq-default (countedEntries p) blankEntry {n = i} (omega (arith, length-take (p .count) (p .entries), ltb-false i (p .count) e))
+
+-- A number of each counted entry, 0 past the count, as a loop over the whole array meets it.
+pub counted-field : (p : Plan) (i : ℕ) (f : Entry → ℕ) → f blankEntry ≡ 0
+    → cond (ltb i (p .count)) (f (getD (p .entries) i blankEntry)) 0 ≡ f (entryAt p i)
+counted-field p i f none = go (ltb i (p .count)) refl
+  where
+    go : (t : Bool) → ltb i (p .count) ≡ t → cond t (f (getD (p .entries) i blankEntry)) 0 ≡ f (entryAt p i)
+    go true e = ap f (sym (entry-at p i (ltb-true i (p .count) e)))
+    go false e = sym (ap f (past-count p i e) ∙ none)
 
 -- The sets of an array that holds them all.
 pub widened-at : (p : Plan) (i : ℕ) → i < mostEntries → getD (conflictsOf p .widened) i 0 ≡ widenedAt p i

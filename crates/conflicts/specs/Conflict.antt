@@ -1,13 +1,14 @@
 -- Widened sets, and which entries of a plan conflict. Specification, section 3.
 use Prim.Native.Nat.{ℕ, zero, suc}
-use mathlib.Core.Bool.{Bool, false, cond, _&&_}
+use mathlib.Core.Bool.{Bool, cond, not, _&&_}
 use mathlib.Core.List.{List, [], _∷_, _++_}
-use lib.Bits.{bitOr}
-use lib.Dec.{ltb}
-use Rattle.masks.specs.Sets.{meets, maskOf}
+use lib.Bits.{bitAnd, bitOr}
+use lib.Dec.{eqb, ltb}
+use Rattle.masks.specs.Sets.{bit, meets, maskOf, countOf, lowestOf}
 use Rattle.plans.specs.declared.Entry.{Entry}
 use Rattle.plans.specs.declared.Plan.{Plan}
-use Rattle.plans.specs.Entries.{mostEntries, isRead, isWrite, countedEntries, entryAt}
+use Rattle.plans.specs.Entries.{mostResources, mostEntries, isRead, isWrite, countedEntries, entryAt}
+use Rattle.conflicts.specs.declared.Conflict.{Conflict}
 use Rattle.conflicts.specs.declared.Conflicts.{Conflicts}
 
 -- Clause 3.1: the names, joined with those of each read entry that shares a resource with them. Every entry is held
@@ -20,11 +21,38 @@ widen names (e ∷ later) = bitOr (widen names later) (cond (isRead e && meets (
 unfoldable pub widenedSet : List Entry → Entry → ℕ
 widenedSet entries e = cond (isWrite e) (widen (e .set) entries) (e .set)
 
--- Clauses 3.2 and 5.8: writes conflict by their widened sets, a read and a write by their names, reads never.
+-- Clauses 3.2 and 5.8: what stands between two entries: of two writes what their widened sets share, of two reads
+-- nothing, of a read and a write what their names share.
+abbrev pub sharedBy : Bool → Bool → ℕ → ℕ → ℕ
+sharedBy writes reads names widened = cond writes widened (cond reads 0 names)
+
+unfoldable pub shared : List Entry → Entry → Entry → ℕ
+shared entries e f =
+    sharedBy (isWrite e && isWrite f) (isRead e && isRead f) (bitAnd (e .set) (f .set))
+    (bitAnd (widenedSet entries e) (widenedSet entries f))
+
+-- Clause 3.2: they conflict where a resource stands between them.
 unfoldable pub conflict : List Entry → Entry → Entry → Bool
-conflict entries e f =
-    cond (isWrite e && isWrite f) (meets (widenedSet entries e) (widenedSet entries f))
-    (cond (isRead e && isRead f) false (meets (e .set) (f .set)))
+conflict entries e f = not (eqb (shared entries e f) 0)
+
+-- Clause 3.4: a conflict in numbers: 0 for none, else 1, with the lowest of the shared resources and how many they are.
+pub record Over : Type 0 where
+  pub number : ℕ
+  pub lowest : ℕ
+  pub count : ℕ
+
+abbrev pub noConflict : Over
+noConflict = record { number = 0; lowest = 0; count = 0 }
+
+abbrev pub conflictSays : Conflict → Over
+conflictSays Conflict.None = noConflict
+conflictSays (Conflict.Over lowest count) = record { number = 1; lowest = lowest; count = count }
+
+-- Clause 3.4: the conflict over a set of shared resources.
+unfoldable pub over : ℕ → Over
+over set =
+    cond (eqb set 0) noConflict
+    (record { number = 1; lowest = lowestOf mostResources (bit set); count = countOf mostResources (bit set) })
 
 -- Clause 3.3: whether entries i and j of the plan conflict. Past the count there is no conflict.
 unfoldable pub inConflict : Plan → ℕ → ℕ → Bool
@@ -36,10 +64,12 @@ unfoldable pub tabulate : ℕ → (ℕ → ℕ) → List ℕ
 tabulate zero f = []
 tabulate (suc n) f = tabulate n f ++ (f n ∷ [])
 
--- Clause 3.3: worked out once: the widened set of each entry, and as its row the entries that it conflicts with.
+-- Clause 3.3: worked out once: the names and the widened set of each entry, and as its row the entries that it conflicts
+-- with.
 unfoldable pub conflictsOf : Plan → Conflicts
 conflictsOf p =
     record {
+      names = tabulate mostEntries (λ i. entryAt p i .set);
       widened = tabulate mostEntries (λ i. cond (ltb i (p .count)) (widenedSet (countedEntries p) (entryAt p i)) 0);
       rows = tabulate mostEntries (λ i. maskOf mostEntries (inConflict p i));
     }

@@ -1,4 +1,6 @@
-// Which entries of a plan conflict: worked out once for all pairs of entries, and read by settling.
+// Which entries of a plan conflict, and over what: worked out once for all pairs of entries, and read by settling.
+mod sharing;
+
 use masks::add64;
 use masks::meet64;
 use plans::ENTRIES;
@@ -7,17 +9,30 @@ use plans::Plan;
 use plans::counted_of;
 use plans::is_read;
 use plans::is_write;
+pub use sharing::conflict_by;
+pub use sharing::conflict_over;
+pub use sharing::is_conflict;
 ghost use mathlib.Core.Path.{_≡_};
-ghost use mathlib.Core.Bool.{cond, false, _&&_};
+ghost use mathlib.Core.Bool.{cond, _&&_};
 ghost use Prim.Native.Nat.{_<_};
+ghost use lib.Bits.{bitAnd};
 ghost use lib.Dec.{ltb};
 ghost use lib.ListN.{getD};
 ghost use Rattle.masks.specs.Sets.{added, meets, maskOf};
 ghost use Rattle.plans.specs.Entries.{mostEntries, isRead, isWrite, countedEntries, entryAt};
-ghost use Rattle.conflicts.specs.Conflict.{widen, widenedSet, inConflict, conflictsOf};
+ghost use Rattle.conflicts.specs.Conflict.{widen, widenedSet, sharedBy, conflictSays, over};
+ghost use Rattle.conflicts.specs.Conflict.{inConflict, conflictsOf};
 
-// Bit j of row i: entries i and j conflict. The widened set of each write, and of each read its names.
+// None, or over shared resources: the lowest-numbered of them, and how many they are.
+pub enum Conflict {
+    None,
+    Over { lowest: u8, count: u8 },
+}
+
+// Bit j of row i: entries i and j conflict. The names of each entry; the widened set of each write, and of each read its
+// names.
 pub struct Conflicts {
+    pub names: [u64; ENTRIES],
     pub widened: [u64; ENTRIES],
     pub rows: [u64; ENTRIES],
 }
@@ -77,20 +92,18 @@ fn widen_all(plan: Plan) -> [u64; ENTRIES]
 }
 
 // Clause 3.2: writes conflict by their widened sets, a read and a write by their names, reads never.
-fn pair_conflicts(e: Entry, e_widened: u64, f: Entry, f_widened: u64) -> bool
+fn pair_conflict(e: Entry, e_widened: u64, f: Entry, f_widened: u64) -> Conflict
     ensures { λ r. ⌜
-        r
-        ≡ cond (isWrite e && isWrite f) (meets «e_widened» «f_widened»)
-        (cond (isRead e && isRead f) false (meets (e .set) (f .set)))
+        conflictSays r
+        ≡ over (sharedBy (isWrite e && isWrite f) (isRead e && isRead f) (bitAnd (e .set) (f .set))
+        (bitAnd «e_widened» «f_widened»))
         ⌝ }
 {
-    if is_write(e) & is_write(f) {
-        return meet64(e_widened, f_widened);
-    }
-    if is_read(e) & is_read(f) {
-        return false;
-    }
-    meet64(e.set, f.set)
+    let writes = is_write(e) & is_write(f);
+    let reads = is_read(e) & is_read(f);
+    let names = e.set & f.set;
+    let widened = e_widened & f_widened;
+    conflict_by(writes, reads, names, widened)
 }
 
 // The set with the place in it, where the test says so.
@@ -114,8 +127,8 @@ fn row(plan: Plan, widened: [u64; ENTRIES], i: usize) -> u64
     let mut j: usize = 0;
     while j < ENTRIES {
         let other = plan.entries[j];
-        let conflict = pair_conflicts(entry, entry_widened, other, widened[j]);
-        out = add_if(out, j, (i < count) & (j < count) & conflict);
+        let conflict = pair_conflict(entry, entry_widened, other, widened[j]);
+        out = add_if(out, j, (i < count) & (j < count) & is_conflict(conflict));
         j += 1;
     }
     out
@@ -134,13 +147,35 @@ fn all_rows(plan: Plan, widened: [u64; ENTRIES]) -> [u64; ENTRIES]
     rows
 }
 
+// The names of entry i, none past the count.
+fn counted_names(entry: Entry, i: usize, count: u8) -> u64
+    ensures { λ r. ⌜ r ≡ cond (ltb i count) (entry .set) 0 ⌝ }
+{
+    if i < count as usize { entry.set } else { 0 }
+}
+
+fn names_of(plan: Plan) -> [u64; ENTRIES]
+    ensures { λ r. ⌜ r ≡ conflictsOf plan .names ⌝ }
+{
+    let mut names = [0; ENTRIES];
+    let mut i: usize = 0;
+    while i < ENTRIES {
+        let entry = plan.entries[i];
+        names[i] = counted_names(entry, i, plan.count);
+        i += 1;
+    }
+    names
+}
+
 // Clause 3.3: conflict for all pairs of entries at once, of any plan value.
 pub fn conflicts_of(plan: Plan) -> Conflicts
     ensures { λ r. ⌜ r ≡ conflictsOf plan ⌝ }
 {
     let widened = widen_all(plan);
     let rows = all_rows(plan, widened);
+    let names = names_of(plan);
     Conflicts {
+        names: names,
         widened: widened,
         rows: rows,
     }

@@ -18,8 +18,8 @@ use Rattle.calls.specs.declared.Call.{Call}
 use Rattle.calls.specs.Replies.{refusedWith}
 use Rattle.states.specs.declared.Board.{Board}
 use Rattle.states.specs.declared.State.{State}
-use Rattle.states.specs.Faults.{processorFault, issueFault, completeFault}
-use Rattle.acting.specs.Calls.{Answer, phasesOf, putState, takenState, issueDone, takenDone, lateMark, ruled, issued, completed, answered}
+use Rattle.states.specs.Faults.{processorFault, issueFault, completeFault, withdrawFault}
+use Rattle.acting.specs.Calls.{Answer, phasesOf, putState, takenState, settledDone, lateMark, ruled, issued, left, completed, withdrawn, answered}
 use Rattle.arbiter.specs.Fresh.{boardOf, blankBoard, freshBoard}
 use Rattle.acting.specs.InPlace.{boardBy, stateBy}
 use Rattle.queries.specs.Queries.{reachFault, reachBytes, reachQuery, reachScratch}
@@ -28,8 +28,8 @@ use Rattle.logs.specs.Records.{fieldsIn, noFields, recordFault, readRecord}
 -- Demand 1. What meets no refusal condition is carried out to the end; everything else is refused by the number due in that
 -- case alone, with the state and all lent buffers unchanged.
 --
--- Which number is due is said by readFault, writeFault, planFault, issueFault, completeFault, processorFault, reachFault,
--- recordFault and tailFault; 0 is none. The functions promise, for every value:
+-- Which number is due is said by readFault, writeFault, planFault, issueFault, completeFault, withdrawFault,
+-- processorFault, reachFault, recordFault and tailFault; 0 is none. The functions promise, for every value:
 --   plan_reader::read        outcomeSays (r .outcome) ≡ readSays bytes, and r .plan ≡ planRead bytes
 --   plan_writer::write       outcomeSays r ≡ writeSays plan buffer at, and the buffer after it ≡ writtenBuffer plan buffer at
 --   plans::check             verdictNumber r ≡ planFault plan
@@ -37,9 +37,10 @@ use Rattle.logs.specs.Records.{fieldsIn, noFields, recordFault, readRecord}
 --   arbiter::answer          answerOf r ≡ answered board state call
 --   arbiter::issue           answerOf r ≡ issued board state processor entry tick
 --   arbiter::complete        answerOf r ≡ completed board state processor tick
+--   arbiter::withdraw        answerOf r ≡ withdrawn board state processor tick
 --   arbiter::answer_on       answerOf r ≡ answered, of the board whose terms, rows and lengths it was lent
---   acting::answer_in_place answerBy r and the arrays after it ≡ answered, of the board and the state that it was lent
---   acting::issue_in_place  the same with issued, and complete_in_place with completed
+--   acting::answer_in_place  answerBy r and the arrays after it ≡ answered, of the board and the state that it was lent
+--   acting::issue_in_place   the same with issued, complete_in_place with completed, withdraw_in_place with withdrawn
 --   queries::phase_of        phaseSays r ≡ phaseQuery board state processor
 --   queries::direct_waits    maskSays r ≡ waitsQuery board state processor
 --   queries::reach           maskSays r ≡ reachQuery board state processor scratch, the scratch after it ≡ reachScratch ..
@@ -82,16 +83,19 @@ accepted-plan-has-its-board p ok = rw ok
 abbrev pub callFault : Board → State → Call → ℕ
 callFault b s (Call.Issue p e t) = issueFault (b .terms) (s .last) (phasesOf b s) p e t
 callFault b s (Call.Complete p t) = completeFault (b .terms) (s .last) (phasesOf b s) p t
+callFault b s (Call.Withdraw p t) = withdrawFault (b .terms) (s .last) (phasesOf b s) p t
 
 abbrev pub carriedOut : Board → State → Call → Answer
-carriedOut b s (Call.Issue p e t) = issueDone b (putState b s p e t) p
-carriedOut b s (Call.Complete p t) = takenDone b (takenState b s p t) (lateMark b s p t)
+carriedOut b s (Call.Issue p e t) = settledDone b (putState b s p e t) 0
+carriedOut b s (Call.Complete p t) = settledDone b (takenState b s p t) (lateMark b s p t)
+carriedOut b s (Call.Withdraw p t) = settledDone b (takenState b s p t) 0
 
 module _ (b : Board) (s : State) where
   call-is-ruled : (c : Call) → answered b s c ≡ ruled (callFault b s c) s (carriedOut b s c)
-  unfolding issued completed
+  unfolding issued left completed withdrawn
   call-is-ruled (Call.Issue p e t) = refl
   call-is-ruled (Call.Complete p t) = refl
+  call-is-ruled (Call.Withdraw p t) = refl
 
   pub refused-call-changes-nothing : (c : Call) → 0 < callFault b s c
       → answered b s c ≡ record { reply = refusedWith (callFault b s c); state = s }
@@ -105,9 +109,10 @@ module _ (b : Board) (s : State) where
       → answered (boardBy (b .terms) (b .rows) (b .lengths))
       (stateBy (record { last = s .last; phases = s .phases }) (s .entry) (s .since) (s .earlier)) c
       ≡ answered b s c
-  unfolding putState takenState issueDone takenDone issued completed
+  unfolding putState takenState settledDone issued left completed withdrawn
   in-place-is-by-value (Call.Issue p e t) = refl
   in-place-is-by-value (Call.Complete p t) = refl
+  in-place-is-by-value (Call.Withdraw p t) = refl
 
   -- Also of the state of a processor and of its direct waits: each is `said` of what is due and its value.
   pub refused-query-gives-number-only : (p value : ℕ) → 0 < processorFault (b .terms) p
@@ -139,8 +144,8 @@ accepted-record-is-read s ok = rw ok
 -- figures are the ones defined; a plan written and then read is the same plan, and an accepted plan written back is the same
 -- bytes.
 --
--- The rules are `settled`, its four steps and `admitted` (settling), `putIn`, `takenOut`, `stamped` and `done` (arbiter); plan
--- F's twelve calls are computed by them in runs/proofs/PlanF.antt. The functions promise: settling::settle ≡ settled,
+-- The rules are `settled` and its four steps (settling), `putIn`, `takenOut`, `stamped` and `done` (acting); plan F's twelve
+-- calls are computed by them in runs/proofs/PlanF.antt. The functions promise: settling::settle ≡ settled,
 -- conflicts::conflicts_of ≡ conflictsOf, plans::figures_of ≡ figuresOf; and the calls as above.
 
 -- The round trips are written-in-buffer (a plan written into a buffer reads back as the same plan, and takes as many bytes as

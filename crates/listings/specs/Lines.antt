@@ -66,10 +66,11 @@ replyFields reply =
     cond (eqb (reply .number) 0) (hex4 (reply .granted) ∷ hex4 (reply .entitled) ∷ decimal (reply .late) ∷ [])
     (refusedWord ∷ decimal (reply .number) ∷ [])
 
--- Clause 9.7: the letter of a call, `i` or `c`.
+-- Clause 9.7: the letter of a call, `i`, `c` or `w`.
 abbrev pub letterOf : Call → ℕ
 letterOf (Call.Issue p e t) = 105
 letterOf (Call.Complete p t) = 99
+letterOf (Call.Withdraw p t) = 119
 
 -- Clause 9.7: a call's line: its tick, its letter, its processor, and the reply's fields.
 unfoldable pub callLine : Call → Response → List ℕ

@@ -192,6 +192,7 @@ pub fn call_line(call: Call, reply: Reply, buffer: &mut [u8], at: usize) -> Outc
             tick,
         } => parts_line(b'i', processor, tick, reply, buffer, at),
         Call::Complete { processor, tick } => parts_line(b'c', processor, tick, reply, buffer, at),
+        Call::Withdraw { processor, tick } => parts_line(b'w', processor, tick, reply, buffer, at),
     }
 }
 

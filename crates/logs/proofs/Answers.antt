@@ -23,6 +23,7 @@ count-is a s n says e = ap (λ x. x .number) (sym says ∙ ap countSays e)
 call-back : (c : Call) → callOf (callSays c) ≡ c
 call-back (Call.Issue p e t) = refl
 call-back (Call.Complete p t) = refl
+call-back (Call.Withdraw p t) = refl
 
 module _ (a : RecordAnswer) (s : List ℕ) (says : recordSays a ≡ readRecord s) where
   pub record-is : (c : Call) → a ≡ RecordAnswer.Is c → (recordFault s ≡ 0) × (callOf (fieldsIn s) ≡ c)

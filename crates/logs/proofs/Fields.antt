@@ -37,6 +37,15 @@ module _ (s : List ℕ) (h : 8 ≤ length s) (t : ℕ) (tick : t ≡ number (tak
         let no-entry : getD s 2 0 ≡ 0 = eqb-true (getD s 2 0) 0 (and-right (eqb (getD s 0 0) 1) _ e) in
         rw (le-leb 8 (length s) h, complete, no-entry, tick-read)
 
-    pub no-verb : (eqb (getD s 0 0) 1 && eqb (getD s 2 0) 0) ≡ false → recordSays (RecordAnswer.Refused Refusal.Verb) ≡ readRecord s
+    pub a-withdrawal : (eqb (getD s 0 0) 2 && eqb (getD s 2 0) 0) ≡ true
+        → recordSays (RecordAnswer.Is (Call.Withdraw (getD s 1 0) t)) ≡ readRecord s
     unfolding readRecord recordFault fieldsIn
-    no-verb e = rw (le-leb 8 (length s) h, ne-eqb (getD s 0 0) 0 verb, e)
+    a-withdrawal e =
+        let withdraw : getD s 0 0 ≡ 2 = eqb-true (getD s 0 0) 2 (and-left _ _ e) in
+        let no-entry : getD s 2 0 ≡ 0 = eqb-true (getD s 2 0) 0 (and-right (eqb (getD s 0 0) 2) _ e) in
+        rw (le-leb 8 (length s) h, withdraw, no-entry, tick-read)
+
+    pub no-verb : (eqb (getD s 0 0) 1 && eqb (getD s 2 0) 0) ≡ false → (eqb (getD s 0 0) 2 && eqb (getD s 2 0) 0) ≡ false
+        → recordSays (RecordAnswer.Refused Refusal.Verb) ≡ readRecord s
+    unfolding readRecord recordFault fieldsIn
+    no-verb e e′ = rw (le-leb 8 (length s) h, ne-eqb (getD s 0 0) 0 verb, e, e′)

@@ -62,6 +62,12 @@ pub fn read_record(bytes: &[u8]) -> RecordAnswer
             tick: tick,
         });
     }
+    if (verb == 2) & (entry == 0) {
+        return RecordAnswer::Is(Call::Withdraw {
+            processor: processor,
+            tick: tick,
+        });
+    }
     RecordAnswer::Refused(Refusal::Verb)
 }
 

@@ -11,3 +11,4 @@ pub mod Walks
 pub mod Gathers
 pub mod Tests
 pub mod Stores
+pub mod Counts

@@ -38,3 +38,14 @@ some (suc n) p = some n p || p n
 unfoldable pub maskOf : ℕ → (ℕ → Bool) → ℕ
 maskOf zero p = 0
 maskOf (suc n) p = maskOf n p + cond (p n) (2 ^ n) 0
+
+-- How many numbers below n pass the test.
+unfoldable pub countOf : ℕ → (ℕ → Bool) → ℕ
+countOf zero p = 0
+countOf (suc n) p = countOf n p + cond (p n) 1 0
+
+-- The lowest number below n that passes the test; n where none does. That it passes, and no smaller one does, is proved
+-- beside it.
+unfoldable pub lowestOf : ℕ → (ℕ → Bool) → ℕ
+lowestOf zero p = 0
+lowestOf (suc n) p = cond (some n p) (lowestOf n p) (cond (p n) n (suc n))

@@ -20,7 +20,7 @@ pub enum Refusal {
     Set,
     // A length of 0.
     Length,
-    // A verb that is neither 0 nor 1, or a completion with an entry.
+    // A verb above 2, or a completion or a withdrawal with an entry.
     Verb,
     // A tick below the last accepted one, or above the largest.
     Tick,
@@ -30,12 +30,14 @@ pub enum Refusal {
     Entry,
     // An issue while the processor's request is active.
     Busy,
-    // A completion with no active request.
+    // A completion or a withdrawal with no active request.
     Idle,
     // A completion while the request is unsatisfied.
     Unheld,
     // Too few bytes from the position, a position past the end, or a scratch that is too short.
     Room,
+    // A withdrawal of a request that holds.
+    Held,
 }
 
 // Whether something is taken: a plan, an entry, a record, a call.
@@ -65,6 +67,7 @@ pub fn number(refusal: Refusal) -> u8
         Refusal::Idle => 14,
         Refusal::Unheld => 15,
         Refusal::Room => 16,
+        Refusal::Held => 17,
     }
 }
 

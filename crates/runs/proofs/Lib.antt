@@ -1,4 +1,5 @@
 pub mod PlanF
+pub mod Withdrawn
 pub mod columns
 pub mod history
 pub mod refinement

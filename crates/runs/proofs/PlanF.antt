@@ -7,25 +7,25 @@ use Rattle.masks.specs.Sets.{bit, some, maskOf}
 use Rattle.plans.specs.declared.Entry.{Entry}
 use Rattle.plans.specs.declared.Plan.{Plan}
 use Rattle.plans.specs.Entries.{blankEntry}
-use Rattle.conflicts.specs.Conflict.{widen, widenedSet, conflict, inConflict, tabulate, conflictsOf}
+use Rattle.conflicts.specs.Conflict.{widen, widenedSet, shared, conflict, inConflict, tabulate, conflictsOf}
 use Rattle.calls.specs.declared.Call.{Call}
 use Rattle.calls.specs.Replies.{Response, refusedWith}
-use Rattle.settling.specs.Settling.{test1, step1, test2, step2, test3, step3, test4, step4, settled, holdsAtOnce, admitted}
+use Rattle.settling.specs.Settling.{test1, step1, test2, step2, test3, step3, test4, step4, settled}
 use Rattle.states.specs.Requests.{isHolding, isEntitled, isWaiting, cleaned}
 use Rattle.states.specs.Faults.{issueFault, completeFault}
 use Rattle.acting.specs.Acts.{putIn, putLast, takenOut, stamped}
-use Rattle.acting.specs.Calls.{putState, takenState, done, issueDone, issued, takenDone, completed}
+use Rattle.acting.specs.Calls.{putState, takenState, done, settledDone, issued, left, completed}
 use Rattle.arbiter.specs.Fresh.{boardOf, freshState}
 use Rattle.runs.specs.Events.{Event, events}
 
-read : ℕ → ℕ → Entry
+unfoldable pub read : ℕ → ℕ → Entry
 read names ticks = record { kind = 0; set = names; length = ticks }
 
-write : ℕ → ℕ → Entry
+unfoldable pub write : ℕ → ℕ → Entry
 write names ticks = record { kind = 1; set = names; length = ticks }
 
 -- Plan F: 4 processors, 3 resources, five entries.
-pub planF : Plan
+unfoldable pub planF : Plan
 planF =
     record {
       processors = 4;
@@ -61,5 +61,5 @@ table =
 
 -- The arbiter's answers to the twelve calls are those of the table.
 pub twelve-calls : events (boardOf planF) freshState (map (λ e. e .call) table) ≡ table
-unfolding planF table read write line done-with bit some maskOf widen widenedSet conflict inConflict tabulate conflictsOf isHolding isEntitled isWaiting cleaned test1 step1 test2 step2 test3 step3 test4 step4 settled holdsAtOnce admitted boardOf issueFault completeFault putIn putLast takenOut stamped putState takenState done issueDone issued takenDone completed events
+unfolding planF table read write line done-with bit some maskOf widen widenedSet shared conflict inConflict tabulate conflictsOf isHolding isEntitled isWaiting cleaned test1 step1 test2 step2 test3 step3 test4 step4 settled boardOf issueFault completeFault putIn putLast takenOut stamped putState takenState done settledDone issued left completed events
 twelve-calls = refl

@@ -44,6 +44,7 @@ pub data Act : Type 0 where
 abbrev pub actsOf : Call → List Act
 actsOf (Call.Issue p e t) = puts p e ∷ []
 actsOf (Call.Complete p t) = takes p ∷ []
+actsOf (Call.Withdraw p t) = takes p ∷ []
 
 -- Clause 6.2: a new request of an issue at tick t.
 abbrev pub arrival : ℕ → ℕ → ℕ → Request

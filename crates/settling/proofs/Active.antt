@@ -36,9 +36,9 @@ within-not true a w h = ap (λ t. not (t && w)) (h refl)
 
 -- ---- a move from phase to phase
 
-held-same : (x e h t : Bool) → (t ≡ true → e ≡ true) → (x || e && not t || (h || t)) ≡ (x || e || h)
-held-same x e h false i = ap₂ (λ u v. x || u || v) (and-true e) (or-false h)
-held-same true e h true i = refl
+held-same : (x e h t : Bool) → (t ≡ true → (x || e) ≡ true) → (((x && not t) || (e && not t)) || (h || t)) ≡ ((x || e) || h)
+held-same x e h false i = λ k. ((and-true x k || and-true e k) || or-false h k)
+held-same true e h true i = ap (λ u. (e && false) || u) (or-true h) ∙ or-true (e && false)
 held-same false true h true i = or-true h
 held-same false false h true i = absurd (false≢true (i refl))
 
@@ -48,11 +48,12 @@ entitled-same true e h true i = ap (λ u. u || h) (or-true e)
 entitled-same false e h true i = absurd (false≢true (i refl))
 
 module _ (ph : Phases) (test : ℕ → Bool) (p : ℕ) (l : p < slots) where
-  pub active-held : (test p ≡ true → bit (ph .entitled) p ≡ true) → active (hold ph test) p ≡ active ph p
+  pub active-held : (test p ≡ true → (bit (ph .waiting) p || bit (ph .entitled) p) ≡ true) → active (hold ph test) p ≡ active ph p
   active-held i =
-      ap₂ (λ u v. bit (ph .waiting) p || u || v)
-      (bit-mask-at slots (λ q. bit (ph .entitled) q && not (test q)) p l)
-      (bit-mask-at slots (λ q. bit (ph .holding) q || test q) p l)
+      (λ k.
+      ((bit-mask-at slots (λ q. bit (ph .waiting) q && not (test q)) p l k
+      || bit-mask-at slots (λ q. bit (ph .entitled) q && not (test q)) p l k)
+      || bit-mask-at slots (λ q. bit (ph .holding) q || test q) p l k))
       ∙ held-same (bit (ph .waiting) p) (bit (ph .entitled) p) (bit (ph .holding) p) (test p) i
 
   pub active-entitled : (test p ≡ true → bit (ph .waiting) p ≡ true) → active (entitle ph test) p ≡ active ph p

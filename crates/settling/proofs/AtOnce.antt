@@ -1,68 +1,155 @@
--- Whether a new request holds at once, by the one look at the writes in its row that the code takes. Assumes nothing.
-use mathlib.Core.Path.{_≡_, refl, sym, ap, ap₂, _∙_}
-use mathlib.Core.Bool.{Bool, true, false, not, _&&_, _||_, and-comm, and-or-distrib-right}
-use mathlib.Core.List.{List}
-use Prim.Native.Nat.{ℕ, _^_, _<_, _≤_}
-use lib.Bits.{bitAnd, bitOr}
-use lib.ListN.{getD}
-use borrow.Author.Tests.{le-ltb}
-use Rattle.masks.specs.Sets.{bit}
-use Rattle.masks.proofs.Places.{bit-and, bit-or}
-use Rattle.masks.proofs.Some.{some-agree, some-or}
-use Rattle.plans.specs.Entries.{slots, mostEntries}
-use Rattle.settling.specs.Requests.{Facts, factsBy, entryOf, isWriter, conflicts, against, entitledWrite, holdingWrite}
-use Rattle.settling.specs.Settling.{holdsAtOnce}
-use Rattle.settling.specs.inner.Moves.{Table, inRow}
+-- A new read that nothing stops may as well hold before step 1: settling gives the same. Assumes nothing.
+use mathlib.Core.Path.{_≡_, refl, sym, ap, ap₂, subst, _∙_}
+use mathlib.Core.Bool.{Bool, true, false, not, _&&_, _||_, and-true, and-false, or-false}
+use Prim.Native.Nat.{ℕ, _<_}
+use lib.Dec.{eqb}
+use borrow.Author.Tests.{eqb-true, not-true}
+use Rattle.masks.specs.Sets.{bit, maskOf}
+use Rattle.masks.proofs.Truth.{and-left, and-right}
+use Rattle.masks.proofs.Some.{some-agree}
+use Rattle.masks.proofs.Masks.{mask-agree, bit-mask-at}
+use Rattle.plans.specs.Entries.{slots}
+use Rattle.settling.specs.Requests.{Facts, isWriter, conflicts, against, holdingWrite, entitledWrite}
+use Rattle.settling.specs.Settling.{hold, test1, step1, step2, step3, step4, settled, holdsAtOnce, admitted}
 use Rattle.settling.specs.declared.Phases.{Phases}
-use Rattle.settling.proofs.Known.{unknown-read, unknown-against}
 
-pub write-waits : (f : Facts) (ph : Phases) (p : ℕ) → isWriter f p ≡ true → false ≡ holdsAtOnce f ph p
-unfolding holdsAtOnce
-write-waits f ph p e = rw e
+-- Of a processor: w, e and h are its bits in the three phases, t whether it was let to hold, r whether its request is a read,
+-- a and b whether an entitled and a holding write is against it.
+module _ (w e h t r a b : Bool) where
+  abbrev passes : Bool
+  passes = (e && r || w && r && not a) && not b
 
--- One whose entry has no row is no write and conflicts with none.
-pub unknown-holds : (f : Facts) (ph : Phases) (p : ℕ) → f .writes < 2 ^ mostEntries → Table (f .rows) → mostEntries ≤ entryOf f p
-    → true ≡ holdsAtOnce f ph p
-unfolding holdsAtOnce
-unknown-holds f ph p small table past =
-    let e = le-ltb (entryOf f p) mostEntries past in
-    rw (unknown-read f small p e, unknown-against f table p (entitledWrite f ph) e, unknown-against f table p (holdingWrite f ph) e)
+  abbrev passesAfter : Bool
+  passesAfter = (e && not t && r || w && not t && r && not a) && not b
 
-turned : (e w c : Bool) → (e && (c && w)) ≡ (e && w && c)
-turned true w c = and-comm c w
-turned false w c = refl
+  -- Its bits after step 1 are the same.
+  record Same : Type 0 where
+    pub waits : (w && not t && not passesAfter) ≡ (w && not passes)
+    pub entitles : (e && not t && not passesAfter) ≡ (e && not passes)
+    pub holds : ((h || t) || passesAfter) ≡ (h || passes)
 
-neither-way : (a b : Bool) → not (a || b) ≡ (not a && not b)
-neither-way true b = refl
-neither-way false b = refl
+let-to-hold : (e h : Bool) → Same true e h true true false false
+let-to-hold true true = record { waits = refl; entitles = refl; holds = refl }
+let-to-hold true false = record { waits = refl; entitles = refl; holds = refl }
+let-to-hold false true = record { waits = refl; entitles = refl; holds = refl }
+let-to-hold false false = record { waits = refl; entitles = refl; holds = refl }
 
-pub read-looks : (f : Facts) (ph : Phases) (p row : ℕ) (met : Bool) → isWriter f p ≡ false → row ≡ getD (f .rows) (entryOf f p) 0
-    → met ≡ inRow (bitAnd row (f .writes)) (f .entry) (bitOr (ph .entitled) (ph .holding)) → not met ≡ holdsAtOnce f ph p
-unfolding holdsAtOnce
-read-looks f ph p row met read er em =
-    ap not
-    (em
-    ∙ some-agree slots _ _ (λ q l. place q)
-    ∙ some-or slots (λ q. entitledWrite f ph q && conflicts f p q) (λ q. holdingWrite f ph q && conflicts f p q))
-    ∙ neither-way entitled holding
-    ∙ ap (λ t. not t && (not entitled && not holding)) (sym read)
+same : (w e h t r a b : Bool) → (t ≡ true → (w ≡ true) × (r ≡ true) × (a ≡ false) × (b ≡ false)) → Same w e h t r a b
+same w e h true r a b i =
+    let k = i refl in
+    subst (λ w. Same w e h true r a b) (sym (k .0))
+    (subst (λ r. Same true e h true r a b) (sym (k .1))
+    (subst (λ a. Same true e h true true a b) (sym (k .2))
+    (subst (λ b. Same true e h true true false b) (sym (k .3)) (let-to-hold e h))))
+same w e h false r a b i = subst (λ u. Same u e h false r a b) refl (plain w e h r a b)
   where
-    entitled : Bool
-    entitled = against f p (entitledWrite f ph)
+    plain : (w e h r a b : Bool) → Same w e h false r a b
+    plain w e h r a b =
+        let test : passesAfter w e h false r a b ≡ passes w e h false r a b =
+        λ k. (and-true e k && r || and-true w k && r && not a) && not b in
+        record {
+          waits = λ k. and-true w k && not (test k);
+          entitles = λ k. and-true e k && not (test k);
+          holds = λ k. or-false h k || test k;
+        }
 
-    holding : Bool
-    holding = against f p (holdingWrite f ph)
+out : (x t w : Bool) → (t ≡ true → w ≡ false) → (x && not t && w) ≡ (x && w)
+out x true w i = ap (λ u. x && false && u) (i refl) ∙ and-false (x && false) ∙ sym (ap (λ u. x && u) (i refl) ∙ and-false x)
+out x false w i = ap (λ u. u && w) (and-true x)
 
-    place : (q : ℕ) → (bit (bitOr (ph .entitled) (ph .holding)) q && bit (bitAnd row (f .writes)) (entryOf f q))
-        ≡ (entitledWrite f ph q && conflicts f p q || holdingWrite f ph q && conflicts f p q)
-    place q =
-        ap₂ _&&_ (bit-or (ph .entitled) (ph .holding) q)
-        (bit-and row (f .writes) (entryOf f q) ∙ ap (λ (x : ℕ). bit x (entryOf f q) && isWriter f q) er)
-        ∙ and-or-distrib-right (bit (ph .entitled) q) (bit (ph .holding) q) (conflicts f p q && isWriter f q)
-        ∙ ap₂ _||_ (turned (bit (ph .entitled) q) (isWriter f q) (conflicts f p q)) (turned (bit (ph .holding) q) (isWriter f q) (conflicts f p q))
+into : (x t w : Bool) → (t ≡ true → w ≡ false) → ((x || t) && w) ≡ (x && w)
+into x true w i = ap (λ u. (x || true) && u) (i refl) ∙ and-false (x || true) ∙ sym (ap (λ u. x && u) (i refl) ∙ and-false x)
+into x false w i = ap (λ u. u && w) (or-false x)
 
--- Who is earlier plays no part.
-pub at-once-any : (rows : List ℕ) (writes : ℕ) (entry earlier later : List ℕ) (ph : Phases) (p : ℕ)
-    → holdsAtOnce (factsBy rows writes entry earlier) ph p ≡ holdsAtOnce (factsBy rows writes entry later) ph p
-unfolding holdsAtOnce
-at-once-any rows writes entry earlier later ph p = refl
+module _ (f : Facts) (ph : Phases) (p : ℕ) (waits : bit (ph .waiting) p ≡ true) where
+  -- Processor q is p, and its request holds at once.
+  abbrev newcomer : ℕ → Bool
+  newcomer q = eqb q p && holdsAtOnce f ph p
+
+  abbrev after : Phases
+  after = hold ph newcomer
+
+  -- The newcomer waits, is a read, and no entitled and no holding write is against it.
+  newcomer-free : (q : ℕ) → newcomer q ≡ true
+      → (bit (ph .waiting) q ≡ true) × (not (isWriter f q) ≡ true)
+      × (against f q (entitledWrite f ph) ≡ false) × (against f q (holdingWrite f ph) ≡ false)
+  unfolding holdsAtOnce
+  newcomer-free q t =
+      let here : p ≡ q = sym (eqb-true q p (and-left (eqb q p) _ t)) in
+      let once = and-right (eqb q p) _ t in
+      let free = and-right (not (isWriter f p)) _ once in
+      subst
+      (λ (q : ℕ). (bit (ph .waiting) q ≡ true) × (not (isWriter f q) ≡ true)
+      × (against f q (entitledWrite f ph) ≡ false) × (against f q (holdingWrite f ph) ≡ false)) here (
+        waits,
+        and-left (not (isWriter f p)) _ once,
+        not-true _ (and-left (not (against f p (entitledWrite f ph))) _ free),
+        not-true _ (and-right (not (against f p (entitledWrite f ph))) _ free),
+      )
+
+  newcomer-reads : (q : ℕ) → newcomer q ≡ true → isWriter f q ≡ false
+  newcomer-reads q t = not-true _ (newcomer-free q t .1)
+
+  -- So the writes of each phase are the same.
+  same-entitled : (q : ℕ) → against f q (entitledWrite f after) ≡ against f q (entitledWrite f ph)
+  same-entitled q =
+      some-agree slots _ _
+      (λ k l. ap (λ u. u && conflicts f q k)
+      (ap (λ u. u && isWriter f k) (bit-mask-at slots (λ k. bit (ph .entitled) k && not (newcomer k)) k l)
+      ∙ out (bit (ph .entitled) k) (newcomer k) (isWriter f k) (newcomer-reads k)))
+
+  same-holding : (q : ℕ) → against f q (holdingWrite f after) ≡ against f q (holdingWrite f ph)
+  same-holding q =
+      some-agree slots _ _
+      (λ k l. ap (λ u. u && conflicts f q k)
+      (ap (λ u. u && isWriter f k) (bit-mask-at slots (λ k. bit (ph .holding) k || newcomer k) k l)
+      ∙ into (bit (ph .holding) k) (newcomer k) (isWriter f k) (newcomer-reads k)))
+
+  module _ (q : ℕ) (l : q < slots) where
+    abbrev w : Bool
+    w = bit (ph .waiting) q
+
+    abbrev e : Bool
+    e = bit (ph .entitled) q
+
+    abbrev a : Bool
+    a = against f q (entitledWrite f ph)
+
+    abbrev b : Bool
+    b = against f q (holdingWrite f ph)
+
+    at-w : bit (after .waiting) q ≡ (w && not (newcomer q))
+    at-w = bit-mask-at slots (λ k. bit (ph .waiting) k && not (newcomer k)) q l
+
+    at-e : bit (after .entitled) q ≡ (e && not (newcomer q))
+    at-e = bit-mask-at slots (λ k. bit (ph .entitled) k && not (newcomer k)) q l
+
+    at-h : bit (after .holding) q ≡ (bit (ph .holding) q || newcomer q)
+    at-h = bit-mask-at slots (λ k. bit (ph .holding) k || newcomer k) q l
+
+    test-after : test1 f after q ≡ passesAfter w e (bit (ph .holding) q) (newcomer q) (not (isWriter f q)) a b
+    unfolding test1
+    test-after =
+        λ k.
+        (at-e k && not (isWriter f q) || at-w k && not (isWriter f q) && not (same-entitled q k)) && not (same-holding q k)
+
+    moves : Same w e (bit (ph .holding) q) (newcomer q) (not (isWriter f q)) a b
+    moves = same w e (bit (ph .holding) q) (newcomer q) (not (isWriter f q)) a b (newcomer-free q)
+
+  pub held-before-step-1 : step1 f (admitted f ph p) ≡ step1 f ph
+  unfolding test1 step1 admitted
+  held-before-step-1 =
+      λ i. record {
+        waiting = mask-agree slots _ _ (λ q l. ap₂ (λ u v. u && not v) (at-w q l) (test-after q l) ∙ moves q l .waits) i;
+        entitled = mask-agree slots _ _ (λ q l. ap₂ (λ u v. u && not v) (at-e q l) (test-after q l) ∙ moves q l .entitles) i;
+        holding = mask-agree slots _ _ (λ q l. ap₂ (λ u v. u || v) (at-h q l) (test-after q l) ∙ moves q l .holds) i;
+      }
+
+-- Clause 5.1: a new request that may hold at once could do so before step 1, and all would be as it is.
+pub at-once-is-step-1 : (f : Facts) (ph : Phases) (p : ℕ) → bit (ph .waiting) p ≡ true
+    → settled f (admitted f ph p) ≡ settled f ph
+unfolding settled
+at-once-is-step-1 f ph p waits = ap (λ ph. settledFrom ph) (held-before-step-1 f ph p waits)
+  where
+    settledFrom : Phases → Phases
+    settledFrom ph = step4 f (step3 f (step2 f ph))

@@ -1,9 +1,9 @@
--- The phases after settling are masks of the processors that there are, and so are those with a new request. Assumes nothing.
+-- The phases after settling are masks of the processors that there are. Assumes nothing.
 use Prim.Native.Nat.{ℕ, _^_, _<_}
 use Rattle.masks.proofs.Masks.{mask-below}
 use Rattle.plans.specs.Entries.{slots}
 use Rattle.settling.specs.Requests.{Facts}
-use Rattle.settling.specs.Settling.{step1, step2, step3, step4, settled, admitted}
+use Rattle.settling.specs.Settling.{step1, step2, step3, step4, settled}
 use Rattle.settling.specs.declared.Phases.{Phases}
 
 abbrev pub Small : Phases → Type 0
@@ -12,7 +12,3 @@ Small ph = (ph .waiting < 2 ^ slots) × (ph .entitled < 2 ^ slots) × (ph .holdi
 pub settled-small : (f : Facts) (ph : Phases) → Small (settled f ph)
 unfolding step1 step2 step3 step4 settled
 settled-small f ph = (mask-below slots _, mask-below slots _, mask-below slots _)
-
-pub admitted-small : (f : Facts) (ph : Phases) (p : ℕ) → Small ph → Small (admitted f ph p)
-unfolding admitted
-admitted-small f ph p h = (mask-below slots _, h .1, mask-below slots _)

@@ -7,6 +7,7 @@ use lib.Bits.{bitAnd, bitOr}
 use Rattle.masks.specs.Sets.{bit, without, maskOf}
 use Rattle.masks.proofs.Some.{some-agree, some-or}
 use Rattle.masks.proofs.Masks.{mask-below, mask-of-bits, mask-agree}
+use Rattle.masks.proofs.Truth.{or-right}
 use Rattle.masks.proofs.Tests.{Mask, bit-is, agree-is, places-is, and-is, or-is, without-is}
 use Rattle.plans.specs.Entries.{slots}
 use Rattle.settling.specs.Requests.{Facts, active, isWriter, conflicts, against, isEarlier, waitingRead, waitingWrite, unsatisfiedWrite, entitledRead, entitledWrite, holdingWrite}
@@ -80,6 +81,12 @@ first-of : (a b c : Bool) → (a && b && c) ≡ true → a ≡ true
 first-of true b c e = refl
 first-of false b c e = e
 
+-- Who begins to hold in step 1 was waiting or entitled.
+one-of : (e x w a b : Bool) → ((e && not w || (x && not w && not a)) && not b) ≡ true → (x || e) ≡ true
+one-of e true w a b k = refl
+one-of true false w a b k = refl
+one-of false false w a b k = k
+
 -- The clauses of step 2 in the code's order and in the definition's.
 clauses2 : (w a b c : Bool) → (w && not (b || c) && not a) ≡ (w && (not a && (not b && not c)))
 clauses2 false a b c = refl
@@ -106,12 +113,12 @@ module _ {f : Facts} {ph : Phases} {w x e h : ℕ} (at : At f ph w x e h) where
   reads-of {P} i m = agree-is (λ p l. within-not (P p) (active ph p) (isWriter f p) (i p)) (without-is 32 fit m (at .writes))
 
   -- Those that pass a test move on.
-  held : {test : ℕ → Bool} {g : ℕ} → ((p : ℕ) → test p ≡ true → bit (ph .entitled) p ≡ true) → Mask slots test g
-      → At f (hold ph test) w x (without 32 e g) (bitOr h g)
+  held : {test : ℕ → Bool} {g : ℕ} → ((p : ℕ) → test p ≡ true → (bit (ph .waiting) p || bit (ph .entitled) p) ≡ true)
+      → Mask slots test g → At f (hold ph test) w (without 32 x g) (without 32 e g) (bitOr h g)
   held {test} i m =
       record {
         writes = agree-is (λ p l. ap (λ t. t && isWriter f p) (sym (active-held ph test p l (i p)))) (at .writes);
-        waits = at .waits;
+        waits = places-is (without-is 32 fit (at .waits) m);
         entitles = places-is (without-is 32 fit (at .entitles) m);
         holds = places-is (or-is (at .holds) m);
       }
@@ -126,11 +133,19 @@ module _ {f : Facts} {ph : Phases} {w x e h : ℕ} (at : At f ph w x e h) where
         holds = at .holds;
       }
 
-  pub after1 : {g : ℕ} → g ≡ unopposedIn f (without 32 e w) (bitAnd h w) → At f (step1 f ph) w x (without 32 e g) (bitOr h g)
+  pub after1 : {o g : ℕ} → o ≡ unopposedIn f (without 32 x w) (bitAnd e w)
+      → g ≡ unopposedIn f (bitOr (without 32 e w) o) (bitAnd h w)
+      → At f (step1 f ph) w (without 32 x g) (without 32 e g) (bitOr h g)
   unfolding test1 step1
-  after1 {g} eg =
-      held (λ p. first-of (bit (ph .entitled) p) _ _)
-      (unopposed-is f (reads-of (entitled-active ph) (at .entitles)) (writes-of (holding-active ph) (at .holds)) eg)
+  after1 eo eg =
+      let entitledReads = reads-of (entitled-active ph) (at .entitles) in
+      let ahead =
+      unopposed-is f (reads-of (waiting-active ph) (at .waits)) (writes-of (entitled-active ph) (at .entitles)) eo in
+      held
+      (λ p.
+      one-of (bit (ph .entitled) p) (bit (ph .waiting) p) (isWriter f p) (against f p (entitledWrite f ph))
+      (against f p (holdingWrite f ph)))
+      (unopposed-is f (or-is entitledReads ahead) (writes-of (holding-active ph) (at .holds)) eg)
 
   pub after2 : {o g : ℕ} → o ≡ unopposedIn f (bitAnd x w) (bitOr (bitAnd h w) (without 32 e w))
       → g ≡ firstInLine f o (bitAnd (bitOr x e) w) → At f (step2 f ph) w (without 32 x g) (bitOr e g) h
@@ -148,10 +163,11 @@ module _ {f : Facts} {ph : Phases} {w x e h : ℕ} (at : At f ph w x e h) where
       before : ℕ → Bool
       before p = against f p (λ q. isEarlier f q p && unsatisfiedWrite f ph q)
 
-  pub after3 : {g : ℕ} → g ≡ unopposedIn f (bitAnd e w) (without 32 h w) → At f (step3 f ph) w x (without 32 e g) (bitOr h g)
+  pub after3 : {g : ℕ} → g ≡ unopposedIn f (bitAnd e w) (without 32 h w)
+      → At f (step3 f ph) w (without 32 x g) (without 32 e g) (bitOr h g)
   unfolding test3 step3
   after3 eg =
-      held (λ p. first-of (bit (ph .entitled) p) _ _)
+      held (λ p k. or-right (bit (ph .waiting) p) (bit (ph .entitled) p) (first-of (bit (ph .entitled) p) _ _ k))
       (unopposed-is f (writes-of (entitled-active ph) (at .entitles)) (reads-of (holding-active ph) (at .holds)) eg)
 
   pub after4 : {o g : ℕ} → o ≡ unopposedIn f (without 32 x w) (bitAnd h w)

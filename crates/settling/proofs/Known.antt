@@ -99,13 +99,6 @@ module _ (f : Facts) (small : f .writes < 2 ^ mostEntries) where
       → maskOf slots (λ p. bit (bitAnd a k) p && isWriter f p) ≡ maskOf slots (λ p. bit a p && isWriter f p)
   known-writers a e = mask-agree slots _ _ (known-alone a (isWriter f) e unknown-read)
 
-  pub known-in-row : {k : ℕ} (row a : ℕ) → k ≡ knownIn (f .entry)
-      → inRow (bitAnd row (f .writes)) (f .entry) (bitAnd a k) ≡ inRow (bitAnd row (f .writes)) (f .entry) a
-  known-in-row row a e =
-      some-agree slots _ _ (known-alone a (λ q. bit (bitAnd row (f .writes)) (entryOf f q)) e
-      (λ q n. bit-and row (f .writes) (entryOf f q) ∙ ap (λ t. bit row (entryOf f q) && t) (unknown-read q n)
-      ∙ and-false (bit row (entryOf f q))))
-
 module _ (f : Facts) (table : Table (f .rows)) where
   pub unknown-row : (p : ℕ) → hasRow f p ≡ false → getD (f .rows) (entryOf f p) 0 ≡ 0
   unknown-row p e =
@@ -138,10 +131,20 @@ unopposed-of f o m =
 
 -- ---- the masks of each step, with the known reads for the reads
 
-clauses1 : (e k w a : Bool) → (k ≡ false → (w ≡ false) × (a ≡ false)) → (e && not k || e && (k && not w) && not a) ≡ (e && not w && not a)
-clauses1 true true w a h = refl
-clauses1 true false w a h = sym (ap₂ (λ t u. not t && not u) (h refl .0) (h refl .1))
-clauses1 false k w a h = refl
+clauses1-unknown : (e x a b : Bool)
+    → ((x || e) && true || (e && false || x && false && not a) && not b) ≡ ((e && true || x && true && true) && true)
+clauses1-unknown true true a b = refl
+clauses1-unknown true false a b = refl
+clauses1-unknown false true a b = refl
+clauses1-unknown false false a b = refl
+
+clauses1 : (e x k w a b : Bool) → (k ≡ false → (w ≡ false) × (a ≡ false) × (b ≡ false))
+    → ((x || e) && not k || (e && (k && not w) || x && (k && not w) && not a) && not b)
+    ≡ ((e && not w || x && not w && not a) && not b)
+clauses1 e x true w a b h = ap (λ t. t || (e && not w || x && not w && not a) && not b) (and-false (x || e))
+clauses1 e x false w a b h =
+    clauses1-unknown e x a b
+    ∙ sym (λ i. (e && not (h refl .0 i) || x && not (h refl .0 i) && not (h refl .1 i)) && not (h refl .2 i))
 
 clauses4 : (x k w a b : Bool) → (k ≡ false → a ≡ false)
     → (x && (k && not w) && not (x && (k && not w) && not a) && not b) ≡ (x && not w && not (x && not w && not a) && not b)
@@ -158,14 +161,19 @@ module _ (f : Facts) (table : Table (f .rows)) {W : ℕ → Bool} {k w : ℕ} (a
   reads : {P : ℕ → Bool} {a : ℕ} → Mask slots P a → Mask slots (λ p. P p && not (W p)) (without 32 a w)
   reads m = without-is 32 fit m writes
 
-  pub known1 : {P : ℕ → Bool} {e g : ℕ} (o : ℕ) → Mask slots P e → g ≡ unopposedIn f (bitAnd e (without 32 k w)) o
-      → bitOr (without 32 e k) g ≡ unopposedIn f (without 32 e w) o
-  known1 {P} {e} o m eg =
-      ap (bitOr (without 32 e k)) eg
+  pub known1 : {P Q : ℕ → Bool} {x e o g : ℕ} (u v : ℕ) → Mask slots Q x → Mask slots P e
+      → o ≡ unopposedIn f (bitAnd x (without 32 k w)) u → g ≡ unopposedIn f (bitOr (bitAnd e (without 32 k w)) o) v
+      → bitOr (without 32 (bitOr x e) k) g ≡ unopposedIn f (bitOr (without 32 e w) (unopposedIn f (without 32 x w) u)) v
+  known1 {P} {Q} {x} {e} u v mx me eo eg =
+      ap (bitOr (without 32 (bitOr x e) k))
+      (eg ∙ ap (λ (o : ℕ). unopposedIn f (bitOr (bitAnd e (without 32 k w)) o) v) eo)
       ∙ same-is
-      (agree-is (λ p l. clauses1 (P p) (hasRow f p) (W p) (against f p (bit o)) (λ n. (none p n, unknown-against f table p (bit o) n)))
-      (or-is (without-is {Q = hasRow f} 32 fit m (record { is = all })) (unopposed-of f o (known-reads m))))
-      (unopposed-of f o (reads m))
+      (agree-is
+      (λ p l. clauses1 (P p) (Q p) (hasRow f p) (W p) (against f p (bit u)) (against f p (bit v))
+      (λ n. (none p n, unknown-against f table p (bit u) n, unknown-against f table p (bit v) n)))
+      (or-is (without-is {Q = hasRow f} 32 fit (or-is mx me) (record { is = all }))
+      (unopposed-of f v (or-is (known-reads me) (unopposed-of f u (known-reads mx))))))
+      (unopposed-of f v (or-is (reads me) (unopposed-of f u (reads mx))))
 
   pub known2 : {P Q : ℕ → Bool} {b e : ℕ} (c : ℕ) → Mask slots Q b → Mask slots P e
       → unopposedIn f c (bitOr b (bitAnd e (without 32 k w))) ≡ unopposedIn f c (bitOr b (without 32 e w))

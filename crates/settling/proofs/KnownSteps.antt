@@ -23,9 +23,11 @@ module _ (f : Facts) (small : f .writes < 2 ^ mostEntries) (table : Table (f .ro
     none : (p : ℕ) → ltb (entryOf f p) mostEntries ≡ false → activeWrite f ph p ≡ false
     none p n = ap (λ t. active ph p && t) (unknown-read f small p n) ∙ and-false (active ph p)
 
-    pub known-after1 : {g : ℕ} → g ≡ unopposedIn f (bitAnd e (without 32 k w)) (bitAnd h w)
-        → At f (step1 f ph) w x (without 32 e (bitOr (without 32 e k) g)) (bitOr h (bitOr (without 32 e k) g))
-    known-after1 eg = after1 at (known1 f table all (at .writes) none _ (at .entitles) eg)
+    pub known-after1 : {o g : ℕ} → o ≡ unopposedIn f (bitAnd x (without 32 k w)) (bitAnd e w)
+        → g ≡ unopposedIn f (bitOr (bitAnd e (without 32 k w)) o) (bitAnd h w)
+        → At f (step1 f ph) w (without 32 x (bitOr (without 32 (bitOr x e) k) g))
+        (without 32 e (bitOr (without 32 (bitOr x e) k) g)) (bitOr h (bitOr (without 32 (bitOr x e) k) g))
+    known-after1 eo eg = after1 at refl (known1 f table all (at .writes) none _ _ (at .waits) (at .entitles) eo eg)
 
     pub known-after2 : {o g : ℕ} → o ≡ unopposedIn f (bitAnd x w) (bitOr (bitAnd h w) (bitAnd e (without 32 k w)))
         → g ≡ firstInLine f o (bitAnd (bitOr x e) w) → At f (step2 f ph) w (without 32 x g) (bitOr e g) h
@@ -33,7 +35,7 @@ module _ (f : Facts) (small : f .writes < 2 ^ mostEntries) (table : Table (f .ro
         after2 at (eo ∙ known2 f table all (at .writes) none _ (and-is (at .holds) (at .writes)) (at .entitles)) eg
 
     pub known-after3 : {g : ℕ} → g ≡ unopposedIn f (bitAnd e w) (bitAnd h (without 32 k w))
-        → At f (step3 f ph) w x (without 32 e g) (bitOr h g)
+        → At f (step3 f ph) w (without 32 x g) (without 32 e g) (bitOr h g)
     known-after3 eg = after3 at (eg ∙ known3 f table all (at .writes) none _ (at .holds))
 
     pub known-after4 : {o g : ℕ} → o ≡ unopposedIn f (bitAnd x (without 32 k w)) (bitAnd h w)

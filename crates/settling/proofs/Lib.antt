@@ -3,6 +3,6 @@ pub mod FourSteps
 pub mod Known
 pub mod KnownSteps
 pub mod Quiet
-pub mod AtOnce
 pub mod Idle
 pub mod Bounds
+pub mod AtOnce

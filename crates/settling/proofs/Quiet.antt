@@ -22,14 +22,14 @@ cut-follows ph =
 pub none-unopposed : (f : Facts) (others : ℕ) → 0 ≡ unopposedIn f 0 others
 none-unopposed f others = none-kept slots _ 0 refl
 
-none-first : (f : Facts) (others : ℕ) → 0 ≡ firstInLine f 0 others
+pub none-first : (f : Facts) (others : ℕ) → 0 ≡ firstInLine f 0 others
 none-first f others = none-kept slots _ 0 refl
 
 at-quiet : {f : Facts} {ph : Phases} {w h : ℕ} → At f ph w 0 0 h → At f (settled f ph) w 0 0 h
 unfolding settled
 at-quiet {f} at =
     let none = none-unopposed f in
-    let one = rw or-zero-r at (after1 at (none _)) in
+    let one = rw or-zero-r at (after1 at (none _) (none _)) in
     let two = after2 one (none _) (none-first f _) in
     let three = rw or-zero-r at (after3 two (none _)) in
     after4 three (none _) (none _)

@@ -7,11 +7,11 @@ use Rattle.plans.specs.Entries.{slots}
 use Rattle.settling.specs.Requests.{Facts, isWriter, isEarlier, against, holdingRead, holdingWrite, entitledRead, entitledWrite, waitingRead, waitingWrite, unsatisfiedWrite}
 use Rattle.settling.specs.declared.Phases.{Phases}
 
--- The processors that pass the test go from entitled to holding.
+-- The processors that pass the test begin to hold, whether they were waiting or entitled.
 abbrev pub hold : Phases → (ℕ → Bool) → Phases
 hold ph test =
     record {
-      waiting = ph .waiting;
+      waiting = maskOf slots (λ p. bit (ph .waiting) p && not (test p));
       entitled = maskOf slots (λ p. bit (ph .entitled) p && not (test p));
       holding = maskOf slots (λ p. bit (ph .holding) p || test p);
     }
@@ -25,9 +25,12 @@ entitle ph test =
       holding = ph .holding;
     }
 
--- Clause 5.3, step 1: entitled reads begin to hold where no write that holds conflicts.
+-- Clause 5.3, step 1: a read begins to hold where no write that holds conflicts, if it is entitled, or if it waits and no
+-- entitled write conflicts either.
 unfoldable pub test1 : Facts → Phases → ℕ → Bool
-test1 f ph p = entitledRead f ph p && not (against f p (holdingWrite f ph))
+test1 f ph p =
+    (entitledRead f ph p || (waitingRead f ph p && not (against f p (entitledWrite f ph))))
+    && not (against f p (holdingWrite f ph))
 
 unfoldable pub step1 : Facts → Phases → Phases
 step1 f ph = hold ph (test1 f ph)
@@ -61,16 +64,12 @@ step4 f ph = entitle ph (test4 f ph)
 unfoldable pub settled : Facts → Phases → Phases
 settled f ph = step4 f (step3 f (step2 f (step1 f ph)))
 
--- Clause 5.1: processor p's new request is a read with which no write conflicts that is entitled or holds.
+-- Clause 5.1: processor p's new request is a read with which no write conflicts that is entitled or holds. Step 1 then
+-- lets it hold: that it held before step 1 would change nothing, which is proved beside it.
 unfoldable pub holdsAtOnce : Facts → Phases → ℕ → Bool
 holdsAtOnce f ph p =
     not (isWriter f p) && (not (against f p (entitledWrite f ph)) && not (against f p (holdingWrite f ph)))
 
 -- Clause 5.1: the phases, p's new request among them and waiting, with p holding where it holds at once.
 unfoldable pub admitted : Facts → Phases → ℕ → Phases
-admitted f ph p =
-    record {
-      waiting = maskOf slots (λ q. bit (ph .waiting) q && not (eqb q p && holdsAtOnce f ph p));
-      entitled = ph .entitled;
-      holding = maskOf slots (λ q. bit (ph .holding) q || (eqb q p && holdsAtOnce f ph p));
-    }
+admitted f ph p = hold ph (λ q. eqb q p && holdsAtOnce f ph p)

@@ -6,14 +6,11 @@ mod steps;
 use plans::ENTRIES;
 use plans::SLOTS;
 pub use requests::entries_below;
-use requests::entry_or_zero;
-use requests::in_row;
 use requests::known_in;
 use steps::four_steps;
 ghost use mathlib.Core.Path.{_≡_};
-ghost use mathlib.Core.List.{[]};
 ghost use Rattle.settling.specs.Requests.{factsBy};
-ghost use Rattle.settling.specs.Settling.{settled, holdsAtOnce};
+ghost use Rattle.settling.specs.Settling.{settled};
 
 // A mask of all processors.
 pub const ALL: u32 = ((1u64 << SLOTS as u64) - 1) as u32;
@@ -58,31 +55,5 @@ pub fn settle(
         waiting,
         entitled,
         holding,
-    )
-}
-
-// Whether the processor's new request holds before step 1. Who is earlier plays no part in it.
-pub fn holds_at_once(
-    rows: &[u64; ENTRIES],
-    writes: u64,
-    entry: &[u8; SLOTS],
-    phases: Phases,
-    processor: u8,
-) -> bool
-    ensures { λ r. ⌜ r ≡ holdsAtOnce (factsBy (now (rows .entry)) writes (now (entry .entry)) []) phases processor ⌝ }
-{
-    // First of all: after a branch it would no longer be compiled to one comparison.
-    let known = known_in(rows, entry);
-    let e = entry_or_zero(entry, processor as u32);
-    if e >= ENTRIES as u32 {
-        return true;
-    }
-    if (writes >> e) % 2 == 1 {
-        return false;
-    }
-    !in_row(
-        rows[e as usize] & writes,
-        entry,
-        (phases.entitled | phases.holding) & known,
     )
 }

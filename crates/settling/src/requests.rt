@@ -19,15 +19,7 @@ pub fn add_if(set: u32, place: u32, test: bool) -> u32
     if test { set | (1 << place) } else { set }
 }
 
-// The entry of processor p's request. A number that is no processor's has entry 0.
-pub fn entry_or_zero(entry: &[u8], p: u32) -> u32
-    ensures { λ r. ⌜ r ≡ getD (now (entry .entry)) p 0 ⌝ }
-{
-    let i = p as usize;
-    if i < entry.len() { entry[i] as u32 } else { 0 }
-}
-
-// The same for a processor of a mask that is walked through.
+// The entry of the request of a processor of a mask that is walked through.
 pub fn entry_at(entry: &[u8; SLOTS], p: u32) -> u32
     requires { ⌜ (p < slots) × (getD (now entry) p 0 < mostEntries) ⌝ }
     ensures { λ r. ⌜ r ≡ getD (now (entry .entry)) p 0 ⌝ }

@@ -39,7 +39,8 @@ fn clear_of(rows: &[u64; ENTRIES], entry: &[u8; SLOTS], candidates: u32, set: u6
 // The candidates whose requests conflict with that of none of the others. With no candidate nothing is looked at.
 fn unopposed(rows: &[u64; ENTRIES], entry: &[u8; SLOTS], candidates: u32, others: u32) -> u32
     requires { ⌜ Table (now rows) × (Known (now entry) candidates × Known (now entry) others) ⌝ }
-    ensures { λ r. ⌜ r ≡ unopposedIn (factsBy (now (rows .entry)) 0 (now (entry .entry)) []) candidates others ⌝ }
+    ensures { λ r. ⌜ (r ≡ unopposedIn (factsBy (now (rows .entry)) 0 (now (entry .entry)) []) candidates others)
+        × Known (now (entry .entry)) r ⌝ }
 {
     if candidates == 0 {
         return 0;
@@ -89,8 +90,12 @@ pub fn four_steps(
 {
     let w = writers(entry, writes, (waiting | entitled | holding) & known);
     let r = known & !w;
-    // Step 1 (5.3): entitled reads that no holding write is against. One that is not known conflicts with none.
-    let reads = (entitled & !known) | unopposed(rows, entry, entitled & r, holding & w);
+    // Step 1 (5.3): reads that no holding write is against, entitled, or waiting with no entitled write against them
+    // either. One that is not known conflicts with none.
+    let ahead = unopposed(rows, entry, waiting & r, entitled & w);
+    let free = unopposed(rows, entry, (entitled & r) | ahead, holding & w);
+    let reads = ((waiting | entitled) & !known) | free;
+    let waiting = waiting & !reads;
     let entitled = entitled & !reads;
     let holding = holding | reads;
     // Step 2 (5.4): waiting writes that no holding write, entitled read or earlier write in line is against.
@@ -100,11 +105,12 @@ pub fn four_steps(
     let entitled = entitled | next;
     // Step 3 (5.5): entitled writes that no holding read is against.
     let granted = unopposed(rows, entry, entitled & w, holding & r);
+    let waiting = waiting & !granted;
     let entitled = entitled & !granted;
     let holding = holding | granted;
     // Step 4 (5.6): waiting reads that a holding write is against, and no entitled one.
-    let free = unopposed(rows, entry, waiting & r, holding & w);
-    let behind = unopposed(rows, entry, waiting & r & !free, entitled & w);
+    let clear = unopposed(rows, entry, waiting & r, holding & w);
+    let behind = unopposed(rows, entry, waiting & r & !clear, entitled & w);
     Phases {
         waiting: waiting & !behind,
         entitled: entitled | behind,

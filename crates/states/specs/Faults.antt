@@ -1,8 +1,9 @@
--- When a call is refused, and by which number: 10 to 15. The phases are of the requests that count. Specification,
+-- When a call is refused, and by which number: 10 to 15, and 17. The phases are of the requests that count. Specification,
 -- section 4.
 use Prim.Native.Nat.{ℕ}
 use mathlib.Core.Bool.{not, _&&_}
 use lib.Dec.{leb, ltb}
+use Rattle.masks.specs.Sets.{bit}
 use Rattle.refusals.specs.Due.{due, firstOf}
 use Rattle.settling.specs.declared.Phases.{Phases}
 use Rattle.settling.specs.Requests.{unsatisfied, active}
@@ -23,8 +24,16 @@ issueFault terms last ph p e t =
     firstOf (tickFault last t)
     (firstOf (processorFault terms p) (firstOf (due (ltb e (terms .count)) 12) (due (not (active ph p)) 13)))
 
--- Clauses 4.5 and 8.2: a completion by 10, 11, then 14 for no active request of p, 15 for one that is unsatisfied.
+-- Clauses 4.5 and 8.2: a call that takes p's request out, by 10, 11, then 14 for no active request of p; then what is due
+-- for the phase that the request is in.
+abbrev pub takeFault : Terms → ℕ → Phases → ℕ → ℕ → ℕ → ℕ
+takeFault terms last ph p t phaseFault =
+    firstOf (tickFault last t) (firstOf (processorFault terms p) (firstOf (due (active ph p) 14) phaseFault))
+
+-- Clauses 4.5 and 8.2: a completion: 15 for a request that is unsatisfied.
 unfoldable pub completeFault : Terms → ℕ → Phases → ℕ → ℕ → ℕ
-completeFault terms last ph p t =
-    firstOf (tickFault last t)
-    (firstOf (processorFault terms p) (firstOf (due (active ph p) 14) (due (not (unsatisfied ph p)) 15)))
+completeFault terms last ph p t = takeFault terms last ph p t (due (not (unsatisfied ph p)) 15)
+
+-- Clauses 4.5 and 8.2: a withdrawal: 17 for a request that holds.
+unfoldable pub withdrawFault : Terms → ℕ → Phases → ℕ → ℕ → ℕ
+withdrawFault terms last ph p t = takeFault terms last ph p t (due (not (bit (ph .holding) p)) 17)

@@ -1,18 +1,20 @@
-// When a call is refused, and by which number: specification, clause 4.5, 10 to 15. The phases are of the requests that
+// When a call is refused, and by which number: specification, clause 4.5, 10 to 15 and 17. The phases are of the requests that
 // count.
 use crate::Terms;
 use masks::has32;
 use plans::SLOTS;
 use refusals::Refusal;
 use refusals::Verdict;
+use refusals::refuse_unless;
 use settling::Phases;
 ghost use mathlib.Core.Path.{_≡_};
 ghost use mathlib.Core.Bool.{_&&_};
 ghost use lib.Dec.{leb};
-ghost use Rattle.refusals.specs.Number.{verdictNumber};
+ghost use Rattle.refusals.specs.Number.{numberOf, verdictNumber};
+ghost use Rattle.refusals.specs.Due.{due};
 ghost use Rattle.settling.specs.Requests.{unsatisfied, active};
 ghost use Rattle.states.specs.Requests.{hasProcessor};
-ghost use Rattle.states.specs.Faults.{issueFault, completeFault};
+ghost use Rattle.states.specs.Faults.{issueFault, takeFault, completeFault, withdrawFault};
 
 // Clause 1.4: the largest tick.
 const LAST_TICK: u64 = 1099511627775;
@@ -72,9 +74,19 @@ pub fn check_issue(
     Verdict::Accepted
 }
 
-// Clause 4.5: 10, 11, 14, 15.
-pub fn check_complete(terms: Terms, last: u64, phases: Phases, processor: u8, tick: u64) -> Verdict
-    ensures { λ r. ⌜ verdictNumber r ≡ completeFault terms last phases processor tick ⌝ }
+// Clause 4.5, for a call that takes the processor's request out: 10, 11, 14, then what is due for its phase.
+fn check_taken(
+    terms: Terms,
+    last: u64,
+    phases: Phases,
+    processor: u8,
+    tick: u64,
+    passes: bool,
+    refusal: Refusal,
+) -> Verdict
+    ensures { λ r. ⌜
+        verdictNumber r ≡ takeFault terms last phases processor tick (due passes (numberOf refusal))
+        ⌝ }
 {
     if !is_in_time(last, tick) {
         return Verdict::Refused(Refusal::Tick);
@@ -85,8 +97,21 @@ pub fn check_complete(terms: Terms, last: u64, phases: Phases, processor: u8, ti
     if !is_active(phases, processor) {
         return Verdict::Refused(Refusal::Idle);
     }
-    if is_unsatisfied(phases, processor) {
-        return Verdict::Refused(Refusal::Unheld);
-    }
-    Verdict::Accepted
+    refuse_unless(passes, refusal)
+}
+
+// Clause 4.5: 10, 11, 14, 15.
+pub fn check_complete(terms: Terms, last: u64, phases: Phases, processor: u8, tick: u64) -> Verdict
+    ensures { λ r. ⌜ verdictNumber r ≡ completeFault terms last phases processor tick ⌝ }
+{
+    let held = !is_unsatisfied(phases, processor);
+    check_taken(terms, last, phases, processor, tick, held, Refusal::Unheld)
+}
+
+// Clause 4.5: 10, 11, 14, 17.
+pub fn check_withdraw(terms: Terms, last: u64, phases: Phases, processor: u8, tick: u64) -> Verdict
+    ensures { λ r. ⌜ verdictNumber r ≡ withdrawFault terms last phases processor tick ⌝ }
+{
+    let unheld = !has32(phases.holding, processor as u32);
+    check_taken(terms, last, phases, processor, tick, unheld, Refusal::Held)
 }

@@ -5,6 +5,7 @@ mod requests;
 
 pub use faults::check_complete;
 pub use faults::check_issue;
+pub use faults::check_withdraw;
 use plans::ENTRIES;
 use plans::SLOTS;
 pub use requests::clean;
@@ -17,10 +18,12 @@ pub struct Terms {
     pub writes: u64,
 }
 
-// What the calls go by. Made from a plan: its terms, the entries' lengths, and which entries conflict.
+// What the calls and queries go by. Made from a plan: its terms, the entries' lengths, names and widened sets, and which
+// entries conflict.
 pub struct Board {
     pub terms: Terms,
     pub lengths: [u16; ENTRIES],
+    pub names: [u64; ENTRIES],
     pub widened: [u64; ENTRIES],
     pub rows: [u64; ENTRIES],
 }

@@ -6,6 +6,7 @@ use plans::Entry;
 use plans::Plan;
 use refusals::Refusal;
 use refusals::Verdict;
+use settling::Phases;
 use states::Board;
 use states::State;
 
@@ -45,6 +46,13 @@ fn issue(board: Board, state: State, processor: u8, entry: u8, tick: u64) -> Sta
 
 fn complete(board: Board, state: State, processor: u8, tick: u64) -> State {
     let answered = arbiter::complete(board, state, processor, tick);
+    let reply = answered.reply;
+    print_reply(reply);
+    answered.state
+}
+
+fn withdraw(board: Board, state: State, processor: u8, tick: u64) -> State {
+    let answered = arbiter::withdraw(board, state, processor, tick);
     let reply = answered.reply;
     print_reply(reply);
     answered.state
@@ -147,6 +155,40 @@ fn phases(board: Board, fresh: State) {
     complete(board, f, 2, 3);
 }
 
+// Clause 4.5: a withdrawal is refused by 10, 11, 14 and 17. An entitled write that leaves lets the read behind it hold.
+fn withdrawals(board: Board, fresh: State) {
+    let a = withdraw(board, fresh, 0, LAST_TICK + 1);
+    let b = withdraw(board, a, 4, 0);
+    let c = withdraw(board, b, 0, 0);
+    let d = issue(board, c, 0, 2, 1);
+    let e = withdraw(board, d, 0, 1);
+    let f = issue(board, e, 1, 0, 2);
+    let g = issue(board, f, 2, 2, 3);
+    let h = withdraw(board, g, 1, 4);
+    withdraw(board, h, 1, 4);
+}
+
+// Clause 4.10: a request for an entry that is not the plan's is none, and holding counts before waiting.
+fn stray_withdrawals(board: Board, fresh: State) {
+    let since = fresh.since;
+    let earlier = fresh.earlier;
+    let mut entry = fresh.entry;
+    entry[1] = 200;
+    let stray = State {
+        last: 0,
+        phases: Phases {
+            waiting: 6,
+            entitled: 0,
+            holding: 4,
+        },
+        since: since,
+        earlier: earlier,
+        entry: entry,
+    };
+    withdraw(board, stray, 1, 0);
+    withdraw(board, stray, 2, 0);
+}
+
 fn main() {
     counts(0);
     counts(1);
@@ -160,4 +202,6 @@ fn main() {
     holds_after_a_wait(board, state);
     last_ticks(board, state);
     phases(board, state);
+    withdrawals(board, state);
+    stray_withdrawals(board, state);
 }

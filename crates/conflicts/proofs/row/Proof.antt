@@ -25,9 +25,9 @@ loop-holds c = (omega arith, refl)
 loop-again : tie.Need-loop-again Inv-loop μ-loop
 loop-again c = (
   omega arith,
-  row-next (c .before .before .before .before .before .before .args .t1) _ (c .before .before .before .before .before .before .pre .0) _ _ _ _ _
-      (c .before .before .before .before .before .before .pre .1) (omega arith) (c .before .before .before .before .loop .inv .1)
-      (c .before .pair-conflicts .ensures) (c .add-if .ensures),
+  row-next (c .before .before .before .before .before .before .before .args .t1) _ (c .before .before .before .before .before .before .before .pre .0) _ _ _ _ _
+      (c .before .before .before .before .before .before .before .pre .1) (omega arith) (c .before .before .before .before .before .loop .inv .1)
+      (c .before .before .pair-conflict .ensures) (rw (← c .before .is-conflict .ensures) (c .add-if .ensures)),
 )
 
 returns : tie.Need-returns Inv-loop μ-loop
@@ -51,6 +51,7 @@ row-spec =
     (λ c. search needs)
     (λ c. search needs)
     (λ c. search needs)
+    (λ c κs. search needs)
     (λ c κs. search needs)
     (λ c κs. search needs)
     (λ c. search needs)

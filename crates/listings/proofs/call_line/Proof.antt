@@ -12,6 +12,10 @@ returns-2 : tie.Need-returns-2
 unfolding callLine
 returns-2 c = rw (c .before .before .before .before .before .call2 .given .1) (c .before .before .parts-line2 .ensures)
 
+returns-3 : tie.Need-returns-3
+unfolding callLine
+returns-3 c = rw (c .before .before .before .before .before .call3 .given .1) (c .before .before .parts-line3 .ensures)
+
 pub call-line-spec : {M : Type 1} → statement M
 call-line-spec =
     tie.close
@@ -21,6 +25,10 @@ call-line-spec =
     (λ c. search needs)
     (λ c κs. search needs)
     (λ c. search needs)
+    (λ c κs. search needs)
+    (λ c. search needs)
     returns
     (λ c. search needs)
-    returns-2)
+    returns-2
+    (λ c. search needs)
+    returns-3)

@@ -2,7 +2,7 @@
 use borrow.Author.Needs.{needs}
 use borrow.Author.Tests.{lt-leb}
 use Rattle.logs.specs.Records.{recordFault, readRecord}
-use Rattle.logs.proofs.Fields.{an-issue, a-completion, no-verb}
+use Rattle.logs.proofs.Fields.{an-issue, a-completion, a-withdrawal, no-verb}
 use Rattle.logs.proofs.read_record.Statement.{statement}
 use Rattle.logs.proofs.read_record.Tie as tie
 
@@ -26,8 +26,15 @@ returns-3 c =
 
 returns-4 : tie.Need-returns-4
 returns-4 c =
-    let read = c .before .before in
-    no-verb _ (read .before .before .before .before .before .if1 .left) _ (read .read-number .ensures .0) (c .before .if2 .left) (c .if3 .left)
+    let read = c .before .before .before in
+    a-withdrawal _ (read .before .before .before .before .before .if1 .left) _ (read .read-number .ensures .0)
+    (c .before .before .if2 .left) (c .if4 .taken)
+
+returns-5 : tie.Need-returns-5
+returns-5 c =
+    let read = c .before .before .before in
+    no-verb _ (read .before .before .before .before .before .if1 .left) _ (read .read-number .ensures .0)
+    (c .before .before .if2 .left) (c .before .if3 .left) (c .if4 .left)
 
 pub read-record-spec : {M : Type 1} → statement M
 read-record-spec =
@@ -43,4 +50,5 @@ read-record-spec =
     (λ c κs. search needs)
     returns-2
     returns-3
-    returns-4)
+    returns-4
+    returns-5)

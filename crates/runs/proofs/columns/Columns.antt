@@ -36,7 +36,7 @@ pub record EarlierUnsatisfied (R : Requests) (ph : ℕ → Phase) (i j : ℕ) : 
   pub before : R .earlier j i ≡ true
   pub conflict : R .against i j ≡ true
 
--- Step 1. The second case is the newcomer's grant before step 1, which reads the same phases of writes.
+-- Step 1 grants entitled reads, and waiting ones that nothing entitled or holding is against.
 pub data Step1 (n : ℕ) (R : Requests) (ph ph′ : ℕ → Phase) (i : ℕ) : Type 0 where
   grants : R .write i ≡ false → ph i ≡ entitled → None n (In R ph holding true i) → ph′ i ≡ holding → Step1 n R ph ph′ i
   grants-waiting : R .write i ≡ false → ph i ≡ waiting → None n (In R ph holding true i) → None n (In R ph entitled true i)

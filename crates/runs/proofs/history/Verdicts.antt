@@ -9,12 +9,12 @@ use Rattle.refusals.proofs.Numbers.{first-accepted, due-accepted}
 use Rattle.masks.proofs.Truth.{and-left, and-right}
 use Rattle.plans.specs.Entries.{slots}
 use Rattle.settling.specs.declared.Phases.{Phases}
-use Rattle.settling.specs.Requests.{unsatisfied, active}
+use Rattle.settling.specs.Requests.{active}
 use Rattle.states.specs.declared.Terms.{Terms}
 use Rattle.states.specs.Requests.{hasProcessor}
-use Rattle.states.specs.Faults.{tickFault, processorFault, issueFault, completeFault}
+use Rattle.states.specs.Faults.{tickFault, processorFault, issueFault, takeFault}
 
--- What both calls check of their tick and processor.
+-- What all calls check of their tick and processor.
 pub record Admissible (terms : Terms) (last p t : ℕ) : Type 0 where
   pub in-time : last ≤ t
   pub in-state : p < slots
@@ -51,18 +51,15 @@ module _ (terms : Terms) (last : ℕ) (ph : Phases) (p t : ℕ) where
         was-idle = not-true _ (due-accepted _ 13 (lit< tt) (both .later));
       }
 
-  pub record CompleteTaken : Type 0 where
+  -- A completion or a withdrawal.
+  pub record LeaveTaken : Type 0 where
     pub call : Admissible terms last p t
     pub was-active : active ph p ≡ true
-    pub satisfied : unsatisfied ph p ≡ false
 
-  pub complete-taken : completeFault terms last ph p t ≡ 0 → CompleteTaken
-  unfolding completeFault
-  complete-taken ok =
+  pub leave-taken : (phaseFault : ℕ) → takeFault terms last ph p t phaseFault ≡ 0 → LeaveTaken
+  leave-taken phaseFault ok =
       let later = first-accepted (processorFault terms p) _ (first-accepted (tickFault last t) _ ok .later) .later in
-      let both = first-accepted (due (active ph p) 14) (due (not (unsatisfied ph p)) 15) later in
       record {
         call = admissible _ ok;
-        was-active = due-accepted _ 14 (lit< tt) (both .first);
-        satisfied = not-true _ (due-accepted _ 15 (lit< tt) (both .later));
+        was-active = due-accepted _ 14 (lit< tt) (first-accepted (due (active ph p) 14) phaseFault later .first);
       }

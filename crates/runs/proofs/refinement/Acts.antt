@@ -15,8 +15,8 @@ use Rattle.masks.proofs.Truth.{and-left, and-right}
 use Rattle.plans.specs.Entries.{slots}
 use Rattle.conflicts.proofs.Tabulate.{length-tabulate, getD-tabulate}
 use Rattle.settling.specs.declared.Phases.{Phases}
-use Rattle.settling.specs.Requests.{Facts, isWriter}
-use Rattle.settling.specs.Settling.{step1, settled, admitted}
+use Rattle.settling.specs.Requests.{Facts}
+use Rattle.settling.specs.Settling.{settled}
 use Rattle.states.specs.declared.Board.{Board}
 use Rattle.states.specs.declared.State.{State}
 use Rattle.acting.specs.Acts.{putIn, putLast, takenOut, began, stamped}
@@ -24,13 +24,13 @@ use Rattle.acting.specs.Calls.{factsOf}
 use Rattle.runs.specs.History.{Act, puts, takes}
 use Rattle.runs.specs.Claim.{everyEntry}
 use Rattle.runs.proofs.history.Cases.{by-processor, getD-set}
-use Rattle.runs.proofs.columns.Columns.{idle, waiting, entitled, holding, Step1}
+use Rattle.runs.proofs.columns.Columns.{idle, waiting, holding}
 use Rattle.runs.proofs.columns.Phases.{true-not-false, Rises, rises-rises, idle-stays}
 use Rattle.runs.proofs.columns.Moves.{rises1, rises2, rises3, rises4}
 use Rattle.runs.proofs.refinement.State.{requestsOf, phaseOf, Tidy, held-phase, held-bit, Becomes, moved, kept, becomes-tidy}
 use Rattle.runs.proofs.refinement.Steps.{second-fails, first-step, second-step, third-step, fourth-step, step1-tidy, step2-tidy, step3-tidy, step4-tidy}
 use Rattle.runs.proofs.refinement.Clean.{phaseIn, entryIn, sinceIn, Clean}
-use Rattle.runs.proofs.refinement.Starts.{put-moves, admitted-tidy, admitted-first, take-moves}
+use Rattle.runs.proofs.refinement.Starts.{put-moves, take-moves}
 
 -- ---- what an act makes of a state
 
@@ -50,15 +50,9 @@ startFrom ph s t (takes p) =
 abbrev pub startOf : State → ℕ → Act → State
 startOf s t a = startFrom (s .phases) s t a
 
--- The phases that step 1 begins with.
-abbrev pub readyFor : Act → Facts → Phases → Phases
-readyFor (puts p e) f ph = admitted f ph p
-readyFor (takes p) f ph = ph
-
 -- The phases, the state and the mask of grants that settling leaves.
 abbrev pub phasesAfter : Board → State → ℕ → Act → Phases
-phasesAfter b s t a =
-    settled (factsOf b (startOf s t a)) (readyFor a (factsOf b (startOf s t a)) (startOf s t a .phases))
+phasesAfter b s t a = settled (factsOf b (startOf s t a)) (startOf s t a .phases)
 
 abbrev pub settledFrom : State → Phases → State
 settledFrom x ph =
@@ -77,15 +71,13 @@ pub record MayPut (b : Board) (s : State) (p e : ℕ) : Type 0 where
   pub listed : e < b .terms .count
   pub was-idle : phaseIn s p ≡ idle
 
--- A request in any phase may be taken out, but for an entitled write: step 1 grants no waiting read, and those that wait
--- for that write would be left with nothing to wait for. No call takes one out.
-pub record MayTake (b : Board) (s : State) (p : ℕ) : Type 0 where
+-- A request in any phase may be taken out.
+pub record MayTake (s : State) (p : ℕ) : Type 0 where
   pub was-active : phaseIn s p ≡ idle → ⊥
-  pub no-entitled-write : phaseIn s p ≡ entitled → isWriter (factsOf b s) p ≡ true → ⊥
 
 abbrev pub May : Board → State → Act → Type 0
 May b s (puts p e) = MayPut b s p e
-May b s (takes p) = MayTake b s p
+May b s (takes p) = MayTake s p
 
 pub record Allowed (b : Board) (s : State) (t : ℕ) (a : Act) : Type 0 where
   pub in-time : s .last ≤ t
@@ -215,38 +207,19 @@ pub record Settles (x s′ : State) (g : ℕ) : Type 0 where
   pub rises : (q : ℕ) → q < slots → Rises (phaseIn x q) (phaseIn s′ q)
   pub marked : (q : ℕ) → q < slots → Marked x s′ g q
 
--- The phases y that step 1 begins with, and the newcomer's grant and step 1 as one step from x.
-pub record Ready (f : Facts) (G : ℕ → Bool) (x y : Phases) : Type 0 where
-  pub tidy : Tidy y
-  pub first : (i : ℕ) → i < slots → Step1 slots (requestsOf f G) (phaseOf x) (phaseOf (step1 f y)) i
-
-pub ready : (b : Board) (s : State) (t : ℕ) (G : ℕ → Bool) → Clean b s → (a : Act) → Allowed b s t a
-    → Ready (factsOf b (startOf s t a)) G (startOf s t a .phases) (readyFor a (factsOf b (startOf s t a)) (startOf s t a .phases))
-ready b s t G c (puts p e) k =
-    let x = startOf s t (puts p e) in
-    let tidy = start-tidy b s t c (puts p e) k in
-    let waits = begun b s t c (puts p e) k .own .now-waiting in
-    record {
-      tidy = admitted-tidy (factsOf b x) G (x .phases) p tidy (k .below) waits;
-      first = admitted-first (factsOf b x) G (x .phases) p tidy (k .below) waits;
-    }
-ready b s t G c (takes p) k =
-    let tidy = start-tidy b s t c (takes p) k in
-    record { tidy = tidy; first = first-step (factsOf b (startOf s t (takes p))) G _ tidy }
-
 module _ (f : Facts) (y : Phases) (tidy : Tidy y) where
   pub settled-tidy : Tidy (settled f y)
   unfolding settled
   settled-tidy = step4-tidy f _ (step3-tidy f _ (step2-tidy f _ (step1-tidy f y tidy)))
 
-settled-rises : (f : Facts) (G : ℕ → Bool) (x y : Phases) → Ready f G x y → (q : ℕ) → q < slots
-    → Rises (phaseOf x q) (phaseOf (settled f y) q)
+settled-rises : (f : Facts) (G : ℕ → Bool) (x : Phases) → Tidy x → (q : ℕ) → q < slots
+    → Rises (phaseOf x q) (phaseOf (settled f x) q)
 unfolding settled
-settled-rises f G x y h q l =
-    let one = step1-tidy f y (h .tidy) in
+settled-rises f G x tidy q l =
+    let one = step1-tidy f x tidy in
     let two = step2-tidy f _ one in
     let three = step3-tidy f _ two in
-    rises-rises (rises1 (h .first q l))
+    rises-rises (rises1 (first-step f G x tidy q l))
     (rises-rises (rises2 (second-step f G _ one q l))
     (rises-rises (rises3 (third-step f G _ two q l)) (rises4 (fourth-step f G _ three q l))))
 
@@ -305,14 +278,14 @@ pub act-done : (b : Board) (s : State) (t : ℕ) (a : Act) → Clean b s → All
 act-done b s t a c k =
     let x = startOf s t a in
     let ph = phasesAfter b s t a in
-    let r = ready b s t everyEntry c a k in
+    let tidy = start-tidy b s t c a k in
     let settles : Settles x (settledFrom x ph) (grantsOf x ph) =
-    record { last = refl; entry = refl; rises = settled-rises (factsOf b x) everyEntry (x .phases) _ r; marked = marked-at x ph } in
+    record { last = refl; entry = refl; rises = settled-rises (factsOf b x) everyEntry (x .phases) tidy; marked = marked-at x ph } in
     record {
       start = x;
       begun = begun b s t c a k;
       settles = settles;
       clean =
           settles-clean b x ph (grantsOf x ph) (start-clean b s t c a k)
-          (settled-tidy (factsOf b x) _ (r .tidy)) settles;
+          (settled-tidy (factsOf b x) _ tidy) settles;
     }

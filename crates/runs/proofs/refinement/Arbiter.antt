@@ -65,7 +65,7 @@ module _ (p : Plan) (taken : planFault p ≡ 0) (G : ℕ → Bool) (closed : Clo
 
   pub safe-act : (s : State) (t : ℕ) (a : Act) → Clean (boardOf p) s → Safe (boardOf p) G s → Allowed (boardOf p) s t a
       → Safe (boardOf p) G (stateAfter (boardOf p) s t a)
-  safe-act s t a clean safe k = safe-called s (stateAfter b s t a) t safe (act-called b G s t clean (safe .settled) a k)
+  safe-act s t a clean safe k = safe-called s (stateAfter b s t a) t safe (act-called b G s t clean a k)
 
   module _ (Lr Lw : ℕ) (bounded : LengthsAtMost p G Lr Lw) where
     timed-called : (s s′ : State) (t : ℕ) → Clean b s → Clean b s′ → s .last ≤ t → Safe b G s → Timed b G Lr Lw s
@@ -116,7 +116,7 @@ module _ (p : Plan) (taken : planFault p ≡ 0) (G : ℕ → Bool) (closed : Clo
           safe-act = safe-act;
           timed-act = λ s t a clean safe timed kept k.
               timed-called s (stateAfter b s t a) t clean (act-done b s t a clean k .clean) (k .in-time) safe timed kept
-              (act-called b G s t clean (safe .settled) a k);
+              (act-called b G s t clean a k);
           exclusive = λ s i j clean safe li lj d hi hj.
               exclusive (safe .settled) (safe .ordered) (safe .lawful)
               (λ i j li lj. reads-apart p taken s i j) i j li lj d hi hj;

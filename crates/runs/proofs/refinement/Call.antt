@@ -1,26 +1,25 @@
--- An act on a clean, settled state is a call of the columns. Assumes nothing.
+-- An act on a clean state is a call of the columns. Assumes nothing.
 use Prim.Native.Nat.{ℕ, _<_}
-use mathlib.Core.Path.{_≡_, sym, ap, subst, _∙_}
-use mathlib.Core.Bool.{Bool, false}
-use mathlib.Core.Logic.{inr}
+use mathlib.Core.Path.{_≡_, sym, subst, _∙_}
+use mathlib.Core.Bool.{Bool}
 use Rattle.plans.specs.Entries.{slots}
 use Rattle.settling.specs.declared.Phases.{Phases}
-use Rattle.settling.specs.Requests.{Facts, isWriter}
+use Rattle.settling.specs.Requests.{Facts}
 use Rattle.settling.specs.Settling.{step1, step2, step3, settled}
 use Rattle.states.specs.declared.Board.{Board}
 use Rattle.states.specs.declared.State.{State}
 use Rattle.acting.specs.Calls.{factsOf}
 use Rattle.runs.specs.History.{Act, puts, takes}
 use Rattle.runs.proofs.history.Cases.{by-processor}
-use Rattle.runs.proofs.columns.Columns.{idle, waiting, Start, puts-in, takes-out, Stamp, arrives, Called, Settled}
+use Rattle.runs.proofs.columns.Columns.{idle, Start, puts-in, takes-out, Stamp, arrives, Called}
 use Rattle.runs.proofs.columns.Phases.{clash, idle-stays}
 use Rattle.runs.proofs.columns.Moves.{write-kept1}
 use Rattle.runs.proofs.refinement.State.{requestsOf, phaseOf, Tidy}
-use Rattle.runs.proofs.refinement.Steps.{second-step, third-step, fourth-step, step1-tidy, step2-tidy, step3-tidy}
-use Rattle.runs.proofs.refinement.First.{waiting-waited, Stopped, stopped-after, old-read-stopped}
+use Rattle.runs.proofs.refinement.Steps.{first-step, first-leaves, second-step, third-step, fourth-step, step1-tidy, step2-tidy, step3-tidy}
+use Rattle.runs.proofs.refinement.First.{stopped-after}
 use Rattle.runs.proofs.refinement.Clean.{phaseIn, sinceIn, Clean}
-use Rattle.runs.proofs.refinement.Starts.{put-in, newcomer-stopped, taken-out}
-use Rattle.runs.proofs.refinement.Acts.{callerOf, startOf, readyFor, stateAfter, Allowed, Same, Own, Begun, begun, start-tidy, Marked, begins, keeps, Settles, Ready, ready, act-done}
+use Rattle.runs.proofs.refinement.Starts.{put-in, taken-out}
+use Rattle.runs.proofs.refinement.Acts.{callerOf, startOf, stateAfter, Allowed, Same, Own, Begun, start-tidy, Marked, begins, keeps, Settles, act-done}
 
 -- ---- the ticks
 
@@ -74,53 +73,29 @@ module _ (b : Board) (G : ℕ → Bool) (s : State) (t : ℕ) (c : Clean b s) wh
       (k .may .was-idle))
   start (takes p) k = takes-out p (taken-out (s .phases) p (requestsOf (factsOf b s) G) (k .below) (k .may .was-active))
 
-  module _ (settled-before : Settled slots (requestsOf (factsOf b s) G) (phaseIn s)) where
-    -- What a read waits for that step 1 leaves waiting.
-    left : (a : Act) → Allowed b s t a → (i : ℕ) → i < slots → isWriter (factsOf b (startOf s t a)) i ≡ false
-        → phaseIn (startOf s t a) i ≡ waiting
-        → phaseOf (step1 (factsOf b (startOf s t a)) (readyFor a (factsOf b (startOf s t a)) (startOf s t a .phases))) i ≡ waiting
-        → Stopped slots (requestsOf (factsOf b (startOf s t a)) G) (phaseIn (startOf s t a)) i
-    unfolding start
-    left (puts p e) k i l read w w₁ =
-        let x = startOf s t (puts p e) in
-        let f = factsOf b x in
-        let tidy = start-tidy b s t c (puts p e) k in
-        let new = begun b s t c (puts p e) k .own .now-waiting in
-        by-processor i p
-        (λ same.
-        subst (Stopped slots (requestsOf f G) (phaseIn x)) (sym same)
-        (newcomer-stopped f G (x .phases) p tidy (k .below) new (ap (isWriter f) (sym same) ∙ read)
-        (ap (phaseOf (step1 f (readyFor (puts p e) f (x .phases)))) (sym same) ∙ w₁)))
-        (λ other.
-        inr (old-read-stopped (start (puts p e) k) settled-before (λ h w. clash (k .may .was-idle) h tt) i l other read w))
-    left (takes p) k i l read w w₁ =
-        let x = startOf s t (takes p) in
-        by-processor i p (λ same. absurd (clash (ap (phaseIn x) same ∙ begun b s t c (takes p) k .own .now-idle) w tt))
-        (λ other. inr (old-read-stopped (start (takes p) k) settled-before (k .may .no-entitled-write) i l other read w))
-
-    pub act-called : (a : Act) → Allowed b s t a → CallOf b G s t (stateAfter b s t a)
-    unfolding settled
-    act-called a k =
-        let x = startOf s t a in
-        let f : Facts = factsOf b x in
-        let r : Ready f G (x .phases) (readyFor a f (x .phases)) = ready b s t G c a k in
-        let y₁ : Phases = step1 f (readyFor a f (x .phases)) in
-        let one : Tidy y₁ = step1-tidy f _ (r .tidy) in
-        let two = step2-tidy f _ one in
-        let three = step3-tidy f _ two in
-        let done = act-done b s t a c k in
-        record {
-          ph₀ = phaseIn x;
-          ph₁ = phaseOf y₁;
-          ph₂ = phaseOf (step2 f y₁);
-          ph₃ = phaseOf (step3 f (step2 f y₁));
-          start = start a k;
-          first = r .first;
-          left = λ i l read w.
-              stopped-after (λ j m v. write-kept1 (r .first j m) v)
-              (left a k i l read (waiting-waited (r .first i l) w) w);
-          second = second-step f G y₁ one;
-          third = third-step f G (step2 f y₁) two;
-          fourth = fourth-step f G (step3 f (step2 f y₁)) three;
-          stamps = stamps s (done .start) (stateAfter b s t a) _ t a (done .begun) (done .settles);
-        }
+  pub act-called : (a : Act) → Allowed b s t a → CallOf b G s t (stateAfter b s t a)
+  unfolding settled
+  act-called a k =
+      let x = startOf s t a in
+      let f : Facts = factsOf b x in
+      let zero : Tidy (x .phases) = start-tidy b s t c a k in
+      let y₁ : Phases = step1 f (x .phases) in
+      let one : Tidy y₁ = step1-tidy f _ zero in
+      let two = step2-tidy f _ one in
+      let three = step3-tidy f _ two in
+      let first = first-step f G (x .phases) zero in
+      let done = act-done b s t a c k in
+      record {
+        ph₀ = phaseIn x;
+        ph₁ = phaseOf y₁;
+        ph₂ = phaseOf (step2 f y₁);
+        ph₃ = phaseOf (step3 f (step2 f y₁));
+        start = start a k;
+        first = first;
+        left =
+            λ i l read w. stopped-after (λ j m v. write-kept1 (first j m) v) (first-leaves f G (x .phases) zero i l read w);
+        second = second-step f G y₁ one;
+        third = third-step f G (step2 f y₁) two;
+        fourth = fourth-step f G (step3 f (step2 f y₁)) three;
+        stamps = stamps s (done .start) (stateAfter b s t a) _ t a (done .begun) (done .settles);
+      }

@@ -1,29 +1,22 @@
--- A request put in, and one taken out in whatever phase, in columns; and step 1 after a newcomer that may hold at once.
--- Assumes nothing.
+-- A request put in, and one taken out in whatever phase, in columns. Assumes nothing.
 use Prim.Native.Nat.{ℕ, _<_}
-use mathlib.Core.Path.{_≡_, refl, ap, ap₂, subst, _∙_}
+use mathlib.Core.Path.{_≡_, refl, ap, ap₂, _∙_}
 use mathlib.Core.Bool.{Bool, true, false, cond, not, _&&_, _||_, and-true, and-false, or-false}
 use mathlib.Core.List.{List}
-use mathlib.Core.Logic.{_⊎_, inl, inr}
 use native.Mathlib.Omega.{arith}
 use lib.Dec.{eqb}
 use lib.ListN.{length, getD, set}
-use borrow.Author.Tests.{eqb-true, eq-eqb, ne-eqb, not-true, not-false}
+use borrow.Author.Tests.{eqb-true, eq-eqb, ne-eqb}
 use Rattle.masks.specs.Sets.{bit, maskOf}
 use Rattle.masks.proofs.Masks.{mask-below, bit-mask-at}
-use Rattle.masks.proofs.Truth.{and-left, and-right}
 use Rattle.plans.specs.Entries.{slots}
 use Rattle.conflicts.proofs.Tabulate.{getD-tabulate}
 use Rattle.settling.specs.declared.Phases.{Phases}
-use Rattle.settling.specs.Requests.{Facts, factsBy, isWriter, isEarlier, against, active, holdingWrite, entitledWrite}
-use Rattle.settling.specs.Settling.{step1, holdsAtOnce, admitted}
+use Rattle.settling.specs.Requests.{Facts, factsBy, isEarlier, active}
 use Rattle.acting.specs.Acts.{putIn, putLast, takenOut}
 use Rattle.runs.proofs.history.Cases.{by-processor, getD-set}
-use Rattle.runs.proofs.columns.Columns.{idle, waiting, entitled, holding, Requests, None, In, Step1, PutIn, TakenOut}
-use Rattle.runs.proofs.columns.Phases.{clash, true-not-false}
-use Rattle.runs.proofs.refinement.State.{requestsOf, phaseOf, three, bitsOf, Tidy, idle-inactive, not-idle-active, bits-in, Becomes, moved, kept, becomes-tidy}
-use Rattle.runs.proofs.refinement.Steps.{one-fails, second-fails, found, not-found, says-holding-write, says-entitled-write, first-step}
-use Rattle.runs.proofs.refinement.First.{SameWrites, first-from, held-stays, Stopped}
+use Rattle.runs.proofs.columns.Columns.{idle, waiting, Requests, PutIn, TakenOut}
+use Rattle.runs.proofs.refinement.State.{requestsOf, phaseOf, three, bitsOf, Tidy, idle-inactive, not-idle-active, bits-in, Becomes, moved, kept}
 
 -- ---- put in
 
@@ -103,109 +96,6 @@ module _ (rows : List ℕ) (writes : ℕ) (entry earlier : List ℕ) (ph : Phase
     where
       entry-kept : (i : ℕ) → (i ≡ p → ⊥) → getD (set entry p e) i 0 ≡ getD entry i 0
       entry-kept i d = getD-set entry p e i 0 (omega (arith, full)) ∙ ap (λ u. cond u e (getD entry i 0)) (ne-eqb i p d)
-
--- ---- holds at once
-
-admit-bits : (w e h t : Bool) → (t ≡ true → three w e h ≡ bitsOf waiting)
-    → three (w && not t) e (h || t) ≡ cond t (bitsOf holding) (three w e h)
-admit-bits w e h true from = ap (λ b. three (b .0 && false) (b .1) (b .2 || true)) (from refl)
-admit-bits w e h false from = λ i. three (and-true w i) e (or-false h i)
-
-module _ (f : Facts) (G : ℕ → Bool) (x : Phases) (p : ℕ) (c : Tidy x) (below : p < slots)
-    (waits : phaseOf x p ≡ waiting) where
-  abbrev x₁ : Phases
-  x₁ = admitted f x p
-
-  abbrev at-once : Bool
-  at-once = holdsAtOnce f x p
-
-  abbrev R : Requests
-  R = requestsOf f G
-
-  admitted-moves : Becomes holding (λ q. eqb q p && at-once) x x₁
-  unfolding admitted
-  admitted-moves =
-      let w : ℕ → Bool = λ q. bit (x .waiting) q && not (eqb q p && at-once) in
-      let h : ℕ → Bool = λ q. bit (x .holding) q || (eqb q p && at-once) in
-      record {
-        waiting-below = mask-below slots w;
-        entitled-below = c .entitled-below;
-        holding-below = mask-below slots h;
-        bits = λ q l.
-            ap₂ (λ u v. three u (bit (x .entitled) q) v) (bit-mask-at slots w q l) (bit-mask-at slots h q l)
-            ∙ admit-bits _ _ _ (eqb q p && at-once)
-            (λ t. bits-in x q c l waiting (ap (phaseOf x) (eqb-true q p (and-left (eqb q p) _ t)) ∙ waits));
-      }
-
-  pub admitted-tidy : Tidy (admitted f x p)
-  admitted-tidy = becomes-tidy admitted-moves c
-
-  -- Only a read holds at once, and only where no entitled and no holding write is against it.
-  at-once-read : at-once ≡ true → isWriter f p ≡ false
-  unfolding holdsAtOnce
-  at-once-read h = not-true (isWriter f p) (and-left (not (isWriter f p)) _ h)
-
-  at-once-free : at-once ≡ true
-      → None slots (In R (phaseOf x) holding true p) × None slots (In R (phaseOf x) entitled true p)
-  unfolding holdsAtOnce
-  at-once-free h =
-      let free = and-right (not (isWriter f p)) _ h in (
-        not-found (says-holding-write f G x p c)
-            (not-true _ (and-right (not (against f p (entitledWrite f x))) _ free)),
-        not-found (says-entitled-write f G x p c)
-            (not-true _ (and-left (not (against f p (entitledWrite f x))) _ free)),
-      )
-
-  not-at-once-stopped : at-once ≡ false → isWriter f p ≡ false → Stopped slots R (phaseOf x) p
-  unfolding holdsAtOnce
-  not-at-once-stopped h read =
-      go (one-fails (not (against f p (entitledWrite f x))) _ (second-fails (not (isWriter f p)) _ h (ap not read)))
-    where
-      go : (not (against f p (entitledWrite f x)) ≡ false) ⊎ (not (against f p (holdingWrite f x)) ≡ false)
-          → Stopped slots R (phaseOf x) p
-      go (inl k) = inr (found (says-entitled-write f G x p c) (not-false _ k))
-      go (inr k) = inl (found (says-holding-write f G x p c) (not-false _ k))
-
-  admitted-writes : SameWrites slots R (phaseOf x) (phaseOf x₁)
-  admitted-writes j l w = kept admitted-moves j l (go (eqb j p && at-once) refl)
-    where
-      go : (t : Bool) → (eqb j p && at-once) ≡ t → (eqb j p && at-once) ≡ false
-      go true e =
-          absurd
-          (true-not-false w
-          (ap (λ (q : ℕ). isWriter f q) (eqb-true j p (and-left (eqb j p) _ e)) ∙ at-once-read (and-right (eqb j p) _ e)))
-      go false e = e
-
-  -- The newcomer's grant and step 1 are one step 1 of the columns.
-  pub admitted-first : (i : ℕ) → i < slots
-      → Step1 slots (requestsOf f G) (phaseOf x) (phaseOf (step1 f (admitted f x p))) i
-  admitted-first i l = go (eqb i p && at-once) refl
-    where
-      step : Step1 slots R (phaseOf x₁) (phaseOf (step1 f x₁)) i
-      step = first-step f G x₁ admitted-tidy i l
-
-      newcomer : at-once ≡ true → i ≡ p → phaseOf x₁ i ≡ holding → Step1 slots R (phaseOf x) (phaseOf (step1 f x₁)) i
-      newcomer h same k =
-          let free = at-once-free h in
-          Step1.grants-waiting (ap (isWriter f) same ∙ at-once-read h) (ap (phaseOf x) same ∙ waits)
-          (λ j m y. free .0 j m (subst (λ (q : ℕ). In R (phaseOf x) holding true q j) same y))
-          (λ j m y. free .1 j m (subst (λ (q : ℕ). In R (phaseOf x) entitled true q j) same y)) (held-stays step k)
-
-      go : (t : Bool) → (eqb i p && at-once) ≡ t → Step1 slots R (phaseOf x) (phaseOf (step1 f x₁)) i
-      go true e =
-          newcomer (and-right (eqb i p) _ e) (eqb-true i p (and-left (eqb i p) _ e)) (moved admitted-moves i l e)
-      go false e = first-from admitted-writes (kept admitted-moves i l e) step
-
-  -- A newcomer that step 1 leaves waiting is a write, or has a write against it.
-  pub newcomer-stopped : isWriter f p ≡ false → phaseOf (step1 f (admitted f x p)) p ≡ waiting
-      → Stopped slots (requestsOf f G) (phaseOf x) p
-  newcomer-stopped read k = go at-once refl
-    where
-      go : (t : Bool) → at-once ≡ t → Stopped slots R (phaseOf x) p
-      go true h =
-          absurd
-          (clash k (held-stays (first-step f G x₁ admitted-tidy p below) (moved admitted-moves p below (ap₂ _&&_ (eq-eqb p p refl) h))) tt)
-      go false h = not-at-once-stopped h read
 
 -- ---- taken out
 

@@ -1,20 +1,21 @@
 -- The four settling steps of tidy phases as relations between their columns, processor by processor: a search that
 -- finds or does not find becomes the reason for moving or staying. Each leaves the phases tidy. Assumes nothing.
 use Prim.Native.Nat.{ℕ, _<_}
-use mathlib.Core.Path.{_≡_, refl, ap, ap₂, _∙_}
-use mathlib.Core.Bool.{Bool, true, false, cond, not, _&&_, _||_, false≢true, or-false, and-true}
+use mathlib.Core.Path.{_≡_, refl, sym, ap, ap₂, _∙_}
+use mathlib.Core.Bool.{Bool, true, false, cond, not, _&&_, _||_, false≢true, or-true, or-false, and-true, and-false}
 use mathlib.Core.Logic.{_⊎_, inl, inr, ⊎-elim}
 use borrow.Author.Tests.{not-true, not-false}
-use Rattle.masks.specs.Sets.{bit}
+use Rattle.masks.specs.Sets.{bit, maskOf}
 use Rattle.masks.proofs.Masks.{mask-below, bit-mask-at}
 use Rattle.masks.proofs.Some.{some-found, some-none-at}
-use Rattle.masks.proofs.Truth.{and-left, and-right, and-both}
+use Rattle.masks.proofs.Truth.{and-left, and-right, and-both, or-cases, or-left, or-right}
 use Rattle.plans.specs.Entries.{slots}
 use Rattle.settling.specs.declared.Phases.{Phases}
 use Rattle.settling.specs.Requests.{Facts, isEarlier, isWriter, conflicts, against, unsatisfied, unsatisfiedWrite, holdingRead, holdingWrite, entitledRead, entitledWrite, waitingRead, waitingWrite}
 use Rattle.settling.specs.Settling.{hold, entitle, test1, test2, test3, test4, step1, step2, step3, step4}
 use Rattle.runs.proofs.columns.Columns.{Phase, waiting, entitled, holding, Requests, Exists, None, In, EarlierUnsatisfied, Step1, Step2, Step3, Step4}
-use Rattle.runs.proofs.columns.Phases.{true-not-false}
+use Rattle.runs.proofs.columns.Phases.{clash, true-not-false}
+use Rattle.runs.proofs.refinement.First.{Stopped}
 use Rattle.runs.proofs.refinement.State.{requestsOf, phaseOf, three, bitsOf, Tidy, bits-in, Becomes, moved, kept, becomes-tidy, Marks, marks-holding, marks-entitled, marks-waiting, entitled-phase, waiting-phase, unsatisfied-phase, unsatisfied-bit}
 
 -- ---- searches among the requests that conflict with p's
@@ -94,10 +95,9 @@ module _ (f : Facts) (G : ℕ → Bool) (ph : Phases) (p : ℕ) where
 
 -- ---- who moves
 
-hold-bits : (w e h t : Bool) → (t ≡ true → three w e h ≡ bitsOf entitled)
-    → three w (e && not t) (h || t) ≡ cond t (bitsOf holding) (three w e h)
-hold-bits w e h true from = ap (λ b. three (b .0) (b .1 && false) (b .2 || true)) (from refl)
-hold-bits w e h false from = λ i. three w (and-true e i) (or-false h i)
+hold-bits : (w e h t : Bool) → three (w && not t) (e && not t) (h || t) ≡ cond t (bitsOf holding) (three w e h)
+hold-bits w e h true = λ i. three (and-false w i) (and-false e i) (or-true h i)
+hold-bits w e h false = λ i. three (and-true w i) (and-true e i) (or-false h i)
 
 entitle-bits : (w e h t : Bool) → (t ≡ true → three w e h ≡ bitsOf waiting)
     → three (w && not t) (e || t) h ≡ cond t (bitsOf entitled) (three w e h)
@@ -105,17 +105,19 @@ entitle-bits w e h true from = ap (λ b. three (b .0 && false) (b .1 || true) (b
 entitle-bits w e h false from = λ i. three (and-true w i) (or-false e i) h
 
 module _ (ph : Phases) (test : ℕ → Bool) (c : Tidy ph) where
-  holds-by : ((q : ℕ) → q < slots → test q ≡ true → phaseOf ph q ≡ entitled) → Becomes holding test ph (hold ph test)
-  holds-by from =
+  holds-by : Becomes holding test ph (hold ph test)
+  holds-by =
+      let w : ℕ → Bool = λ p. bit (ph .waiting) p && not (test p) in
       let e : ℕ → Bool = λ p. bit (ph .entitled) p && not (test p) in
       let h : ℕ → Bool = λ p. bit (ph .holding) p || test p in
       record {
-        waiting-below = c .waiting-below;
+        waiting-below = mask-below slots w;
         entitled-below = mask-below slots e;
         holding-below = mask-below slots h;
         bits = λ q l.
-            ap₂ (three (bit (ph .waiting) q)) (bit-mask-at slots e q l) (bit-mask-at slots h q l)
-            ∙ hold-bits _ _ _ (test q) (λ t. bits-in ph q c l entitled (from q l t));
+            ap₂ (λ u v. three u v (bit (maskOf slots h) q)) (bit-mask-at slots w q l) (bit-mask-at slots e q l)
+            ∙ ap (three (w q) (e q)) (bit-mask-at slots h q l)
+            ∙ hold-bits _ _ _ (test q);
       }
 
   entitled-by : ((q : ℕ) → q < slots → test q ≡ true → phaseOf ph q ≡ waiting)
@@ -134,9 +136,8 @@ module _ (ph : Phases) (test : ℕ → Bool) (c : Tidy ph) where
 
 module _ (f : Facts) (ph : Phases) (c : Tidy ph) where
   step1-moves : Becomes holding (test1 f ph) ph (step1 f ph)
-  unfolding step1 test1
-  step1-moves =
-      holds-by ph (test1 f ph) c (λ q l h. entitled-phase ph q c l (and-left _ _ (and-left (entitledRead f ph q) _ h)))
+  unfolding step1
+  step1-moves = holds-by ph (test1 f ph) c
 
   pub step1-tidy : Tidy (step1 f ph)
   step1-tidy = becomes-tidy step1-moves c
@@ -151,9 +152,8 @@ module _ (f : Facts) (ph : Phases) (c : Tidy ph) where
   step2-tidy = becomes-tidy step2-moves c
 
   step3-moves : Becomes holding (test3 f ph) ph (step3 f ph)
-  unfolding step3 test3
-  step3-moves =
-      holds-by ph (test3 f ph) c (λ q l h. entitled-phase ph q c l (and-left _ _ (and-left (entitledWrite f ph q) _ h)))
+  unfolding step3
+  step3-moves = holds-by ph (test3 f ph) c
 
   pub step3-tidy : Tidy (step3 f ph)
   step3-tidy = becomes-tidy step3-moves c
@@ -187,19 +187,60 @@ module _ (f : Facts) (G : ℕ → Bool) (ph : Phases) (c : Tidy ph) (i : ℕ) (l
   unfolding step1 test1
   first-step = go (test1 f ph i) refl
     where
-      go : (t : Bool) → test1 f ph i ≡ t → Step1 slots R (phaseOf ph) (phaseOf (step1 f ph)) i
-      go true e =
-          let r = and-left (entitledRead f ph i) _ e in
+      held : Bool
+      held = against f i (holdingWrite f ph)
+
+      next : Bool
+      next = against f i (entitledWrite f ph)
+
+      grants : test1 f ph i ≡ true → (entitledRead f ph i ≡ true) ⊎ ((waitingRead f ph i && not next) ≡ true)
+          → Step1 slots R (phaseOf ph) (phaseOf (step1 f ph)) i
+      grants e (inl r) =
           Step1.grants (not-true _ (and-right (bit (ph .entitled) i) _ r))
           (entitled-phase ph i c l (and-left (bit (ph .entitled) i) _ r))
-          (not-found (says-holding-write f G ph i c) (not-true _ (and-right (entitledRead f ph i) _ e)))
+          (not-found (says-holding-write f G ph i c) (not-true _ (and-right (entitledRead f ph i || waitingRead f ph i && not next) _ e)))
           (moved (step1-moves f ph c) i l e)
+      grants e (inr r) =
+          let w = and-left (waitingRead f ph i) _ r in
+          Step1.grants-waiting (not-true _ (and-right (bit (ph .waiting) i) _ w))
+          (waiting-phase ph i c l (and-left (bit (ph .waiting) i) _ w))
+          (not-found (says-holding-write f G ph i c) (not-true _ (and-right (entitledRead f ph i || waitingRead f ph i && not next) _ e)))
+          (not-found (says-entitled-write f G ph i c) (not-true _ (and-right (waitingRead f ph i) _ r)))
+          (moved (step1-moves f ph c) i l e)
+
+      go : (t : Bool) → test1 f ph i ≡ t → Step1 slots R (phaseOf ph) (phaseOf (step1 f ph)) i
+      go true e = grants e (or-cases (entitledRead f ph i) _ (and-left (entitledRead f ph i || waitingRead f ph i && not next) _ e))
       go false e =
           Step1.stays
           (λ k w.
           found (says-holding-write f G ph i c)
-          (not-false _ (second-fails (entitledRead f ph i) _ e (and-both _ _ (marks-entitled ph c .from i l k) (ap not w)))))
+          (not-false _
+          (second-fails (entitledRead f ph i || waitingRead f ph i && not next) _ e
+          (or-left (entitledRead f ph i) _ (and-both _ _ (marks-entitled ph c .from i l k) (ap not w))))))
           (kept (step1-moves f ph c) i l e)
+
+  -- What a read waits for that step 1 leaves waiting.
+  pub first-leaves : isWriter f i ≡ false → phaseOf (step1 f ph) i ≡ waiting → Stopped slots R (phaseOf ph) i
+  unfolding test1
+  first-leaves read w = go (test1 f ph i) refl
+    where
+      next : Bool
+      next = against f i (entitledWrite f ph)
+
+      reason : waitingRead f ph i ≡ true → test1 f ph i ≡ false → (t : Bool) → next ≡ t → Stopped slots R (phaseOf ph) i
+      reason r e true k = inr (found (says-entitled-write f G ph i c) k)
+      reason r e false k =
+          inl
+          (found (says-holding-write f G ph i c)
+          (not-false _
+          (second-fails (entitledRead f ph i || waitingRead f ph i && not next) _ e
+          (or-right (entitledRead f ph i) _ (and-both _ _ r (ap not k))))))
+
+      go : (t : Bool) → test1 f ph i ≡ t → Stopped slots R (phaseOf ph) i
+      go true e = absurd (clash (moved (step1-moves f ph c) i l e) w tt)
+      go false e =
+          let waits = sym (kept (step1-moves f ph c) i l e) ∙ w in
+          reason (and-both _ _ (marks-waiting ph c .from i l waits) (ap not read)) e next refl
 
   pub second-step : Step2 slots R (phaseOf ph) (phaseOf (step2 f ph)) i
   unfolding step2 test2

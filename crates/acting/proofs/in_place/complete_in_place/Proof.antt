@@ -1,11 +1,7 @@
 -- `complete_in_place` meets its contract, put together from its parts. Assumes nothing.
-use mathlib.Core.Path.{_≡_, sym, subst}
 use Prim.Native.Nat.{_<_}
 use borrow.Author.Needs.{needs}
 use Rattle.plans.specs.Entries.{slots}
-use Rattle.settling.proofs.Bounds.{settled-small}
-use Rattle.states.specs.inner.Small.{Small}
-use Rattle.acting.proofs.PutIn.{taken-small}
 use Rattle.acting.proofs.Answers.{complete-refused, complete-counted, complete-accepted}
 use Rattle.acting.proofs.in_place.complete_in_place.Statement.{statement}
 use Rattle.acting.proofs.in_place.complete_in_place.Tie as tie
@@ -19,21 +15,13 @@ returns c =
     let found = c .before .before .before in
     complete-refused _ _ _ (found .before .clean .ensures) _ _ _ (found .check-complete .ensures) _ (c .before .verdict .given .1)
 
-settle-left-requires : tie.Need-settle-left-requires
-settle-left-requires c κs = subst Small (sym (c .take-out .ensures)) (taken-small _ _)
-
-accept-requires : tie.Need-accept-requires
-accept-requires c κs = subst Small (sym (c .before .settle-left .ensures)) (settled-small _ _)
-
 returns-2 : tie.Need-returns-2
 returns-2 c =
-    let taken = c .before .before .before in
-    let marked = taken .before in
+    let marked = c .before .before in
     let told = marked .before .before .before .before .before in
     let found = told .before .before in
-    complete-accepted _ _ _ (found .before .clean .ensures) _ _ _ (found .check-complete .ensures) (told .enum-told .given .1) _ _ _ _ _
-    (marked .before .before .length-at .ensures) (marked .late-mark .ensures) (taken .take-out .ensures) (c .before .before .settle-left .ensures)
-    (c .accept .ensures _ _)
+    complete-accepted _ _ _ (found .before .clean .ensures) _ _ _ (found .check-complete .ensures) (told .enum-told .given .1) _ _ _
+    (marked .before .before .length-at .ensures) (marked .late-mark .ensures) (c .leave .ensures)
 
 pub complete-in-place-spec : {M : Type 1} → statement M
 complete-in-place-spec =
@@ -50,6 +38,4 @@ complete-in-place-spec =
     (λ c. counted (c .before .before .before))
     (λ c κs. search needs)
     (λ c κs. search needs)
-    settle-left-requires
-    accept-requires
     returns-2)

@@ -6,7 +6,7 @@ use Rattle.arbiter.proofs.boards.board_of.Tie as tie
 
 returns : tie.Need-returns
 returns c =
-    let worked = c .before .before .before in
+    let worked = c .before .before .before .before in
     board-made (worked .before .before .args .plan) _ _ _ (worked .before .lengths-of .ensures) (worked .conflicts-of .ensures) (c .writes-of .ensures)
 
 pub board-of-spec : {M : Type 1} → statement M

@@ -5,11 +5,12 @@ use native.Mathlib.Omega.{arith}
 use mathlib.Core.Path.{_≡_, refl, _∙_}
 use lib.ListN.{length, take, length-set}
 use borrow.Author.Needs.{needs}
+use Rattle.plans.specs.declared.Entry.{Entry}
 use Rattle.plans.specs.Entries.{mostEntries, entryAt}
 use Rattle.conflicts.specs.Conflict.{tabulate}
 use Rattle.conflicts.proofs.Tabulate.{fill-more, filled-whole}
 use Rattle.arbiter.specs.Fresh.{boardOf}
-use Rattle.arbiter.proofs.PlanEntries.{length-at-entry}
+use Rattle.conflicts.proofs.Widening.{counted-field}
 use Rattle.arbiter.proofs.boards.lengths_of.Statement.{statement}
 use Rattle.arbiter.proofs.boards.lengths_of.Tie as tie
 
@@ -28,7 +29,7 @@ loop-again c =
     let inside = c .before .before .before in (
       omega arith,
       simp length-set (inside .loop .inv .1),
-      fill-more _ _ _ _ (omega arith) (inside .loop .inv .2) (c .counted-length .ensures ∙ length-at-entry (inside .before .args .t1) _),
+      fill-more _ _ _ _ (omega arith) (inside .loop .inv .2) (c .counted-length .ensures ∙ counted-field (inside .before .args .t1) _ (λ (x : Entry). x .length) refl),
     )
 
 returns : tie.Need-returns Inv-loop μ-loop

@@ -26,35 +26,41 @@ sides c =
     let active = and-known (bitOr (bitOr (a .waiting) (a .entitled)) (a .holding)) known in
     (known-and _ known, known-kept _ active (c .writers .ensures))
 
-requires1 : tie.Need-unopposed-requires
-requires1 c κs = let s = sides c in (c .before .pre .1, search (s, and-known))
+requires-ahead : tie.Need-unopposed-requires
+requires-ahead c κs = let s = sides c in (c .before .pre .1, search (s, and-known))
 
-requires2 : tie.Need-unopposed-requires-2
-requires2 c κs =
+requires1 : tie.Need-unopposed-requires-2
+requires1 c κs =
     let s = sides (c .before) in
-    (c .before .before .pre .1, search (s, and-known, known-or))
+    let ahead = c .unopposed .ensures .1 in
+    (c .before .before .pre .1, (known-or (and-known (c .before .before .args .entitled) (s .0)) ahead, search (s, and-known)))
+
+requires2 : tie.Need-unopposed-requires-3
+requires2 c κs =
+    let first = c .before in
+    let s = sides (first .before) in
+    (first .before .before .pre .1, search (s, and-known, known-or))
 
 requires-line : tie.Need-first-in-line-requires
 requires-line c κs =
-    let start = c .before .before .before in
-    let s = sides (c .before .before) in
-    (known-kept _ (and-known (start .args .waiting) (s .1)) (c .unopposed2 .ensures), search (s, and-known))
+    let s = sides (c .before .before .before) in
+    (c .unopposed3 .ensures .1, search (s, and-known))
 
-requires3 : tie.Need-unopposed-requires-3
+requires3 : tie.Need-unopposed-requires-4
 requires3 c κs =
-    let first = c .before .before in
-    let s = sides (first .before) in
-    (first .before .before .pre .1, search (s, and-known))
-
-requires4 : tie.Need-unopposed-requires-4
-requires4 c κs =
     let first = c .before .before .before in
     let s = sides (first .before) in
     (first .before .before .pre .1, search (s, and-known))
 
-requires5 : tie.Need-unopposed-requires-5
-requires5 c κs =
+requires4 : tie.Need-unopposed-requires-5
+requires4 c κs =
     let first = c .before .before .before .before in
+    let s = sides (first .before) in
+    (first .before .before .pre .1, search (s, and-known))
+
+requires5 : tie.Need-unopposed-requires-6
+requires5 c κs =
+    let first = c .before .before .before .before .before in
     let s = sides (first .before) in
     (first .before .before .pre .1, search (s, and-known, known-and))
 
@@ -66,19 +72,20 @@ returns c ph given =
     let line = third .before in
     let second = line .before in
     let first = second .before in
-    let start = first .before .before in
+    let ahead = first .before in
+    let start = ahead .before .before in
     let a = start .args in
     let f = factsBy (a .rows .now) (a .writes) (a .entry .now) (a .earlier .now) in
     let small = start .fits .writes .fits in
     let table = start .pre .1 in
     let all = start .pre .0 in
-    let zero = at-known f small table all given (first .before .writers .ensures) in
-    let one = known-after1 f small table all zero (first .unopposed .ensures) in
-    let two = known-after2 f small table all one (second .unopposed2 .ensures) (line .first-in-line .ensures) in
-    let three = known-after3 f small table all two (third .unopposed3 .ensures) in
-    at-last ph _ (known-after4 f small table all three (fourth .unopposed4 .ensures) (c .unopposed5 .ensures))
+    let zero = at-known f small table all given (ahead .before .writers .ensures) in
+    let one = known-after1 f small table all zero (ahead .unopposed .ensures .0) (first .unopposed2 .ensures .0) in
+    let two = known-after2 f small table all one (second .unopposed3 .ensures .0) (line .first-in-line .ensures) in
+    let three = known-after3 f small table all two (third .unopposed4 .ensures .0) in
+    at-last ph _ (known-after4 f small table all three (fourth .unopposed5 .ensures .0) (c .unopposed6 .ensures .0))
 
 pub four-steps-spec : {M : Type 1} → statement M
 four-steps-spec =
     tie.close
-    (tie.spec writers-requires requires1 requires2 requires-line requires3 requires4 requires5 returns)
+    (tie.spec writers-requires requires-ahead requires1 requires2 requires-line requires3 requires4 requires5 returns)

@@ -5,6 +5,7 @@ use native.Mathlib.Omega.{arith}
 use mathlib.Core.Path.{_≡_, sym, ap, ap₂, _∙_}
 use mathlib.Core.Bool.{true, false, cond, not, _&&_, _||_, true≢false, and-comm, and-false, or-true, and-eq-true-iff}
 use mathlib.Core.List.{List, [], _∷_}
+use lib.Bits as bits
 use lib.Dec.{eqb, ltb}
 use lib.ListN.{getD}
 use lib.Pow.{pow-pos}
@@ -12,12 +13,12 @@ use borrow.Author.Tests.{eqb-true, lt-ltb, ltb-true}
 use Rattle.masks.specs.Sets.{bit, meets}
 use Rattle.masks.proofs.Places.{bit-zero, bit-or}
 use Rattle.masks.proofs.Some.{some-found}
-use Rattle.masks.proofs.Meets.{not-empty, meets-share, share-meets, meets-comm}
+use Rattle.masks.proofs.Meets.{not-empty, meets-share, share-meets}
 use Rattle.plans.specs.declared.Entry.{Entry}
 use Rattle.plans.specs.declared.Plan.{Plan}
 use Rattle.plans.specs.Entries.{isRead, isWrite, countedEntries, blankEntry, entryAt}
 use Rattle.plans.specs.Acceptance.{planFault}
-use Rattle.conflicts.specs.Conflict.{widen, widenedSet, conflict, inConflict}
+use Rattle.conflicts.specs.Conflict.{widen, widenedSet, shared, conflict, inConflict}
 use Rattle.conflicts.proofs.Widening.{broughtTo}
 use Rattle.conflicts.proofs.Accepted.{write-not-empty}
 
@@ -58,25 +59,25 @@ read-in-widened names (e ∷ later) (suc i) k r m h =
 
 module _ (es : List Entry) where
   conflict-comm : (e f : Entry) → conflict es e f ≡ conflict es f e
-  unfolding conflict
+  unfolding shared conflict
   conflict-comm e f =
       rw (
         and-comm (isWrite e) (isWrite f),
         and-comm (isRead e) (isRead f),
-        meets-comm (widenedSet es e) (widenedSet es f),
-        meets-comm (e .set) (f .set),
+        bits.and-comm (widenedSet es e) (widenedSet es f),
+        bits.and-comm (e .set) (f .set),
       )
 
   reads-apart : (e f : Entry) → isRead e ≡ true → isRead f ≡ true → conflict es e f ≡ false
-  unfolding conflict
+  unfolding shared conflict
   reads-apart e f he hf = rw (read-no-write e he, he, hf)
 
   read-and-write : (e f : Entry) → isRead e ≡ true → isWrite f ≡ true → conflict es e f ≡ meets (e .set) (f .set)
-  unfolding conflict
+  unfolding shared conflict
   read-and-write e f he hf = rw (read-no-write e he, he, write-no-read f hf)
 
   two-writes : (e f : Entry) → isWrite e ≡ true → isWrite f ≡ true → conflict es e f ≡ meets (widen (e .set) es) (widen (f .set) es)
-  unfolding conflict widenedSet
+  unfolding shared conflict widenedSet
   two-writes e f he hf = rw (he, hf)
 
   write-itself : (e : Entry) → isWrite e ≡ true → not (eqb (e .set) 0) ≡ true → conflict es e e ≡ true

@@ -1,0 +1,29 @@
+-- `withdraw_in_place` meets its contract, put together from its parts. Assumes nothing.
+use borrow.Author.Needs.{needs}
+use Rattle.acting.proofs.Answers.{withdraw-refused, withdraw-accepted}
+use Rattle.acting.proofs.in_place.withdraw_in_place.Statement.{statement}
+use Rattle.acting.proofs.in_place.withdraw_in_place.Tie as tie
+
+returns : tie.Need-returns
+returns c =
+    let found = c .before .before .before in
+    withdraw-refused _ _ _ (found .before .clean .ensures) _ _ _ (found .check-withdraw .ensures) _ (c .before .verdict .given .1)
+
+returns-2 : tie.Need-returns-2
+returns-2 c =
+    let told = c .before .before in
+    let found = told .before .before in
+    withdraw-accepted _ _ _ (found .before .clean .ensures) _ _ _ (found .check-withdraw .ensures) (told .enum-told .given .1) _
+    (c .leave .ensures)
+
+pub withdraw-in-place-spec : {M : Type 1} → statement M
+withdraw-in-place-spec =
+    tie.close
+    (tie.spec
+    (λ c κs. search needs)
+    (λ c κs. search needs)
+    (λ c. search needs)
+    (λ c. search needs)
+    returns
+    (λ c κs. search needs)
+    returns-2)
