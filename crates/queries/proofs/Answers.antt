@@ -1,10 +1,12 @@
--- What the checks of the queries tell of an accepted one, and the state of a counted processor. Assumes nothing.
+-- What the checks of the queries tell of an accepted one, and the state and the direct waits of a counted processor.
+-- Assumes nothing.
 use Prim.Native.Nat.{ℕ, _<_, _≤_}
-use mathlib.Core.Path.{_≡_, refl}
+use mathlib.Core.Path.{_≡_, refl, ap, _∙_}
 use mathlib.Core.Bool.{cond}
+use mathlib.Core.List.{List}
 use lib.Dec.{ltb, lit<}
-use borrow.Author.Tests.{ltb-true}
-use Rattle.masks.specs.Sets.{bit}
+use borrow.Author.Tests.{ltb-true, lt-ltb}
+use Rattle.masks.specs.Sets.{bit, maskOf}
 use Rattle.masks.proofs.Masks.{bit-mask-at}
 use Rattle.masks.proofs.Truth.{and-left}
 use Rattle.refusals.specs.declared.Refusal.{Refusal}
@@ -15,13 +17,17 @@ use Rattle.refusals.proofs.Numbers.{first-accepted, due-accepted, number-not-ze
 use Rattle.encoding.specs.Buffers.{roomFault}
 use Rattle.encoding.proofs.Room.{room-fits}
 use Rattle.plans.specs.Entries.{slots}
+use Rattle.conflicts.specs.Conflict.{tabulate}
+use Rattle.settling.specs.declared.Phases.{Phases}
 use Rattle.states.specs.declared.Terms.{Terms}
 use Rattle.states.specs.declared.Board.{Board}
 use Rattle.states.specs.declared.State.{State}
 use Rattle.states.specs.Requests.{hasProcessor, isHolding, isEntitled, isWaiting, cleaned}
 use Rattle.states.specs.Faults.{processorFault}
-use Rattle.acting.specs.Calls.{phasesOf}
-use Rattle.queries.specs.Queries.{stateNumber, scratchSize}
+use Rattle.acting.specs.Calls.{factsOf, phasesOf}
+use Rattle.waiting.specs.Waits.{waitsIn, waitsOf}
+use Rattle.queries.specs.Queries.{stateNumber, waitsFor, scratchSize}
+use Rattle.queries.specs.inner.Rows.{directRows}
 
 -- ---- an answer says what its check found
 
@@ -55,3 +61,14 @@ state-counted b s p n l e =
       ← bit-mask-at slots (isEntitled (b .terms) (s .entry) (s .phases)) p l,
       ← bit-mask-at slots (isWaiting (b .terms) (s .entry) (s .phases)) p l,
     ) e
+
+-- ---- direct waits with the phases of the requests that count
+
+module _ (b : Board) (s : State) (ph : Phases) (counted : ph ≡ phasesOf b s) where
+  pub waits-counted : (p r : ℕ) → p < slots → r ≡ waitsOf (factsOf b s) ph p → r ≡ maskOf slots (waitsFor b s p)
+  unfolding waitsFor
+  waits-counted p r below e = rw (counted, lt-ltb p slots below) at e
+
+  pub rows-counted : (rows : List ℕ) → rows ≡ tabulate slots (λ p. maskOf slots (waitsIn (factsOf b s) ph p)) → rows ≡ directRows b s
+  unfolding waitsFor
+  rows-counted rows e = e ∙ ap (λ x. tabulate slots (λ p. maskOf slots (waitsIn (factsOf b s) x p))) counted

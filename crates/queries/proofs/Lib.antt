@@ -1,6 +1,5 @@
 pub mod Growing
 pub mod Waits
 pub mod Chains
-pub mod Facing
 pub mod Joining
 pub mod Answers

@@ -10,13 +10,12 @@ use Rattle.refusals.specs.Due.{Said, firstOf, said}
 use Rattle.encoding.specs.Buffers.{roomFault, bufferAfter}
 use Rattle.plans.specs.Entries.{slots}
 use Rattle.conflicts.specs.Conflict.{tabulate}
-use Rattle.settling.specs.declared.Phases.{Phases}
-use Rattle.settling.specs.Requests.{Facts, active, isEarlier, isWriter, conflicts, holdingRead, holdingWrite, entitledRead, entitledWrite, waitingRead, waitingWrite}
 use Rattle.states.specs.declared.Board.{Board}
 use Rattle.states.specs.declared.State.{State}
 use Rattle.states.specs.Requests.{isHolding, isEntitled, isWaiting}
 use Rattle.states.specs.Faults.{processorFault}
 use Rattle.acting.specs.Calls.{factsOf, phasesOf}
+use Rattle.waiting.specs.Waits.{waitsIn}
 use Rattle.queries.specs.declared.Phase.{Phase}
 use Rattle.queries.specs.declared.PhaseAnswer.{PhaseAnswer}
 use Rattle.queries.specs.declared.MaskAnswer.{MaskAnswer}
@@ -47,16 +46,7 @@ stateNumber b s p =
 abbrev pub phaseQuery : Board → State → ℕ → Said
 phaseQuery b s p = said (processorFault (b .terms) p) (stateNumber b s p)
 
--- Clause 7.2: processor p waits directly for q, whose request conflicts with its own: the first four rows of the table.
--- The phases are of requests that count.
-unfoldable pub waitsIn : Facts → Phases → ℕ → ℕ → Bool
-waitsIn f ph p q =
-    (entitledRead f ph p && (holdingWrite f ph q && conflicts f p q))
-    || ((waitingRead f ph p && (entitledWrite f ph q && conflicts f p q))
-    || ((entitledWrite f ph p && (holdingRead f ph q && conflicts f p q))
-    || (waitingWrite f ph p && ((isEarlier f q p && (active ph q && isWriter f q)) && conflicts f p q))))
-
--- Clauses 7.5 and 4.10: the same on any state value.
+-- Clauses 7.2, 7.5 and 4.10: processor p waits directly for q, on any state value.
 unfoldable pub waitsFor : Board → State → ℕ → ℕ → Bool
 waitsFor b s p q = waitsIn (factsOf b s) (phasesOf b s) p q
 

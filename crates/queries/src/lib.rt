@@ -3,20 +3,24 @@ mod checks;
 mod direct;
 mod reaching;
 
-use arbiter::phases_of;
 use checks::check_processor;
 pub use direct::direct_waits;
 use masks::has32;
+use plans::SLOTS;
 pub use reaching::reach;
 use refusals::Refusal;
 use refusals::Verdict;
 use settling::Phases;
 use states::Board;
 use states::State;
+use states::Terms;
+use states::clean;
 ghost use mathlib.Core.Path.{_≡_};
 ghost use mathlib.Core.Bool.{cond};
+ghost use mathlib.Core.List.{[]};
 ghost use Rattle.masks.specs.Sets.{bit};
 ghost use Rattle.queries.specs.Queries.{phaseNumber, phaseSays, phaseQuery};
+ghost use Rattle.queries.specs.inner.Rows.{boardWith, stateWith};
 
 // The state of a processor.
 pub enum Phase {
@@ -69,13 +73,26 @@ fn phase_at(phases: Phases, p: u32) -> Phase
     }
 }
 
+// The state of a processor, by the parts of a board and a state. Refuses by 11.
+fn phase_in(terms: Terms, entry: [u8; SLOTS], phases: Phases, processor: u8) -> PhaseAnswer
+    ensures { λ r. ⌜ phaseSays r ≡ phaseQuery (boardWith terms []) (stateWith entry [] phases) processor ⌝ }
+{
+    let verdict = check_processor(terms, processor);
+    match verdict {
+        Verdict::Accepted => PhaseAnswer::Is(phase_at(
+            clean(terms, entry, phases),
+            processor as u32,
+        )),
+        Verdict::Refused(refusal) => PhaseAnswer::Refused(refusal),
+    }
+}
+
 // The state of a processor. Refuses by 11.
 pub fn phase_of(board: Board, state: State, processor: u8) -> PhaseAnswer
     ensures { λ r. ⌜ phaseSays r ≡ phaseQuery board state processor ⌝ }
 {
-    let verdict = check_processor(board.terms, processor);
-    match verdict {
-        Verdict::Accepted => PhaseAnswer::Is(phase_at(phases_of(board, state), processor as u32)),
-        Verdict::Refused(refusal) => PhaseAnswer::Refused(refusal),
-    }
+    let terms = board.terms;
+    let entry = state.entry;
+    let phases = state.phases;
+    phase_in(terms, entry, phases, processor)
 }

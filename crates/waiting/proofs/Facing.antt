@@ -2,7 +2,6 @@
 -- Assumes nothing.
 use Prim.Native.Nat.{ℕ, _-_, _^_, _<_}
 use mathlib.Core.Path.{_≡_, ap, ap₂, _∙_}
-use mathlib.Core.List.{List}
 use mathlib.Core.Bool.{Bool, true, false, cond, not, _&&_, _||_, and-true, and-false, or-assoc}
 use lib.Bits.{bitAnd, bitOr}
 use lib.ListN.{getD}
@@ -11,14 +10,10 @@ use Rattle.masks.specs.Sets.{bit, without, maskOf}
 use Rattle.masks.proofs.Places.{bit-zero, bit-and, bit-or, bit-or-if, bit-ones, bit-without}
 use Rattle.masks.proofs.Masks.{bit-mask-at, mask-agree}
 use Rattle.plans.specs.Entries.{slots}
-use Rattle.conflicts.specs.Conflict.{tabulate}
 use Rattle.settling.specs.declared.Phases.{Phases}
 use Rattle.settling.specs.Requests.{Facts, active, isEarlier, isWriter, entryOf, conflicts, holdingRead, holdingWrite, entitledRead, entitledWrite, waitingRead, waitingWrite}
-use Rattle.states.specs.declared.Board.{Board}
-use Rattle.states.specs.declared.State.{State}
-use Rattle.acting.specs.Calls.{factsOf, phasesOf}
-use Rattle.queries.specs.Queries.{waitsIn, waitsFor}
-use Rattle.queries.specs.inner.Rows.{facing, directRows}
+use Rattle.waiting.specs.Waits.{waitsIn}
+use Rattle.waiting.specs.inner.Facing.{facing}
 
 -- ---- sets joined where tests say so
 
@@ -92,14 +87,3 @@ module _ (f : Facts) (ph : Phases) (writers p : ℕ) (below : p < slots)
       e
       ∙ mask-agree slots _ _
       (λ q l. ap₂ _&&_ (face q) (ap (λ (x : ℕ). bit x (entryOf f q)) conflicting) ∙ faced-waits q l)
-
--- ---- with the phases of the requests that count
-
-module _ (b : Board) (s : State) (ph : Phases) (counted : ph ≡ phasesOf b s) where
-  pub waits-counted : (p r : ℕ) → r ≡ maskOf slots (waitsIn (factsOf b s) ph p) → r ≡ maskOf slots (waitsFor b s p)
-  unfolding waitsFor
-  waits-counted p r e = e ∙ ap (λ x. maskOf slots (waitsIn (factsOf b s) x p)) counted
-
-  pub rows-counted : (rows : List ℕ) → rows ≡ tabulate slots (λ p. maskOf slots (waitsIn (factsOf b s) ph p)) → rows ≡ directRows b s
-  unfolding waitsFor
-  rows-counted rows e = e ∙ ap (λ x. tabulate slots (λ p. maskOf slots (waitsIn (factsOf b s) x p))) counted

@@ -1,4 +1,4 @@
--- `all_waits` meets its contract. The loop's invariant: the rows of the processors passed are filled. Assumes nothing.
+-- `waits_of_all` meets its contract. The loop's invariant: the rows of the processors passed are filled. Assumes nothing.
 use mathlib.Core.Path.{_≡_, refl}
 use Prim.Native.Nat.{_<_, _≤_, _-_}
 use native.Mathlib.Omega.{arith}
@@ -8,22 +8,23 @@ use Rattle.conflicts.specs.Conflict.{tabulate}
 use Rattle.plans.specs.Entries.{slots}
 use Rattle.conflicts.proofs.Tabulate.{fill-more, filled-whole}
 use Rattle.settling.specs.Requests.{factsBy}
-use Rattle.queries.specs.Queries.{waitsIn}
+use Rattle.waiting.specs.Waits.{waitsIn}
+use Rattle.waiting.specs.inner.Facing.{writersOf}
 use borrow.Author.Needs.{needs}
-use Rattle.queries.proofs.direct.all_waits.Statement.{statement}
-use Rattle.queries.proofs.direct.all_waits.Tie as tie
+use Rattle.waiting.proofs.waits_of_all.Statement.{statement}
+use Rattle.waiting.proofs.waits_of_all.Tie as tie
 
 abbrev Inv-loop : tie.InvT-loop
-Inv-loop rows writes entry earlier phases direct₀ p₀ direct p =
-    (p ≤ slots) × (length direct ≡ slots)
+Inv-loop rows writes entry earlier phases writers direct₀ p₀ direct p =
+    (p ≤ slots) × (writers ≡ writersOf writes entry) × (length direct ≡ slots)
     × (take p direct ≡ tabulate p (λ q. maskOf slots (waitsIn (factsBy rows writes entry earlier) phases q)))
 
 abbrev μ-loop : tie.MeasureT-loop
-μ-loop rows writes entry earlier phases direct₀ p₀ direct p = slots - p
+μ-loop rows writes entry earlier phases writers direct₀ p₀ direct p = slots - p
 
 loop-holds : tie.Need-loop-holds Inv-loop μ-loop
 unfolding tabulate
-loop-holds c = (omega arith, refl, refl)
+loop-holds c = (omega arith, c .those-in-row .ensures, refl, refl)
 
 waits-in-requires : tie.Need-waits-in-requires Inv-loop μ-loop
 waits-in-requires c κs = search needs
@@ -47,19 +48,20 @@ loop-again : tie.Need-loop-again Inv-loop μ-loop
 loop-again c =
     let inv = c .before .before .loop .inv in
     let low : c .before .before .loop .p < length (c .before .before .loop .direct) = omega arith in
-    (omega arith, simp length-set (inv .1), fill-more _ _ _ _ low (inv .2) (c .waits-in .ensures))
+    (omega arith, inv .1, simp length-set (inv .2), fill-more _ _ _ _ low (inv .3) (c .waits-in .ensures _ (inv .1)))
 
 returns : tie.Need-returns Inv-loop μ-loop
 returns c =
     let last : c .before .loop .p ≡ slots = omega arith in
-    filled-whole _ slots _ (c .before .loop .inv .1) (rw last at (c .before .loop .inv .2))
+    filled-whole _ slots _ (c .before .loop .inv .2) (rw last at (c .before .loop .inv .3))
 
-pub all-waits-spec : {M : Type 1} → statement M
-all-waits-spec =
+pub waits-of-all-spec : {M : Type 1} → statement M
+waits-of-all-spec =
     tie.close
     (tie.spec
     Inv-loop
     μ-loop
+    (λ c κs. search needs)
     loop-holds
     waits-in-requires
     cast-direct

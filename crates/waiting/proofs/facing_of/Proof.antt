@@ -1,10 +1,10 @@
 -- `facing_of` meets its contract: it joins those of the four cases. Assumes nothing.
-use Rattle.queries.proofs.Facing.{faces}
+use Rattle.waiting.proofs.Facing.{faces}
 use Prim.Native.Nat.{_^_, _<_}
 use native.Mathlib.Omega.{arith}
 use borrow.Author.Needs.{needs}
-use Rattle.queries.proofs.direct.facing_of.Statement.{statement}
-use Rattle.queries.proofs.direct.facing_of.Tie as tie
+use Rattle.waiting.proofs.facing_of.Statement.{statement}
+use Rattle.waiting.proofs.facing_of.Tie as tie
 
 has32-requires : tie.Need-has32-requires
 has32-requires c κs = search needs
