@@ -1,13 +1,11 @@
--- What the checks of the queries tell of an accepted one, and the state and the direct waits of a counted processor.
+-- What the checks of the queries tell of an accepted one, and the direct waits of a counted processor.
 -- Assumes nothing.
 use Prim.Native.Nat.{ℕ, _<_, _≤_}
 use mathlib.Core.Path.{_≡_, refl, ap, _∙_}
-use mathlib.Core.Bool.{cond}
 use mathlib.Core.List.{List}
 use lib.Dec.{ltb, lit<}
 use borrow.Author.Tests.{ltb-true, lt-ltb}
-use Rattle.masks.specs.Sets.{bit, maskOf}
-use Rattle.masks.proofs.Masks.{bit-mask-at}
+use Rattle.masks.specs.Sets.{maskOf}
 use Rattle.masks.proofs.Truth.{and-left}
 use Rattle.refusals.specs.declared.Refusal.{Refusal}
 use Rattle.refusals.specs.declared.Verdict.{Verdict}
@@ -22,11 +20,11 @@ use Rattle.settling.specs.declared.Phases.{Phases}
 use Rattle.states.specs.declared.Terms.{Terms}
 use Rattle.states.specs.declared.Board.{Board}
 use Rattle.states.specs.declared.State.{State}
-use Rattle.states.specs.Requests.{hasProcessor, isHolding, isEntitled, isWaiting, cleaned}
+use Rattle.states.specs.Requests.{hasProcessor}
 use Rattle.states.specs.Faults.{processorFault}
 use Rattle.acting.specs.Calls.{factsOf, phasesOf}
 use Rattle.waiting.specs.Waits.{waitsIn, waitsOf}
-use Rattle.queries.specs.Queries.{stateNumber, waitsFor, scratchSize}
+use Rattle.queries.specs.Queries.{waitsFor, scratchSize}
 use Rattle.queries.specs.inner.Rows.{directRows}
 
 -- ---- an answer says what its check found
@@ -50,17 +48,6 @@ pub reach-accepted : (terms : Terms) (p size : ℕ) → firstOf (processorFault 
 reach-accepted terms p size e =
     let both = first-accepted (processorFault terms p) _ e in
     (processor-below terms p (both .first), room-fits scratchSize size 0 (both .later))
-
-pub state-counted : (b : Board) (s : State) (p n : ℕ) → p < slots
-    → n ≡ cond (bit (phasesOf b s .holding) p) 3 (cond (bit (phasesOf b s .entitled) p) 2 (cond (bit (phasesOf b s .waiting) p) 1 0))
-    → n ≡ stateNumber b s p
-unfolding cleaned stateNumber
-state-counted b s p n l e =
-    rw (
-      ← bit-mask-at slots (isHolding (b .terms) (s .entry) (s .phases)) p l,
-      ← bit-mask-at slots (isEntitled (b .terms) (s .entry) (s .phases)) p l,
-      ← bit-mask-at slots (isWaiting (b .terms) (s .entry) (s .phases)) p l,
-    ) e
 
 -- ---- direct waits with the phases of the requests that count
 

@@ -3,3 +3,4 @@ pub mod Waits
 pub mod Chains
 pub mod Joining
 pub mod Answers
+pub mod WholeBoard

@@ -12,9 +12,9 @@ use Rattle.plans.specs.Entries.{slots}
 use Rattle.conflicts.specs.Conflict.{tabulate}
 use Rattle.states.specs.declared.Board.{Board}
 use Rattle.states.specs.declared.State.{State}
-use Rattle.states.specs.Requests.{isHolding, isEntitled, isWaiting}
 use Rattle.states.specs.Faults.{processorFault}
 use Rattle.acting.specs.Calls.{factsOf, phasesOf}
+use Rattle.wait_listing.specs.Listing.{stateIn}
 use Rattle.waiting.specs.Waits.{waitsIn}
 use Rattle.queries.specs.declared.Phase.{Phase}
 use Rattle.queries.specs.declared.PhaseAnswer.{PhaseAnswer}
@@ -38,9 +38,7 @@ maskSays (MaskAnswer.Refused r) = record { number = numberOf r; value = 0 }
 
 -- Clauses 7.1 and 4.10: the state of processor p is that of its request, where that counts; else p is idle.
 unfoldable pub stateNumber : Board → State → ℕ → ℕ
-stateNumber b s p =
-    cond (isHolding (b .terms) (s .entry) (s .phases) p) 3
-    (cond (isEntitled (b .terms) (s .entry) (s .phases) p) 2 (cond (isWaiting (b .terms) (s .entry) (s .phases) p) 1 0))
+stateNumber b s p = stateIn (phasesOf b s) p
 
 -- Clause 7.5: 11 for a processor that is not the plan's, else the state.
 abbrev pub phaseQuery : Board → State → ℕ → Said

@@ -2,6 +2,7 @@
 mod checks;
 mod direct;
 mod reaching;
+mod whole_board;
 
 use checks::check_processor;
 pub use direct::direct_waits;
@@ -15,10 +16,11 @@ use states::Board;
 use states::State;
 use states::Terms;
 use states::clean;
+pub use whole_board::list_board;
+pub use whole_board::list_board_in_place;
 ghost use mathlib.Core.Path.{_≡_};
-ghost use mathlib.Core.Bool.{cond};
 ghost use mathlib.Core.List.{[]};
-ghost use Rattle.masks.specs.Sets.{bit};
+ghost use Rattle.wait_listing.specs.Listing.{stateIn};
 ghost use Rattle.queries.specs.Queries.{phaseNumber, phaseSays, phaseQuery};
 ghost use Rattle.queries.specs.inner.Rows.{boardWith, stateWith};
 
@@ -56,9 +58,7 @@ pub fn phase_number(phase: Phase) -> u8
 
 // The phase of processor p, by the masks of phases.
 fn phase_at(phases: Phases, p: u32) -> Phase
-    ensures { λ r.
-        ⌜ phaseNumber r
-        ≡ cond (bit (phases .holding) p) 3 (cond (bit (phases .entitled) p) 2 (cond (bit (phases .waiting) p) 1 0)) ⌝ }
+    ensures { λ r. ⌜ phaseNumber r ≡ stateIn phases p ⌝ }
 {
     if has32(phases.holding, p) {
         return Phase::Holding;
