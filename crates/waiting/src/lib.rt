@@ -2,22 +2,23 @@
 // rows conflicts with none. The queries use it. Specification, clause 7.2.
 use conflicts::row_at;
 use masks::has32;
-use masks::has64;
 use plans::ENTRIES;
 use plans::SLOTS;
 use settling::ALL;
 use settling::Phases;
+use settling::entries_below;
 ghost use mathlib.Core.Path.{_≡_};
 ghost use mathlib.Core.Bool.{cond, _&&_};
 ghost use Prim.Native.Nat.{ℕ, _<_};
 ghost use lib.Bits.{bitOr};
-ghost use lib.ListN.{getD};
-ghost use Rattle.masks.specs.Sets.{bit, maskOf};
-ghost use Rattle.plans.specs.Entries.{slots};
+ghost use lib.ListN.{getD, length};
+ghost use Rattle.masks.specs.Sets.{bit, added, maskOf};
+ghost use Rattle.plans.specs.Entries.{slots, mostEntries};
 ghost use Rattle.conflicts.specs.Conflict.{tabulate};
 ghost use Rattle.settling.specs.Requests.{factsBy};
 ghost use Rattle.waiting.specs.Waits.{waitsIn, waitsOf};
-ghost use Rattle.waiting.specs.inner.Facing.{facing, writersOf};
+ghost use Rattle.settling.specs.inner.Moves.{Table, knownIn, Known};
+ghost use Rattle.waiting.specs.inner.Facing.{facing, Joined};
 
 // The places of a mask of processors.
 const PLACES: u32 = SLOTS as u32;
@@ -35,15 +36,33 @@ fn wide(entry: u8) -> u32
     entry as u32
 }
 
-// Those among the processors whose entry is in the row, by a walk through the mask.
+// The processors whose requests' entries have a row. The others' are no writes and conflict with none, so that no walk
+// goes over them, and none compares an entry with anything.
+fn known_in(rows: &[u64], entry: &[u8; SLOTS]) -> u32
+    requires { ⌜ length (now rows) ≡ mostEntries ⌝ }
+    ensures { λ r. ⌜ (r ≡ knownIn (now (entry .entry))) × Table (now (rows .entry)) ⌝ }
+{
+    entries_below(rows.len() as u8, *entry)
+}
+
+// The set with the place in it, where the row has the entry. It does not branch: nobody foresees which conflict.
+fn add_if_in(set: u32, place: u32, row: u64, entry: u32) -> u32
+    requires { ⌜ (place < 32) × (entry < mostEntries) ⌝ }
+    ensures { λ r. ⌜ r ≡ cond (bit row entry) (added set place) set ⌝ }
+{
+    set | (((row >> entry) % 2) as u32) << place
+}
+
+// Those among the known processors whose entry is in the row, by a walk through the mask.
 fn those_in_row(among: u32, row: u64, entry: &[u8; SLOTS]) -> u32
+    requires { ⌜ Known (now entry) among ⌝ }
     ensures { λ r. ⌜ r ≡ maskOf slots (λ q. bit among q && bit row (getD (now (entry .entry)) q 0)) ⌝ }
 {
     let mut out: u32 = 0;
-    let mut left = among & ALL;
+    let mut left = among;
     while left != 0 {
         let q = u32::trailing_zeros(left);
-        out = join_if(out, 1 << q, has64(row, wide(entry[q as usize])));
+        out = add_if_in(out, q, row, wide(entry[q as usize]));
         left = left & (left - 1);
     }
     out
@@ -65,24 +84,6 @@ fn facing_of(phases: Phases, writers: u32, earlier: u32, p: u32) -> u32
     join_if(third, earlier & (active & writers), waiting & write)
 }
 
-// The direct waits of processor p, where `writers` are those whose requests are writes.
-fn waits_in(
-    rows: &[u64; ENTRIES],
-    entry: &[u8; SLOTS],
-    earlier: &[u32; SLOTS],
-    phases: Phases,
-    writers: u32,
-    p: u32,
-) -> u32
-    requires { ⌜ p < slots ⌝ }
-    ensures { λ r. ⌜ ((writes : ℕ) → writers ≡ writersOf writes (now (entry .entry))
-        → r ≡ maskOf slots
-        (waitsIn (factsBy (now (rows .entry)) writes (now (entry .entry)) (now (earlier .entry))) phases p)) ⌝ }
-{
-    let others = facing_of(phases, writers, earlier[p as usize], p);
-    those_in_row(others, row_at(rows, wide(entry[p as usize])), entry)
-}
-
 // The direct waits of processor p, a mask. A number past the processors waits for nobody.
 pub fn waits_of(
     rows: &[u64; ENTRIES],
@@ -96,15 +97,41 @@ pub fn waits_of(
         (factsBy (now (rows .entry)) writes (now (entry .entry)) (now (earlier .entry)))
         phases p ⌝ }
 {
-    if p < PLACES {
-        let writers = those_in_row(ALL, writes, entry);
-        waits_in(rows, entry, earlier, phases, writers, p)
-    } else {
-        0
+    if p >= PLACES {
+        return 0;
     }
+    let known = known_in(rows, entry);
+    let writers = those_in_row(known, writes, entry);
+    let others = facing_of(phases, writers, earlier[p as usize], p);
+    let row = row_at(rows, wide(entry[p as usize]));
+    those_in_row(others & known, row, entry)
 }
 
-// The direct waits of every processor. Who writes is worked out once.
+// The masks of the candidates, each joined with those of the others that are before it and conflict with it.
+fn join_waits(
+    rows: &[u64; ENTRIES],
+    entry: &[u8; SLOTS],
+    before: &[u32; SLOTS],
+    candidates: u32,
+    others: u32,
+    waits: [u32; SLOTS],
+) -> [u32; SLOTS]
+    requires { ⌜ Known (now entry) candidates × Known (now entry) others ⌝ }
+    ensures { λ r. ⌜ Joined (now (rows .entry)) (now (entry .entry)) (now (before .entry)) candidates others waits r ⌝ }
+{
+    let mut out = waits;
+    let mut left = candidates;
+    while left != 0 {
+        let p = u32::trailing_zeros(left) as usize;
+        let row = row_at(rows, wide(entry[p]));
+        out[p] = out[p] | those_in_row(before[p] & others, row, entry);
+        left = left & (left - 1);
+    }
+    out
+}
+
+// The direct waits of every processor. Who writes is worked out once, and the four cases of clause 7.2 are gone through
+// one after the other.
 pub fn waits_of_all(
     rows: &[u64; ENTRIES],
     writes: u64,
@@ -115,12 +142,35 @@ pub fn waits_of_all(
     ensures { λ r. ⌜ r ≡ tabulate slots (λ p. maskOf slots
         (waitsIn (factsBy (now (rows .entry)) writes (now (entry .entry)) (now (earlier .entry))) phases p)) ⌝ }
 {
-    let writers = those_in_row(ALL, writes, entry);
-    let mut direct: [u32; SLOTS] = [0; SLOTS];
-    let mut p: u32 = 0;
-    while p < PLACES {
-        direct[p as usize] = waits_in(rows, entry, earlier, phases, writers, p);
-        p += 1;
-    }
-    direct
+    let known = known_in(rows, entry);
+    let w = those_in_row(known, writes, entry);
+    let r = known & !w;
+    let active = phases.waiting | phases.entitled | phases.holding;
+    let all = [ALL; SLOTS];
+    let none = [0; SLOTS];
+    let first = join_waits(
+        rows,
+        entry,
+        &all,
+        phases.entitled & r,
+        phases.holding & w,
+        none,
+    );
+    let second = join_waits(
+        rows,
+        entry,
+        &all,
+        phases.waiting & r,
+        phases.entitled & w,
+        first,
+    );
+    let third = join_waits(
+        rows,
+        entry,
+        &all,
+        phases.entitled & w,
+        phases.holding & r,
+        second,
+    );
+    join_waits(rows, entry, earlier, phases.waiting & w, active & w, third)
 }

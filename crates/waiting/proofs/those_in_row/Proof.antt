@@ -1,53 +1,34 @@
 -- `those_in_row` meets its contract, by the walk that keeps the processors whose entry is in the row. Assumes nothing.
-use mathlib.Core.Path.{ap, _∙_}
-use mathlib.Core.Bool.{_&&_}
 use native.Mathlib.Omega.{arith}
 use lib.ListN.{getD}
-use lib.Bits.{bitAnd}
-use lib.Count.{trailingZeros}
-use Prim.Native.Nat.{_<_}
 use Rattle.masks.specs.Sets.{bit}
 use Rattle.masks.proofs.Lowest.{rest-less}
-use Rattle.masks.proofs.Masks.{mask-agree}
-use Rattle.masks.proofs.Places.{bit-first}
-use Rattle.masks.proofs.Shifts.{one-shifted}
-use Rattle.masks.proofs.Walks.{Kept, left-first, lowest-place, kept-first, kept-more, kept-last}
+use Rattle.masks.proofs.Walks.{Kept, kept-first, kept-more, kept-last}
 use Rattle.plans.specs.Entries.{slots}
+use Rattle.settling.specs.inner.Moves.{Known}
+use Rattle.settling.proofs.Known.{known-walk, known-lowest, known-and}
 use borrow.Author.Needs.{needs}
 use Rattle.waiting.proofs.those_in_row.Statement.{statement}
 use Rattle.waiting.proofs.those_in_row.Tie as tie
 
 abbrev Inv-loop : tie.InvT-loop
-Inv-loop among row entry out₀ left₀ out left = Kept slots 32 (λ q. bit row (getD entry q 0)) (bitAnd among 65535) left out
+Inv-loop among row entry out₀ left₀ out left = Kept slots 32 (λ q. bit row (getD entry q 0)) among left out × Known entry left
 
 abbrev μ-loop : tie.MeasureT-loop
 μ-loop among row entry out₀ left₀ out left = left
 
-loop-holds : tie.Need-loop-holds Inv-loop μ-loop
-loop-holds c = kept-first _ (left-first (omega arith) (c .args .among))
-
-shl-join-if : tie.Need-shl-join-if Inv-loop μ-loop
-shl-join-if c = omega (arith, lowest-place (c .before .loop .inv .walk) (omega arith))
-
-cast-wide : tie.Need-cast-wide Inv-loop μ-loop
-cast-wide c = omega (arith, lowest-place (c .before .loop .inv .walk) (omega arith))
-
-element-copy-out-wide : tie.Need-element-copy-out-wide Inv-loop μ-loop
-element-copy-out-wide c = omega (arith, lowest-place (c .before .loop .inv .walk) (omega arith))
+add-if-in-requires : tie.Need-add-if-in-requires Inv-loop μ-loop
+add-if-in-requires c κs =
+    let low = known-lowest (c .before .before .before .loop .inv .1) (omega arith) in
+    (omega (arith, low .0), rw (c .wide .ensures) (low .1))
 
 loop-again : tie.Need-loop-again Inv-loop μ-loop
 loop-again c =
-    let loop = c .before .before .before .before .before .loop in
-    let low : trailingZeros 32 (loop .left) < 32 = omega (arith, lowest-place (loop .inv .walk) (omega arith)) in
-    kept-more _ (omega arith) (loop .inv)
-    (rw (← one-shifted 32 (trailingZeros 32 (loop .left)) low, ← c .before .before .wide .ensures, ← c .before .has64 .ensures)
-    (c .join-if .ensures))
+    let inv = c .before .before .before .before .loop .inv in
+    (kept-more _ (omega arith) (inv .0) (rw (← c .before .wide .ensures) (c .add-if-in .ensures)), known-and _ (inv .1))
 
 returns : tie.Need-returns Inv-loop μ-loop
-returns c =
-    let a = c .before .before .args in
-    kept-last (c .loop-test .left) (c .before .loop .inv)
-    ∙ mask-agree slots _ _ (λ q l. ap (λ t. t && bit (a .row) (getD (a .entry .now) q 0)) (bit-first slots (a .among) q l))
+returns c = kept-last (c .loop-test .left) (c .before .loop .inv .0)
 
 pub those-in-row-spec : {M : Type 1} → statement M
 those-in-row-spec =
@@ -55,13 +36,11 @@ those-in-row-spec =
     (tie.spec
     Inv-loop
     μ-loop
-    loop-holds
-    shl-join-if
-    cast-wide
-    element-copy-out-wide
+    (λ c. (kept-first _ (known-walk (c .pre)), c .pre))
+    (λ c. omega (arith, known-lowest (c .before .loop .inv .1) (omega arith) .0))
+    (λ c. omega (arith, known-lowest (c .before .loop .inv .1) (omega arith) .0))
     (λ c κs. search needs)
-    (λ c κs. search needs)
-    (λ c κs. search needs)
+    add-if-in-requires
     (λ c. omega arith)
     (λ c. rest-less _ (omega arith))
     loop-again

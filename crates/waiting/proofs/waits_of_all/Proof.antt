@@ -1,73 +1,60 @@
--- `waits_of_all` meets its contract. The loop's invariant: the rows of the processors passed are filled. Assumes nothing.
-use mathlib.Core.Path.{_≡_, refl}
-use Prim.Native.Nat.{_<_, _≤_, _-_}
+-- `waits_of_all` meets its contract: the four cases of the direct waits, one after the other. Assumes nothing.
 use native.Mathlib.Omega.{arith}
-use lib.ListN.{length, take, length-set}
-use Rattle.masks.specs.Sets.{maskOf}
-use Rattle.conflicts.specs.Conflict.{tabulate}
+use lib.Bits.{bitOr}
+use lib.ListN.{getD-replicate}
 use Rattle.plans.specs.Entries.{slots}
-use Rattle.conflicts.proofs.Tabulate.{fill-more, filled-whole}
 use Rattle.settling.specs.Requests.{factsBy}
-use Rattle.waiting.specs.Waits.{waitsIn}
-use Rattle.waiting.specs.inner.Facing.{writersOf}
+use Rattle.settling.proofs.Known.{known-all}
+use Rattle.waiting.proofs.Joins.{reads-writes, writes-reads, writes-writes, getD-zeros, waits-of-all}
 use borrow.Author.Needs.{needs}
 use Rattle.waiting.proofs.waits_of_all.Statement.{statement}
 use Rattle.waiting.proofs.waits_of_all.Tie as tie
 
-abbrev Inv-loop : tie.InvT-loop
-Inv-loop rows writes entry earlier phases writers direct₀ p₀ direct p =
-    (p ≤ slots) × (writers ≡ writersOf writes entry) × (length direct ≡ slots)
-    × (take p direct ≡ tabulate p (λ q. maskOf slots (waitsIn (factsBy rows writes entry earlier) phases q)))
+join-waits-requires : tie.Need-join-waits-requires
+join-waits-requires c κs =
+    let found = c .before .before .before .before .before in
+    let ph = found .before .before .before .args .phases in
+    reads-writes (found .before .before .before .args .entry .now) _ _ _ (found .before .known-in .ensures .0) (found .those-in-row .ensures) (ph .entitled) (ph .holding)
 
-abbrev μ-loop : tie.MeasureT-loop
-μ-loop rows writes entry earlier phases writers direct₀ p₀ direct p = slots - p
+join-waits-requires-2 : tie.Need-join-waits-requires-2
+join-waits-requires-2 c κs =
+    let found = c .before .before .before .before .before .before .before .before .before in
+    let ph = found .before .before .before .args .phases in
+    reads-writes (found .before .before .before .args .entry .now) _ _ _ (found .before .known-in .ensures .0) (found .those-in-row .ensures) (ph .waiting) (ph .entitled)
 
-loop-holds : tie.Need-loop-holds Inv-loop μ-loop
-unfolding tabulate
-loop-holds c = (omega arith, c .those-in-row .ensures, refl, refl)
+join-waits-requires-3 : tie.Need-join-waits-requires-3
+join-waits-requires-3 c κs =
+    let found = c .before .before .before .before .before .before .before .before .before .before .before .before .before in
+    let ph = found .before .before .before .args .phases in
+    writes-reads (found .before .before .before .args .entry .now) _ _ _ (found .before .known-in .ensures .0) (found .those-in-row .ensures) (ph .entitled) (ph .holding)
 
-waits-in-requires : tie.Need-waits-in-requires Inv-loop μ-loop
-waits-in-requires c κs = search needs
+join-waits-requires-4 : tie.Need-join-waits-requires-4
+join-waits-requires-4 c κs =
+    let found = c .before .before .before .before .before .before .before .before .before .before .before .before .before .before .before in
+    let ph = found .before .before .before .args .phases in
+    writes-writes (found .before .before .before .args .entry .now) _ _ _ (found .before .known-in .ensures .0) (found .those-in-row .ensures) (ph .waiting) (bitOr (bitOr (ph .waiting) (ph .entitled)) (ph .holding))
 
-cast-direct : tie.Need-cast-direct Inv-loop μ-loop
-cast-direct c = search needs
-
-mul-direct : tie.Need-mul-direct Inv-loop μ-loop
-mul-direct c = search needs
-
-array-write-direct : tie.Need-array-write-direct Inv-loop μ-loop
-array-write-direct c = search needs
-
-add-p : tie.Need-add-p Inv-loop μ-loop
-add-p c = omega arith
-
-loop-less : tie.Need-loop-less Inv-loop μ-loop
-loop-less c = omega arith
-
-loop-again : tie.Need-loop-again Inv-loop μ-loop
-loop-again c =
-    let inv = c .before .before .loop .inv in
-    let low : c .before .before .loop .p < length (c .before .before .loop .direct) = omega arith in
-    (omega arith, inv .1, simp length-set (inv .2), fill-more _ _ _ _ low (inv .3) (c .waits-in .ensures _ (inv .1)))
-
-returns : tie.Need-returns Inv-loop μ-loop
+returns : tie.Need-returns
 returns c =
-    let last : c .before .loop .p ≡ slots = omega arith in
-    filled-whole _ slots _ (c .before .loop .inv .2) (rw last at (c .before .loop .inv .3))
+    let third = c .before .before in
+    let second = third .before .before .before .before in
+    let first = second .before .before .before .before in
+    let found = first .before .before .before .before .before .before in
+    let known = found .before .known-in .ensures in
+    let a = found .before .before .before .args in
+    let f = factsBy (a .rows .now) (a .writes) (a .entry .now) (a .earlier .now) in
+    waits-of-all f (a .phases) _ _ (record { table = known .1; words = omega (arith, found .before .before .before .fits); all = known .0; write = found .those-in-row .ensures }) _ _ _ _ _ _
+    (λ p l. getD-replicate slots p _ 0 l) (getD-zeros slots) (first .join-waits .ensures) (second .join-waits2 .ensures) (third .join-waits3 .ensures)
+    (c .join-waits4 .ensures)
 
 pub waits-of-all-spec : {M : Type 1} → statement M
 waits-of-all-spec =
     tie.close
     (tie.spec
-    Inv-loop
-    μ-loop
     (λ c κs. search needs)
-    loop-holds
-    waits-in-requires
-    cast-direct
-    mul-direct
-    array-write-direct
-    add-p
-    loop-less
-    loop-again
+    (λ c κs. known-all (c .known-in .ensures .0))
+    join-waits-requires
+    join-waits-requires-2
+    join-waits-requires-3
+    join-waits-requires-4
     returns)
