@@ -145,32 +145,14 @@ pub fn waits_of_all(
     let known = known_in(rows, entry);
     let w = those_in_row(known, writes, entry);
     let r = known & !w;
-    let active = phases.waiting | phases.entitled | phases.holding;
+    let waiting = phases.waiting;
+    let entitled = phases.entitled;
+    let holding = phases.holding;
+    let active = waiting | entitled | holding;
     let all = [ALL; SLOTS];
     let none = [0; SLOTS];
-    let first = join_waits(
-        rows,
-        entry,
-        &all,
-        phases.entitled & r,
-        phases.holding & w,
-        none,
-    );
-    let second = join_waits(
-        rows,
-        entry,
-        &all,
-        phases.waiting & r,
-        phases.entitled & w,
-        first,
-    );
-    let third = join_waits(
-        rows,
-        entry,
-        &all,
-        phases.entitled & w,
-        phases.holding & r,
-        second,
-    );
-    join_waits(rows, entry, earlier, phases.waiting & w, active & w, third)
+    let first = join_waits(rows, entry, &all, entitled & r, holding & w, none);
+    let second = join_waits(rows, entry, &all, waiting & r, entitled & w, first);
+    let third = join_waits(rows, entry, &all, entitled & w, holding & r, second);
+    join_waits(rows, entry, earlier, waiting & w, active & w, third)
 }

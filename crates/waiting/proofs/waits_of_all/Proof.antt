@@ -12,34 +12,34 @@ use Rattle.waiting.proofs.waits_of_all.Tie as tie
 
 join-waits-requires : tie.Need-join-waits-requires
 join-waits-requires c κs =
-    let found = c .before .before .before .before .before in
+    let found = c .before in
     let ph = found .before .before .before .args .phases in
     reads-writes (found .before .before .before .args .entry .now) _ _ _ (found .before .known-in .ensures .0) (found .those-in-row .ensures) (ph .entitled) (ph .holding)
 
 join-waits-requires-2 : tie.Need-join-waits-requires-2
 join-waits-requires-2 c κs =
-    let found = c .before .before .before .before .before .before .before .before .before in
+    let found = c .before .before .before in
     let ph = found .before .before .before .args .phases in
     reads-writes (found .before .before .before .args .entry .now) _ _ _ (found .before .known-in .ensures .0) (found .those-in-row .ensures) (ph .waiting) (ph .entitled)
 
 join-waits-requires-3 : tie.Need-join-waits-requires-3
 join-waits-requires-3 c κs =
-    let found = c .before .before .before .before .before .before .before .before .before .before .before .before .before in
+    let found = c .before .before .before .before .before in
     let ph = found .before .before .before .args .phases in
     writes-reads (found .before .before .before .args .entry .now) _ _ _ (found .before .known-in .ensures .0) (found .those-in-row .ensures) (ph .entitled) (ph .holding)
 
 join-waits-requires-4 : tie.Need-join-waits-requires-4
 join-waits-requires-4 c κs =
-    let found = c .before .before .before .before .before .before .before .before .before .before .before .before .before .before .before in
+    let found = c .before .before .before .before .before .before in
     let ph = found .before .before .before .args .phases in
     writes-writes (found .before .before .before .args .entry .now) _ _ _ (found .before .known-in .ensures .0) (found .those-in-row .ensures) (ph .waiting) (bitOr (bitOr (ph .waiting) (ph .entitled)) (ph .holding))
 
 returns : tie.Need-returns
 returns c =
-    let third = c .before .before in
-    let second = third .before .before .before .before in
-    let first = second .before .before .before .before in
-    let found = first .before .before .before .before .before .before in
+    let third = c .before in
+    let second = third .before .before in
+    let first = second .before .before in
+    let found = first .before .before in
     let known = found .before .known-in .ensures in
     let a = found .before .before .before .args in
     let f = factsBy (a .rows .now) (a .writes) (a .entry .now) (a .earlier .now) in
