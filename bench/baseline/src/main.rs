@@ -31,7 +31,7 @@ fn holder_from(holding: u32, from: u32) -> u32 {
 
 /// Each turn completes a holder and issues again at once, on a board with so many busy processors. After it the whole
 /// board is listed, where that is asked for.
-fn calls<const KIND: u8, const LISTED: bool>(busy: u8, turns: u64) -> u64 {
+fn calls<const KIND: u8>(busy: u8, listed: bool, turns: u64) -> u64 {
     let board = board_of(16, &entries());
     let mut state = State::fresh();
     let (mut seed, mut sum) = (1u64, 0u64);
@@ -45,7 +45,7 @@ fn calls<const KIND: u8, const LISTED: bool>(busy: u8, turns: u64) -> u64 {
         for done in [state.complete::<KIND>(&board, p, tick), state.issue::<KIND>(&board, p, e, tick)].into_iter().flatten() {
             sum = (sum * 31 + (done.granted as u64) * 65_536 + (done.entitled as u64) * 2 + done.late as u64) % 4_294_967_296;
         }
-        if LISTED {
+        if listed {
             let mut bytes = [0u8; 129];
             list::list(&board, &state, &mut bytes).ok();
             sum = (sum * 31 + bytes[(tick % 129) as usize] as u64) % 4_294_967_296;
@@ -75,10 +75,10 @@ fn main() {
     let words: Vec<&str> = args.iter().map(String::as_str).collect();
     let number = |word: &str| word.parse::<u64>().expect("a number");
     match words[..] {
-        ["calls", "lean", busy, turns] => println!("{}", calls::<LEAN, false>(number(busy) as u8, number(turns))),
-        ["calls", "plain", busy, turns] => println!("{}", calls::<PLAIN, false>(number(busy) as u8, number(turns))),
-        ["calls", "first", busy, turns] => println!("{}", calls::<FIRST, false>(number(busy) as u8, number(turns))),
-        ["list", turns] => println!("{}", calls::<PLAIN, true>(16, number(turns))),
+        ["calls", "lean", busy, turns] => println!("{}", calls::<LEAN>(number(busy) as u8, false, number(turns))),
+        ["calls", "plain", busy, turns] => println!("{}", calls::<PLAIN>(number(busy) as u8, false, number(turns))),
+        ["calls", "first", busy, turns] => println!("{}", calls::<FIRST>(number(busy) as u8, false, number(turns))),
+        ["list", turns] => println!("{}", calls::<PLAIN>(16, true, number(turns))),
         ["plans", turns] => println!("{}", plans(number(turns))),
         ["replay"] => replay::replay().expect("a log on standard input"),
         _ => eprintln!("usage: see the head of bench/baseline/src/main.rs"),

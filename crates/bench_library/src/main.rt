@@ -2,10 +2,7 @@
 //   bench_library [BUSY [TURNS]]    calls, with so many busy processors; 16 and five million turns, ten million calls,
 //                                   where nothing else is asked for
 //   bench_library plans TURNS       reads a plan of 64 entries so many times
-//   bench_library list TURNS        calls with 16 busy processors, and the list of the whole board after each two
-//   bench_library queries TURNS     the same with the state and the direct waits of each processor by single queries
 mod board;
-mod listed;
 mod reads;
 mod turns;
 
@@ -41,20 +38,20 @@ fn at_most_16(n: u64) -> u8
     if n < 16 { n as u8 } else { 16 }
 }
 
-// The first letter of the first argument.
-fn first_letter() -> u8 {
+// Whether the first argument is `plans`.
+fn is_of_plans() -> bool {
     let mut text = [0; 9];
-    os::arg(1, &mut text);
-    text[0]
+    let size = os::arg(1, &mut text);
+    (size == 5) & (text[0] == b'p')
 }
 
 fn main() {
+    let plans = is_of_plans();
     let turns = number_of(2, TURNS);
-    let sum = match first_letter() {
-        b'p' => reads::sum_of(turns),
-        b'l' => listed::sum_of(false, turns),
-        b'q' => listed::sum_of(true, turns),
-        _ => turns::sum_of(at_most_16(number_of(1, BUSY)), turns),
+    let sum = if plans {
+        reads::sum_of(turns)
+    } else {
+        turns::sum_of(at_most_16(number_of(1, BUSY)), turns)
     };
     io::print_decimal(STDOUT_FILENO, sum);
     io::write_all(STDOUT_FILENO, b"\n");

@@ -1,25 +1,14 @@
 // Accepted calls, in place, on a board on which the first so many processors are never idle: each turn completes a
 // holder and issues again at once.
 use crate::board::plan;
-use acting::complete_in_place;
-use acting::issue_in_place;
 use calls::Reply;
-use plans::ENTRIES;
-use plans::SLOTS;
 use states::Board;
 use states::Moment;
 use states::State;
-use states::Terms;
 ghost use Prim.Native.Nat.{_<_, _≤_};
 
-// What a turn leaves: the checksum, and the moment after it.
-pub struct Exchanged {
-    pub sum: u64,
-    pub moment: Moment,
-}
-
 // The next number of a fixed sequence.
-pub fn next(seed: u64) -> u64 {
+fn next(seed: u64) -> u64 {
     (seed % 2147483648 * 1103515245 + 12345) % 2147483648
 }
 
@@ -48,16 +37,8 @@ fn mixed(sum: u64, reply: Reply) -> u64 {
     }
 }
 
-// The last accepted tick and the phases of a state.
-pub fn moment_of(board: Board, state: State) -> Moment {
-    Moment {
-        last: state.last,
-        phases: arbiter::phases_of(board, state),
-    }
-}
-
 // Each busy processor issues its first request.
-pub fn filled(board: Board, fresh: State, busy: u8) -> State
+fn filled(board: Board, fresh: State, busy: u8) -> State
     requires { ⌜ busy ≤ 16 ⌝ }
 {
     let mut state = fresh;
@@ -70,45 +51,7 @@ pub fn filled(board: Board, fresh: State, busy: u8) -> State
     state
 }
 
-// One turn: a holder completes at the tick and issues again at once. The arrays of the state are lent to both calls.
-pub fn exchange(
-    terms: Terms,
-    rows: &[u64; ENTRIES],
-    lengths: &[u16; ENTRIES],
-    moment: Moment,
-    entries: &mut [u8; SLOTS],
-    since: &mut [u64; SLOTS],
-    earlier: &mut [u32; SLOTS],
-    seed: u64,
-    tick: u64,
-    sum: u64,
-) -> Exchanged {
-    let phases = moment.phases;
-    let p = holder_from(phases.holding, (seed / 65536 % 16) as u32) as u8;
-    let e = (seed / 1048576 % 64) as u8;
-    let first = complete_in_place(
-        terms,
-        rows,
-        lengths,
-        moment,
-        entries,
-        since,
-        earlier,
-        p,
-        tick,
-    );
-    let left = first.moment;
-    let second = issue_in_place(terms, rows, left, entries, since, earlier, p, e, tick);
-    let completed = first.reply;
-    let issued = second.reply;
-    let settled = second.moment;
-    Exchanged {
-        sum: mixed(mixed(sum, completed), issued),
-        moment: settled,
-    }
-}
-
-// The turns, and the checksum of their answers.
+// The turns, and the checksum of their answers. The arrays of the state are lent to each call.
 fn sum_from(board: Board, full: State, turns: u64) -> u64
     requires { ⌜ turns < 1000000000 ⌝ }
 {
@@ -118,28 +61,46 @@ fn sum_from(board: Board, full: State, turns: u64) -> u64
     let mut entries = full.entry;
     let mut since = full.since;
     let mut earlier = full.earlier;
-    let mut moment = moment_of(board, full);
+    let mut moment = Moment {
+        last: full.last,
+        phases: arbiter::phases_of(board, full),
+    };
     let mut seed: u64 = 1;
     let mut sum: u64 = 0;
     let mut tick: u64 = 0;
     while tick < turns {
         tick += 1;
         seed = next(seed);
-        let done = exchange(
+        let p = holder_from(moment.phases.holding, (seed / 65536 % 16) as u32) as u8;
+        let e = (seed / 1048576 % 64) as u8;
+        let first = acting::complete_in_place(
             terms,
             &rows,
             &lengths,
             moment,
+            &entries,
+            &mut since,
+            &earlier,
+            p,
+            tick,
+        );
+        let left = first.moment;
+        let second = acting::issue_in_place(
+            terms,
+            &rows,
+            left,
             &mut entries,
             &mut since,
             &mut earlier,
-            seed,
+            p,
+            e,
             tick,
-            sum,
         );
-        let settled = done.moment;
+        let completed = first.reply;
+        let issued = second.reply;
+        let settled = second.moment;
         moment = settled;
-        sum = done.sum;
+        sum = mixed(mixed(sum, completed), issued);
     }
     sum
 }

@@ -1,10 +1,5 @@
 // What a viewer asks of a board with 16 busy processors, after each turn: the list of the whole board, or the state and
-// the direct waits of each processor by single queries. The turns are those of `turns`.
-use crate::board::plan;
-use crate::turns::exchange;
-use crate::turns::filled;
-use crate::turns::moment_of;
-use crate::turns::next;
+// the direct waits of each processor by single queries.
 use encoding::byte_at;
 use plans::ENTRIES;
 use plans::SLOTS;
@@ -19,7 +14,6 @@ use states::Moment;
 use states::State;
 use states::Terms;
 ghost use mathlib.Core.Path.{_≡_};
-ghost use Prim.Native.Nat.{_<_};
 
 // The bytes of the list of 16 processors.
 const SIZE: usize = 129;
@@ -90,62 +84,30 @@ fn with_queries(board: Board, state: State, first: u64) -> u64 {
     sum
 }
 
-// The turns, each followed by the list or by single queries.
-fn sum_from(board: Board, full: State, single: bool, turns: u64) -> u64
-    requires { ⌜ turns < 1000000000 ⌝ }
-{
-    let terms = board.terms;
-    let rows = board.rows;
-    let lengths = board.lengths;
-    let mut entries = full.entry;
-    let mut since = full.since;
-    let mut earlier = full.earlier;
-    let mut moment = moment_of(board, full);
-    let mut seed: u64 = 1;
-    let mut sum: u64 = 0;
-    let mut tick: u64 = 0;
-    while tick < turns {
-        tick += 1;
-        seed = next(seed);
-        let done = exchange(
-            terms,
-            &rows,
-            &lengths,
+// The checksum with what the viewer asks for.
+pub fn viewed(
+    board: Board,
+    rows: &[u64; ENTRIES],
+    moment: Moment,
+    entries: &[u8; SLOTS],
+    since: &[u64; SLOTS],
+    earlier: &[u32; SLOTS],
+    single: bool,
+    sum: u64,
+    tick: u64,
+) -> u64 {
+    if single {
+        with_queries(board, state_by(moment, *entries, *since, *earlier), sum)
+    } else {
+        with_list(
+            board.terms,
+            rows,
             moment,
-            &mut entries,
-            &mut since,
-            &mut earlier,
-            seed,
-            tick,
+            entries,
+            since,
+            earlier,
             sum,
-        );
-        let settled = done.moment;
-        moment = settled;
-        sum = if single {
-            with_queries(board, state_by(moment, entries, since, earlier), done.sum)
-        } else {
-            with_list(
-                terms,
-                &rows,
-                moment,
-                &entries,
-                &since,
-                &earlier,
-                done.sum,
-                tick,
-            )
-        };
+            tick,
+        )
     }
-    sum
-}
-
-// The checksum of so many turns with the list, or with single queries.
-pub fn sum_of(single: bool, turns: u64) -> u64
-    requires { ⌜ turns < 1000000000 ⌝ }
-{
-    let fresh = arbiter::fresh_of(plan());
-    let board = fresh.board;
-    let start = fresh.state;
-    let full = filled(board, start, 16);
-    sum_from(board, full, single, turns)
 }

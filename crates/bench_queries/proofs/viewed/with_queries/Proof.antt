@@ -1,8 +1,8 @@
 -- `with_queries` is safe and ends. Assumes nothing.
 use Prim.Native.Nat.{_≤_, _-_}
 use borrow.Author.Needs.{needs}
-use Rattle.bench_library.proofs.listed.with_queries.Statement.{statement}
-use Rattle.bench_library.proofs.listed.with_queries.Tie as tie
+use Rattle.bench_queries.proofs.viewed.with_queries.Statement.{statement}
+use Rattle.bench_queries.proofs.viewed.with_queries.Tie as tie
 
 abbrev Inv-loop : tie.InvT-loop
 Inv-loop board state first sum₀ p₀ sum p = p ≤ 16
