@@ -1,5 +1,5 @@
-// Accepted calls, in place, on a board on which no processor is ever idle: each turn completes a holder and issues again
-// at once. After it a viewer asks.
+// Accepted calls, in place, on a board on which no processor is ever idle: each turn completes a holder and issues
+// again at once. After it a viewer asks.
 use crate::board::plan;
 use crate::viewed::viewed;
 use acting::complete_in_place;

@@ -1,4 +1,5 @@
--- The whole board in one buffer: a list of what the single queries answer. Specification, section 7. A mask takes k bytes.
+-- The whole board in one buffer: a list of what the single queries answer. A mask takes k bytes. Specification, section
+-- 7.
 use Prim.Native.Nat.{ℕ}
 use mathlib.Core.List.{List}
 use Rattle.masks.specs.Sets.{maskOf}

@@ -1,6 +1,6 @@
 // Replays a short log from standard input, and after each call prints what the queries answer for every processor and
-// one past the last: its number, state, direct waits and reach; then the bytes of the whole board's list. A test program:
-// its output is compared with another's.
+// one past the last: its number, state, direct waits and reach; then the bytes of the whole board's list. A test
+// program: its output is compared with another's.
 mod board_line;
 
 use encoding::Outcome;

@@ -74,8 +74,8 @@ fn with_processors(board: Board, processors: u8) -> Board {
 }
 
 // A buffer that is one byte short is refused and stays; one of just the size is filled; what is behind the list stays.
-// The processors that wait were issued at ticks 1 and 2: waits of 4,294,967,295 and one less, of more, and one that would
-// run backwards. A board value with more processors than a state has places for lists those.
+// The processors that wait were issued at ticks 1 and 2: waits of 4,294,967,295 and one less, of more, and one that
+// would run backwards. A board value with more processors than a state has places for lists those.
 pub fn print_lists(board: Board, state: State) {
     let mut short = [7u8; 32];
     print_list(board, state, &mut short);

@@ -53,7 +53,8 @@ fn entry_at(phases: Phases, entry: u8, p: u32) -> u8
     }
 }
 
-// The ticks from one to the other, as far as four bytes show them. Clause 4.10: none where the time would run backwards.
+// The ticks from one to the other, as far as four bytes show them. Clause 4.10: none where the time would run
+// backwards.
 fn ticks_shown(from: u64, to: u64) -> u64
     ensures { λ r. ⌜ r ≡ min 4294967295 (to - from) ⌝ }
 {
