@@ -15,6 +15,7 @@ pub struct Request {
     pub processor: u8,
     pub entry: u8,
     pub phase: Phase,
+    pub issued_at: u64,
     pub granted_at: u64,
 }
 
@@ -118,7 +119,7 @@ impl Arbiter {
                 if place.is_some() {
                     return Err(13);
                 }
-                self.requests.push(Request { processor, entry, phase: Waiting, granted_at: 0 });
+                self.requests.push(Request { processor, entry, phase: Waiting, issued_at: tick, granted_at: 0 });
                 let at = self.requests.len() - 1;
                 let read = !self.plan.entries[entry as usize].write;
                 if read && !self.any(at, true, Entitled) && !self.any(at, true, Holding) {
@@ -191,5 +192,22 @@ impl Arbiter {
             }
             reached = further;
         }
+    }
+
+    /// The whole board in bytes: m, and for each processor its state, entry, ticks waited and direct waits.
+    pub fn list(&self) -> Vec<u8> {
+        let mut bytes = vec![self.plan.processors];
+        for p in 0..self.plan.processors {
+            let request = self.requests.iter().find(|r| r.processor == p);
+            let waited = match request {
+                Some(r) if r.phase != Holding => u32::try_from(self.last - r.issued_at).unwrap_or(u32::MAX),
+                _ => 0,
+            };
+            bytes.push(self.state(p).expect("a processor of the plan"));
+            bytes.push(request.map_or(255, |r| r.entry));
+            bytes.extend(waited.to_le_bytes());
+            bytes.extend(self.direct(p).expect("a processor of the plan").to_le_bytes());
+        }
+        bytes
     }
 }

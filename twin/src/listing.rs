@@ -41,6 +41,15 @@ fn query_lines(arbiter: &Arbiter) -> String {
         .collect()
 }
 
+/// The whole board: the bytes of its list, written into a buffer of 170s that is 16 bytes longer.
+fn board_line(arbiter: &Arbiter) -> String {
+    let list = arbiter.list();
+    let mut buffer = vec![170u8; list.len() + 16];
+    buffer[..list.len()].copy_from_slice(&list);
+    let digits: String = buffer.iter().map(|byte| format!("{byte:02x}")).collect();
+    format!("board {digits}\n")
+}
+
 fn replay(bytes: &mut &[u8], queries: bool, out: &mut impl Write) -> Result<(), Refusal> {
     let plan = Plan::take(bytes)?;
     let head = format!(
@@ -59,6 +68,7 @@ fn replay(bytes: &mut &[u8], queries: bool, out: &mut impl Write) -> Result<(), 
         out.write_all(call_line(call, answer).as_bytes()).unwrap();
         if queries {
             out.write_all(query_lines(&arbiter).as_bytes()).unwrap();
+            out.write_all(board_line(&arbiter).as_bytes()).unwrap();
         }
     }
     if bytes.is_empty() { Ok(()) } else { Err(2) }

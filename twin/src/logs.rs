@@ -49,7 +49,8 @@ pub fn mixed(r: &mut Random, plan: &Plan, count: usize, leaving: bool) -> Vec<Ca
     let mut arbiter = Arbiter::new(plan.clone());
     let (mut tick, mut calls) = (0u64, Vec::new());
     for _ in 0..count {
-        tick += r.pick(&[0, 0, 1, 2, 9, 40]);
+        // Now and then a wait gets as long as the list of the board can show, or longer.
+        tick += if r.once_in(60) { 4_294_967_200 } else { r.pick(&[0, 0, 1, 2, 9, 40]) };
         let at = if r.once_in(30) { tick.saturating_sub(r.within(1, 3)) } else { tick };
         let processor = if r.once_in(30) { r.below(256) as u8 } else { r.below(plan.processors as u64) as u8 };
         let entry = if r.once_in(30) { r.below(256) as u8 } else { r.below(plan.entries.len() as u64) as u8 };

@@ -15,21 +15,21 @@ pub struct Entry {
 }
 
 pub struct Board {
-    processors: u8,
-    count: u8,
-    writes: u64,
+    pub processors: u8,
+    pub count: u8,
+    pub writes: u64,
     lengths: [u16; 64],
-    rows: [u64; 64],
+    pub rows: [u64; 64],
 }
 
 pub struct State {
-    last: u64,
-    waiting: u32,
-    entitled: u32,
+    pub last: u64,
+    pub waiting: u32,
+    pub entitled: u32,
     pub holding: u32,
-    entry: [u8; 16],
-    since: [u64; 16],
-    earlier: [u32; 16],
+    pub entry: [u8; 16],
+    pub since: [u64; 16],
+    pub earlier: [u32; 16],
 }
 
 #[derive(Clone, Copy)]
@@ -70,7 +70,7 @@ pub fn board_of(processors: u8, entries: &[Entry]) -> Board {
     board
 }
 
-struct Bits(u32);
+pub struct Bits(pub u32);
 
 impl Iterator for Bits {
     type Item = usize;

@@ -3,8 +3,10 @@
 //!
 //! baseline calls KIND BUSY TURNS    lean, plain or first: see arbiter.rs
 //! baseline plans TURNS              reads a plan of 64 entries
+//! baseline list TURNS               plain calls with 16 busy processors, and the list of the whole board after each two
 //! baseline replay                   a log on standard input to its listing, lean
 mod arbiter;
+mod list;
 mod plan;
 mod replay;
 
@@ -27,8 +29,9 @@ fn holder_from(holding: u32, from: u32) -> u32 {
     if above != 0 { above.trailing_zeros() } else { holding.trailing_zeros() }
 }
 
-/// Each turn completes a holder and issues again at once, on a board with so many busy processors.
-fn calls<const KIND: u8>(busy: u8, turns: u64) -> u64 {
+/// Each turn completes a holder and issues again at once, on a board with so many busy processors. After it the whole
+/// board is listed, where that is asked for.
+fn calls<const KIND: u8>(busy: u8, listed: bool, turns: u64) -> u64 {
     let board = board_of(16, &entries());
     let mut state = State::fresh();
     let (mut seed, mut sum) = (1u64, 0u64);
@@ -41,6 +44,11 @@ fn calls<const KIND: u8>(busy: u8, turns: u64) -> u64 {
         let e = (seed / 1_048_576 % 64) as u8;
         for done in [state.complete::<KIND>(&board, p, tick), state.issue::<KIND>(&board, p, e, tick)].into_iter().flatten() {
             sum = (sum * 31 + (done.granted as u64) * 65_536 + (done.entitled as u64) * 2 + done.late as u64) % 4_294_967_296;
+        }
+        if listed {
+            let mut bytes = [0u8; 129];
+            list::list(&board, &state, &mut bytes).ok();
+            sum = (sum * 31 + bytes[(tick % 129) as usize] as u64) % 4_294_967_296;
         }
     }
     sum
@@ -67,9 +75,10 @@ fn main() {
     let words: Vec<&str> = args.iter().map(String::as_str).collect();
     let number = |word: &str| word.parse::<u64>().expect("a number");
     match words[..] {
-        ["calls", "lean", busy, turns] => println!("{}", calls::<LEAN>(number(busy) as u8, number(turns))),
-        ["calls", "plain", busy, turns] => println!("{}", calls::<PLAIN>(number(busy) as u8, number(turns))),
-        ["calls", "first", busy, turns] => println!("{}", calls::<FIRST>(number(busy) as u8, number(turns))),
+        ["calls", "lean", busy, turns] => println!("{}", calls::<LEAN>(number(busy) as u8, false, number(turns))),
+        ["calls", "plain", busy, turns] => println!("{}", calls::<PLAIN>(number(busy) as u8, false, number(turns))),
+        ["calls", "first", busy, turns] => println!("{}", calls::<FIRST>(number(busy) as u8, false, number(turns))),
+        ["list", turns] => println!("{}", calls::<PLAIN>(16, true, number(turns))),
         ["plans", turns] => println!("{}", plans(number(turns))),
         ["replay"] => replay::replay().expect("a log on standard input"),
         _ => eprintln!("usage: see the head of bench/baseline/src/main.rs"),

@@ -1,8 +1,10 @@
 -- The three demands, each with the definitions that say it and the theorem or promise that meets it. Assumes nothing.
--- Theorems that stand elsewhere and are passed on from here: the round trips of demand 2, demand 3, and freedom from deadlock.
+-- Theorems that stand elsewhere and are passed on from here: the round trips of demand 2, demand 3, freedom from deadlock, and
+-- what the list of the whole board has of each processor.
 pub use Rattle.plans.proofs.RoundTrip.{written-in-buffer, written-back}
 pub use Rattle.runs.proofs.refinement.WholeRuns.{whole-runs}
 pub use Rattle.freedom.proofs.Freedom.{no-deadlock}
+pub use Rattle.queries.proofs.WholeBoard.{part-is-queries}
 use Prim.Native.Nat.{ℕ, _<_}
 use mathlib.Core.Path.{_≡_, refl, _∙_}
 use mathlib.Core.List.{List}
@@ -23,13 +25,15 @@ use Rattle.acting.specs.Calls.{Answer, phasesOf, putState, takenState, settledD
 use Rattle.arbiter.specs.Fresh.{boardOf, blankBoard, freshBoard}
 use Rattle.acting.specs.InPlace.{boardBy, stateBy}
 use Rattle.queries.specs.Queries.{reachFault, reachBytes, reachQuery, reachScratch}
+use Rattle.wait_listing.specs.Listing.{listFault, listBuffer}
+use Rattle.queries.specs.WholeBoard.{listed, boardBytes, boardQuery, boardBuffer}
 use Rattle.logs.specs.Records.{fieldsIn, noFields, recordFault, readRecord}
 
 -- Demand 1. What meets no refusal condition is carried out to the end; everything else is refused by the number due in that
 -- case alone, with the state and all lent buffers unchanged.
 --
 -- Which number is due is said by readFault, writeFault, planFault, issueFault, completeFault, withdrawFault,
--- processorFault, reachFault, recordFault and tailFault; 0 is none. The functions promise, for every value:
+-- processorFault, reachFault, listFault, recordFault and tailFault; 0 is none. The functions promise, for every value:
 --   plan_reader::read        outcomeSays (r .outcome) ≡ readSays bytes, and r .plan ≡ planRead bytes
 --   plan_writer::write       outcomeSays r ≡ writeSays plan buffer at, and the buffer after it ≡ writtenBuffer plan buffer at
 --   plans::check             verdictNumber r ≡ planFault plan
@@ -44,6 +48,8 @@ use Rattle.logs.specs.Records.{fieldsIn, noFields, recordFault, readRecord}
 --   queries::phase_of        phaseSays r ≡ phaseQuery board state processor
 --   queries::direct_waits    maskSays r ≡ waitsQuery board state processor
 --   queries::reach           maskSays r ≡ reachQuery board state processor scratch, the scratch after it ≡ reachScratch ..
+--   queries::list_board      outcomeSays r ≡ boardQuery .. board buffer, and the buffer after it ≡ boardBuffer .. board state buffer
+--   queries::list_board_in_place  the same, of the board and the state that it was lent
 --   logs::read_count         countSays r ≡ readCount bytes
 --   logs::read_record        recordSays r ≡ readRecord bytes
 --   logs::check_tail         verdictNumber r ≡ tailFault bytes
@@ -130,6 +136,20 @@ module _ (b : Board) (s : State) where
       → reachScratch b s p scratch ≡ overwritten scratch 0 (reachBytes b s)
   unfolding reachScratch
   accepted-reach-fills-scratch p scratch ok = rw ok
+
+  -- The list of the whole board, with masks of k bytes: 16 alone refuses it. Each processor's part is what the single queries
+  -- answer for it: part-is-queries, above.
+  pub refused-list-changes-nothing : (k : ℕ) (buffer : List ℕ) → 0 < listFault k (listed b) buffer
+      → (boardQuery k b buffer ≡ record { number = listFault k (listed b) buffer; value = 0 })
+      × (boardBuffer k b s buffer ≡ buffer)
+  unfolding listBuffer
+  refused-list-changes-nothing k buffer due =
+      (said-refusal (listFault k (listed b) buffer) _ due, rw (positive-not-zero (listFault k (listed b) buffer) due))
+
+  pub accepted-list-fills-buffer : (k : ℕ) (buffer : List ℕ) → listFault k (listed b) buffer ≡ 0
+      → boardBuffer k b s buffer ≡ overwritten buffer 0 (boardBytes k b s)
+  unfolding listBuffer
+  accepted-list-fills-buffer k buffer ok = rw ok
 
 pub refused-record-gives-number-only : (s : List ℕ) → 0 < recordFault s
     → readRecord s ≡ record { number = recordFault s; fields = noFields }

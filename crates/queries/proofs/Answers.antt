@@ -1,11 +1,11 @@
--- What the checks of the queries tell of an accepted one, and the state of a counted processor. Assumes nothing.
+-- What the checks of the queries tell of an accepted one, and the direct waits of a counted processor.
+-- Assumes nothing.
 use Prim.Native.Nat.{ℕ, _<_, _≤_}
-use mathlib.Core.Path.{_≡_, refl}
-use mathlib.Core.Bool.{cond}
+use mathlib.Core.Path.{_≡_, refl, ap, _∙_}
+use mathlib.Core.List.{List}
 use lib.Dec.{ltb, lit<}
-use borrow.Author.Tests.{ltb-true}
-use Rattle.masks.specs.Sets.{bit}
-use Rattle.masks.proofs.Masks.{bit-mask-at}
+use borrow.Author.Tests.{ltb-true, lt-ltb}
+use Rattle.masks.specs.Sets.{maskOf}
 use Rattle.masks.proofs.Truth.{and-left}
 use Rattle.refusals.specs.declared.Refusal.{Refusal}
 use Rattle.refusals.specs.declared.Verdict.{Verdict}
@@ -15,13 +15,17 @@ use Rattle.refusals.proofs.Numbers.{first-accepted, due-accepted, number-not-ze
 use Rattle.encoding.specs.Buffers.{roomFault}
 use Rattle.encoding.proofs.Room.{room-fits}
 use Rattle.plans.specs.Entries.{slots}
+use Rattle.conflicts.specs.Conflict.{tabulate}
+use Rattle.settling.specs.declared.Phases.{Phases}
 use Rattle.states.specs.declared.Terms.{Terms}
 use Rattle.states.specs.declared.Board.{Board}
 use Rattle.states.specs.declared.State.{State}
-use Rattle.states.specs.Requests.{hasProcessor, isHolding, isEntitled, isWaiting, cleaned}
+use Rattle.states.specs.Requests.{hasProcessor}
 use Rattle.states.specs.Faults.{processorFault}
-use Rattle.acting.specs.Calls.{phasesOf}
-use Rattle.queries.specs.Queries.{stateNumber, scratchSize}
+use Rattle.acting.specs.Calls.{factsOf, phasesOf}
+use Rattle.waiting.specs.Waits.{waitsIn, waitsOf}
+use Rattle.queries.specs.Queries.{waitsFor, scratchSize}
+use Rattle.queries.specs.inner.Rows.{directRows}
 
 -- ---- an answer says what its check found
 
@@ -45,13 +49,13 @@ reach-accepted terms p size e =
     let both = first-accepted (processorFault terms p) _ e in
     (processor-below terms p (both .first), room-fits scratchSize size 0 (both .later))
 
-pub state-counted : (b : Board) (s : State) (p n : ℕ) → p < slots
-    → n ≡ cond (bit (phasesOf b s .holding) p) 3 (cond (bit (phasesOf b s .entitled) p) 2 (cond (bit (phasesOf b s .waiting) p) 1 0))
-    → n ≡ stateNumber b s p
-unfolding cleaned stateNumber
-state-counted b s p n l e =
-    rw (
-      ← bit-mask-at slots (isHolding (b .terms) (s .entry) (s .phases)) p l,
-      ← bit-mask-at slots (isEntitled (b .terms) (s .entry) (s .phases)) p l,
-      ← bit-mask-at slots (isWaiting (b .terms) (s .entry) (s .phases)) p l,
-    ) e
+-- ---- direct waits with the phases of the requests that count
+
+module _ (b : Board) (s : State) (ph : Phases) (counted : ph ≡ phasesOf b s) where
+  pub waits-counted : (p r : ℕ) → p < slots → r ≡ waitsOf (factsOf b s) ph p → r ≡ maskOf slots (waitsFor b s p)
+  unfolding waitsFor
+  waits-counted p r below e = rw (counted, lt-ltb p slots below) at e
+
+  pub rows-counted : (rows : List ℕ) → rows ≡ tabulate slots (λ p. maskOf slots (waitsIn (factsOf b s) ph p)) → rows ≡ directRows b s
+  unfolding waitsFor
+  rows-counted rows e = e ∙ ap (λ x. tabulate slots (λ p. maskOf slots (waitsIn (factsOf b s) x p))) counted

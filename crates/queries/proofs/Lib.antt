@@ -1,6 +1,6 @@
 pub mod Growing
 pub mod Waits
 pub mod Chains
-pub mod Facing
 pub mod Joining
 pub mod Answers
+pub mod WholeBoard

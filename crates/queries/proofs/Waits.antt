@@ -15,7 +15,8 @@ use Rattle.states.specs.declared.Board.{Board}
 use Rattle.states.specs.declared.State.{State}
 use Rattle.states.specs.Requests.{isHolding, isEntitled, isWaiting, cleaned}
 use Rattle.acting.specs.Calls.{factsOf, phasesOf}
-use Rattle.queries.specs.Queries.{waitsIn, waitsFor}
+use Rattle.waiting.specs.Waits.{waitsIn}
+use Rattle.queries.specs.Queries.{waitsFor}
 
 -- Clause 7.2: why p waits for q.
 pub data Reason (f : Facts) (ph : Phases) (p q : ℕ) : Type 0 where

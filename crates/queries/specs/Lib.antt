@@ -1,2 +1,3 @@
 pub mod Queries
+pub mod WholeBoard
 pub mod inner

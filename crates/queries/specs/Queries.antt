@@ -10,13 +10,12 @@ use Rattle.refusals.specs.Due.{Said, firstOf, said}
 use Rattle.encoding.specs.Buffers.{roomFault, bufferAfter}
 use Rattle.plans.specs.Entries.{slots}
 use Rattle.conflicts.specs.Conflict.{tabulate}
-use Rattle.settling.specs.declared.Phases.{Phases}
-use Rattle.settling.specs.Requests.{Facts, active, isEarlier, isWriter, conflicts, holdingRead, holdingWrite, entitledRead, entitledWrite, waitingRead, waitingWrite}
 use Rattle.states.specs.declared.Board.{Board}
 use Rattle.states.specs.declared.State.{State}
-use Rattle.states.specs.Requests.{isHolding, isEntitled, isWaiting}
 use Rattle.states.specs.Faults.{processorFault}
 use Rattle.acting.specs.Calls.{factsOf, phasesOf}
+use Rattle.wait_listing.specs.Listing.{stateIn}
+use Rattle.waiting.specs.Waits.{waitsIn}
 use Rattle.queries.specs.declared.Phase.{Phase}
 use Rattle.queries.specs.declared.PhaseAnswer.{PhaseAnswer}
 use Rattle.queries.specs.declared.MaskAnswer.{MaskAnswer}
@@ -39,24 +38,13 @@ maskSays (MaskAnswer.Refused r) = record { number = numberOf r; value = 0 }
 
 -- Clauses 7.1 and 4.10: the state of processor p is that of its request, where that counts; else p is idle.
 unfoldable pub stateNumber : Board → State → ℕ → ℕ
-stateNumber b s p =
-    cond (isHolding (b .terms) (s .entry) (s .phases) p) 3
-    (cond (isEntitled (b .terms) (s .entry) (s .phases) p) 2 (cond (isWaiting (b .terms) (s .entry) (s .phases) p) 1 0))
+stateNumber b s p = stateIn (phasesOf b s) p
 
 -- Clause 7.5: 11 for a processor that is not the plan's, else the state.
 abbrev pub phaseQuery : Board → State → ℕ → Said
 phaseQuery b s p = said (processorFault (b .terms) p) (stateNumber b s p)
 
--- Clause 7.2: processor p waits directly for q, whose request conflicts with its own: the first four rows of the table.
--- The phases are of requests that count.
-unfoldable pub waitsIn : Facts → Phases → ℕ → ℕ → Bool
-waitsIn f ph p q =
-    (entitledRead f ph p && (holdingWrite f ph q && conflicts f p q))
-    || ((waitingRead f ph p && (entitledWrite f ph q && conflicts f p q))
-    || ((entitledWrite f ph p && (holdingRead f ph q && conflicts f p q))
-    || (waitingWrite f ph p && ((isEarlier f q p && (active ph q && isWriter f q)) && conflicts f p q))))
-
--- Clauses 7.5 and 4.10: the same on any state value.
+-- Clauses 7.2, 7.5 and 4.10: processor p waits directly for q, on any state value.
 unfoldable pub waitsFor : Board → State → ℕ → ℕ → Bool
 waitsFor b s p q = waitsIn (factsOf b s) (phasesOf b s) p q
 

@@ -2,21 +2,27 @@
 mod checks;
 mod direct;
 mod reaching;
+mod whole_board;
 
-use arbiter::phases_of;
 use checks::check_processor;
 pub use direct::direct_waits;
 use masks::has32;
+use plans::SLOTS;
 pub use reaching::reach;
 use refusals::Refusal;
 use refusals::Verdict;
 use settling::Phases;
 use states::Board;
 use states::State;
+use states::Terms;
+use states::clean;
+pub use whole_board::list_board;
+pub use whole_board::list_board_in_place;
 ghost use mathlib.Core.Path.{_≡_};
-ghost use mathlib.Core.Bool.{cond};
-ghost use Rattle.masks.specs.Sets.{bit};
+ghost use mathlib.Core.List.{[]};
+ghost use Rattle.wait_listing.specs.Listing.{stateIn};
 ghost use Rattle.queries.specs.Queries.{phaseNumber, phaseSays, phaseQuery};
+ghost use Rattle.queries.specs.inner.Rows.{boardWith, stateWith};
 
 // The state of a processor.
 pub enum Phase {
@@ -52,9 +58,7 @@ pub fn phase_number(phase: Phase) -> u8
 
 // The phase of processor p, by the masks of phases.
 fn phase_at(phases: Phases, p: u32) -> Phase
-    ensures { λ r.
-        ⌜ phaseNumber r
-        ≡ cond (bit (phases .holding) p) 3 (cond (bit (phases .entitled) p) 2 (cond (bit (phases .waiting) p) 1 0)) ⌝ }
+    ensures { λ r. ⌜ phaseNumber r ≡ stateIn phases p ⌝ }
 {
     if has32(phases.holding, p) {
         return Phase::Holding;
@@ -69,13 +73,26 @@ fn phase_at(phases: Phases, p: u32) -> Phase
     }
 }
 
+// The state of a processor, by the parts of a board and a state. Refuses by 11.
+fn phase_in(terms: Terms, entry: [u8; SLOTS], phases: Phases, processor: u8) -> PhaseAnswer
+    ensures { λ r. ⌜ phaseSays r ≡ phaseQuery (boardWith terms []) (stateWith entry [] phases) processor ⌝ }
+{
+    let verdict = check_processor(terms, processor);
+    match verdict {
+        Verdict::Accepted => PhaseAnswer::Is(phase_at(
+            clean(terms, entry, phases),
+            processor as u32,
+        )),
+        Verdict::Refused(refusal) => PhaseAnswer::Refused(refusal),
+    }
+}
+
 // The state of a processor. Refuses by 11.
 pub fn phase_of(board: Board, state: State, processor: u8) -> PhaseAnswer
     ensures { λ r. ⌜ phaseSays r ≡ phaseQuery board state processor ⌝ }
 {
-    let verdict = check_processor(board.terms, processor);
-    match verdict {
-        Verdict::Accepted => PhaseAnswer::Is(phase_at(phases_of(board, state), processor as u32)),
-        Verdict::Refused(refusal) => PhaseAnswer::Refused(refusal),
-    }
+    let terms = board.terms;
+    let entry = state.entry;
+    let phases = state.phases;
+    phase_in(terms, entry, phases, processor)
 }

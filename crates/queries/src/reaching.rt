@@ -1,14 +1,14 @@
 // Reach. Row p is the mask of all that processor p reaches. Specification, clauses 7.3 and 7.4.
 use crate::MaskAnswer;
 use crate::checks::check_reach;
-use crate::direct::PLACES;
 use crate::direct::direct_rows;
-use crate::direct::join_if;
 use masks::has32;
 use plans::SLOTS;
 use refusals::Verdict;
 use states::Board;
 use states::State;
+use states::Terms;
+use waiting::join_if;
 ghost use mathlib.Core.Path.{_≡_};
 ghost use mathlib.Core.List.{_++_};
 ghost use Prim.Native.Nat.{ℕ, suc, _*_, _<_, _≤_};
@@ -20,6 +20,9 @@ ghost use Rattle.conflicts.specs.Conflict.{tabulate};
 ghost use Rattle.queries.specs.Queries.{maskSays, waitsFor, chained, reaches};
 ghost use Rattle.queries.specs.Queries.{scratchSize, reachBytes, reachQuery, reachScratch};
 ghost use Rattle.queries.specs.inner.Rows.{directRows, chainedRows, byteOf};
+
+// The places of a mask of processors.
+const PLACES: u32 = SLOTS as u32;
 
 // The row of a processor with one wait more: those it waits for directly, and the rows of those.
 fn join_rows(direct: u32, rows: [u32; SLOTS]) -> u32
@@ -90,14 +93,30 @@ fn store_rows(rows: [u32; SLOTS], count: usize, scratch: &mut [u8])
 }
 
 // Writes the rows of all processors into the scratch and answers the one asked for.
-fn write_reach(board: Board, state: State, processor: u8, scratch: &mut [u8]) -> u32
+fn write_reach(direct: [u32; SLOTS], processor: u8, scratch: &mut [u8]) -> u32
     requires { ⌜ (processor < slots) × (scratchSize ≤ length (now scratch)) ⌝ }
-    ensures mask { λ r. ⌜ r ≡ maskOf slots (reaches board state processor) ⌝ }
-    ensures stored { λ _. ⌜ now (scratch .exit) ≡ overwritten (now (scratch .entry)) 0 (reachBytes board state) ⌝ }
+    ensures mask { λ r. ⌜ ((b : Board) (s : State) → direct ≡ directRows b s
+        → r ≡ maskOf slots (reaches b s processor)) ⌝ }
+    ensures stored { λ _. ⌜ ((b : Board) (s : State) → direct ≡ directRows b s
+        → now (scratch .exit) ≡ overwritten (now (scratch .entry)) 0 (reachBytes b s)) ⌝ }
 {
-    let rows = reach_rows(direct_rows(board, state));
+    let rows = reach_rows(direct);
     store_rows(rows, SLOTS, scratch);
     rows[processor as usize]
+}
+
+// All that a processor reaches, from the direct waits of all. Refuses by 11, then by 16.
+fn reach_from(terms: Terms, direct: [u32; SLOTS], processor: u8, scratch: &mut [u8]) -> MaskAnswer
+    ensures mask { λ r. ⌜ ((b : Board) (s : State) → terms ≡ b .terms → direct ≡ directRows b s
+        → maskSays r ≡ reachQuery b s processor (now (scratch .entry))) ⌝ }
+    ensures stored { λ _. ⌜ ((b : Board) (s : State) → terms ≡ b .terms → direct ≡ directRows b s
+        → now (scratch .exit) ≡ reachScratch b s processor (now (scratch .entry))) ⌝ }
+{
+    let verdict = check_reach(terms, processor, scratch.len());
+    match verdict {
+        Verdict::Accepted => MaskAnswer::Mask(write_reach(direct, processor, scratch)),
+        Verdict::Refused(refusal) => MaskAnswer::Refused(refusal),
+    }
 }
 
 // Clause 7.3: all that a processor reaches, a mask. The scratch is left with a byte for each pair of processors, and
@@ -106,9 +125,11 @@ pub fn reach(board: Board, state: State, processor: u8, scratch: &mut [u8]) -> M
     ensures mask { λ r. ⌜ maskSays r ≡ reachQuery board state processor (now (scratch .entry)) ⌝ }
     ensures stored { λ _. ⌜ now (scratch .exit) ≡ reachScratch board state processor (now (scratch .entry)) ⌝ }
 {
-    let verdict = check_reach(board.terms, processor, scratch.len());
-    match verdict {
-        Verdict::Accepted => MaskAnswer::Mask(write_reach(board, state, processor, scratch)),
-        Verdict::Refused(refusal) => MaskAnswer::Refused(refusal),
-    }
+    let terms = board.terms;
+    let rows = board.rows;
+    let entry = state.entry;
+    let earlier = state.earlier;
+    let phases = state.phases;
+    let direct = direct_rows(terms, &rows, &entry, &earlier, phases);
+    reach_from(terms, direct, processor, scratch)
 }

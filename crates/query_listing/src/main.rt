@@ -1,5 +1,8 @@
 // Replays a log from standard input, and after each call prints what the queries answer for every processor and
-// one past the last: its number, state, direct waits and reach. A test program: its output is compared with another's.
+// one past the last: its number, state, direct waits and reach; then the bytes of the whole board's list. A test
+// program: its output is compared with another's.
+mod board_line;
+
 use encoding::Outcome;
 use libc::STDIN_FILENO;
 use libc::STDOUT_FILENO;
@@ -84,6 +87,7 @@ fn print_call(board: Board, state: State, bytes: &[u8], out: &mut [u8]) -> RanBl
     if !ran.ended {
         let after = ran.state;
         print_queries(board, after);
+        board_line::print_board_line(board, after);
     }
     ran
 }

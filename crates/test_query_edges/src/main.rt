@@ -1,4 +1,6 @@
 // The edges of the queries' rules, run against the library. The file `stdout` has the answers due.
+mod lists;
+
 use libc::STDOUT_FILENO;
 use plans::ENTRIES;
 use plans::Entry;
@@ -143,4 +145,5 @@ fn main() {
     print_all(board, state, 4, &mut scratch);
     print_bytes(&scratch);
     print_scratches(board, state);
+    lists::print_lists(board, state);
 }

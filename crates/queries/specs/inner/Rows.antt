@@ -1,25 +1,24 @@
 -- The queries over the parts that the private functions read.
 use Prim.Native.Nat.{ℕ, _/_, _%_}
-use mathlib.Core.Bool.{Bool, cond, not, _&&_, _||_}
-use mathlib.Core.List.{List}
+use mathlib.Core.Bool.{cond}
+use mathlib.Core.List.{List, []}
 use lib.ListN.{getD}
 use Rattle.masks.specs.Sets.{bit, maskOf}
 use Rattle.plans.specs.Entries.{slots}
 use Rattle.conflicts.specs.Conflict.{tabulate}
 use Rattle.settling.specs.declared.Phases.{Phases}
-use Rattle.settling.specs.Requests.{active}
+use Rattle.states.specs.declared.Terms.{Terms}
 use Rattle.states.specs.declared.Board.{Board}
 use Rattle.states.specs.declared.State.{State}
+use Rattle.acting.specs.InPlace.{boardBy, stateBy}
 use Rattle.queries.specs.Queries.{waitsFor, chained}
 
--- Processor p waits for q if their requests conflict. The masks are of the processors whose requests are writes and of
--- those whose requests are earlier than p's.
-unfoldable pub facing : Phases → ℕ → ℕ → ℕ → ℕ → Bool
-facing ph writers earlier p q =
-    ((bit (ph .entitled) p && not (bit writers p)) && (bit (ph .holding) q && bit writers q))
-    || (((bit (ph .waiting) p && not (bit writers p)) && (bit (ph .entitled) q && bit writers q))
-    || (((bit (ph .entitled) p && bit writers p) && (bit (ph .holding) q && not (bit writers q)))
-    || ((bit (ph .waiting) p && bit writers p) && (bit earlier q && (active ph q && bit writers q)))))
+-- A board and a state of which the other parts play no part.
+abbrev pub boardWith : Terms → List ℕ → Board
+boardWith terms rows = boardBy terms rows []
+
+abbrev pub stateWith : List ℕ → List ℕ → Phases → State
+stateWith entry earlier ph = stateBy (record { last = 0; phases = ph }) entry [] earlier
 
 -- The direct waits of every processor, and all that a chain of at most n waits leads to.
 abbrev pub directRows : Board → State → List ℕ

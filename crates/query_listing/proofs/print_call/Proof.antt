@@ -28,6 +28,9 @@ write-all-requires c κs = search needs
 print-queries-requires : tie.Need-print-queries-requires
 print-queries-requires c κs = search needs
 
+print-board-line-requires : tie.Need-print-board-line-requires
+print-board-line-requires c κs = search needs
+
 same-length : tie.Need-same-length
 same-length c = search needs
 
@@ -49,6 +52,7 @@ print-call-spec =
     slice-aggregate-write-all
     write-all-requires
     print-queries-requires
+    print-board-line-requires
     same-length
     returns
     same-length-2

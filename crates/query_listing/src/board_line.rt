@@ -1,0 +1,50 @@
+// The line of the whole board: `board`, a space, and the bytes of the list as hexadecimal digits. The buffer is filled
+// with 170 before and is 16 bytes longer than the list; these are printed too.
+use libc::STDOUT_FILENO;
+use plans::SLOTS;
+use queries::list_board;
+use states::Board;
+use states::State;
+ghost use mathlib.Core.Path.{_≡_};
+ghost use Prim.Native.Nat.{_≤_};
+
+// The bytes of the longest list, and of what is behind it.
+const MOST: usize = 17 + 8 * SLOTS;
+
+fn wide(byte: u8) -> u64
+    ensures { λ r. ⌜ r ≡ byte ⌝ }
+{
+    byte as u64
+}
+
+// The bytes of a list of so many processors, and 16 more.
+fn size_of(processors: u8) -> usize
+    ensures { λ r. ⌜ r ≤ 145 ⌝ }
+{
+    if (processors as usize) < SLOTS {
+        17 + 8 * processors as usize
+    } else {
+        MOST
+    }
+}
+
+fn print_bytes(bytes: &[u8]) {
+    let mut i = 0;
+    while i < bytes.len() {
+        io::print_hex(STDOUT_FILENO, wide(bytes[i]), 2);
+        i += 1;
+    }
+}
+
+fn print_listed(board: Board, state: State, buffer: &mut [u8]) {
+    list_board(board, state, buffer);
+    io::write_all(STDOUT_FILENO, b"board ");
+    print_bytes(buffer);
+    io::write_all(STDOUT_FILENO, b"\n");
+}
+
+pub fn print_board_line(board: Board, state: State) {
+    let mut buffer = [170u8; MOST];
+    let size = size_of(board.terms.processors);
+    print_listed(board, state, &mut buffer[..size]);
+}

@@ -1,0 +1,57 @@
+-- Parts of one size, one after the other: how long they are together, one part more, and where each lies.
+-- Assumes nothing.
+use Prim.Native.Nat.{ℕ, zero, suc, _+_, _*_, _≤_, _<_}
+use mathlib.Core.Path.{_≡_, refl, sym, ap, ap₂, _∙_}
+use mathlib.Core.List.{List, _++_}
+use mathlib.Core.Logic.{⊎-elim}
+use native.Mathlib.Nat.{le-refl, le-step, le-of-suc-le-suc, not-suc-le-zero, eq-or-lt-of-le, mul-le-mul-left}
+use native.Mathlib.Numerals.{add-one}
+use native.Mathlib.Omega.{arith}
+use lib.ListN.{length, take, drop, length-append, length-drop}
+use lib.Seq.{take-append-le, drop-append-le, take-all, drop-at}
+use Rattle.encoding.specs.Numbers.{bytesOf}
+use Rattle.encoding.proofs.Numbers.{length-bytesOf}
+use Rattle.wait_listing.specs.Listing.{partBytes, partSize, inTurn}
+
+pub in-turn-more : (n : ℕ) (f : ℕ → List ℕ) → inTurn (n + 1) f ≡ inTurn n f ++ f n
+unfolding inTurn
+in-turn-more n f = ap (λ (m : ℕ). inTurn m f) (add-one n)
+
+pub in-turn-agree : (n : ℕ) (f g : ℕ → List ℕ) → ((p : ℕ) → p < n → f p ≡ g p) → inTurn n f ≡ inTurn n g
+unfolding inTurn
+in-turn-agree zero f g same = refl
+in-turn-agree (suc n) f g same =
+    ap₂ _++_ (in-turn-agree n f g (λ p l. same p (le-step l))) (same n (le-refl (suc n)))
+
+pub length-part : (k state entry waited waits : ℕ) → length (partBytes k state entry waited waits) ≡ partSize k
+unfolding partBytes
+length-part k state entry waited waits =
+    let both = length-append (bytesOf 4 waited) (bytesOf k waits) in
+    omega (arith, both, length-bytesOf 4 waited, length-bytesOf k waits)
+
+module _ (c : ℕ) (f : ℕ → List ℕ) (size : (p : ℕ) → length (f p) ≡ c) where
+  pub length-in-turn : (n : ℕ) → length (inTurn n f) ≡ c * n
+  unfolding inTurn
+  length-in-turn zero = omega arith
+  length-in-turn (suc n) = omega (arith, length-append (inTurn n f) (f n), length-in-turn n, size n)
+
+  -- The part of p is the c bytes from c * p on: it is the last one, or it lies before that.
+  last-part : (n p : ℕ) → p ≡ n → take c (drop (c * p) (inTurn n f ++ f n)) ≡ f p
+  last-part n p e =
+      let here : c * p ≡ length (inTurn n f) = ap (λ (x : ℕ). c * x) e ∙ sym (length-in-turn n) in
+      let whole : length (f n) ≤ c = omega (arith, size n) in
+      ap (take c) (drop-at (inTurn n f) (f n) (c * p) (sym here)) ∙ take-all c (f n) whole ∙ ap f (sym e)
+
+  part-before : (n p : ℕ) → p < n → take c (drop (c * p) (inTurn n f ++ f n)) ≡ take c (drop (c * p) (inTurn n f))
+  part-before n p h =
+      let more : c * p + c ≤ length (inTurn n f) = omega (arith, mul-le-mul-left c h, length-in-turn n) in
+      let inside : c * p ≤ length (inTurn n f) = omega arith in
+      let enough : c ≤ length (drop (c * p) (inTurn n f)) = omega (arith, length-drop (c * p) (inTurn n f)) in
+      ap (take c) (drop-append-le (c * p) (inTurn n f) (f n) inside)
+      ∙ take-append-le c (drop (c * p) (inTurn n f)) (f n) enough
+
+  pub part-at : (n p : ℕ) → p < n → take c (drop (c * p) (inTurn n f)) ≡ f p
+  unfolding inTurn
+  part-at zero p l = absurd (not-suc-le-zero l)
+  part-at (suc n) p l =
+      ⊎-elim (last-part n p) (λ h. part-before n p h ∙ part-at n p h) (eq-or-lt-of-le (le-of-suc-le-suc l))

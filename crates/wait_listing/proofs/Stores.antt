@@ -1,0 +1,105 @@
+-- Runs of stores: of a part's bytes, of one part more, and of the whole list; and what is answered then. Assumes nothing.
+use Prim.Native.Nat.{ℕ, suc, _+_, _*_, _≤_, _<_}
+use mathlib.Core.Path.{_≡_, refl, sym, ap, _∙_}
+use mathlib.Core.List.{List, _∷_, _++_}
+use native.Mathlib.Omega.{arith}
+use lib.ListN.{length, set, length-set}
+use lib.Seq.{sets, length-sets}
+use Rattle.refusals.specs.declared.Refusal.{Refusal}
+use Rattle.refusals.specs.declared.Verdict.{Verdict}
+use Rattle.refusals.specs.Number.{numberOf, verdictNumber}
+use Rattle.refusals.specs.Due.{Said, said}
+use Rattle.refusals.proofs.Numbers.{number-not-zero}
+use Rattle.encoding.specs.Numbers.{bytesOf}
+use Rattle.encoding.specs.Buffers.{roomFault, overwritten, bufferAfter}
+use Rattle.encoding.proofs.Numbers.{length-bytesOf}
+use Rattle.encoding.proofs.Room.{room-fits, stored-where-fits}
+use Rattle.encoding.proofs.Stores.{sets-append, sets-overwritten}
+use Rattle.wait_listing.specs.Listing.{partBytes, inTurn, partSize, listSize, listBytes, listFault, listBuffer}
+use Rattle.wait_listing.proofs.InTurn.{in-turn-more, in-turn-agree, length-in-turn}
+
+-- The stores of a part: state, entry, four bytes and k bytes.
+module _ (k state entry waited waits : ℕ) (l : List ℕ) (at : ℕ) where
+  abbrev start : List ℕ
+  start = set (set l at state) (at + 1) entry
+
+  part-stores : sets (sets start (at + 2) (bytesOf 4 waited)) (at + 6) (bytesOf k waits) ≡ sets l at (partBytes k state entry waited waits)
+  unfolding partBytes
+  part-stores =
+      let one : at + 1 ≡ suc at = omega arith in
+      let two : at + 2 ≡ suc (suc at) = omega arith in
+      let six : at + 6 ≡ suc (suc at) + 4 = omega arith in
+      rw (
+        one,
+        two,
+        six,
+        sets-append (set (set l at state) (suc at) entry) (suc (suc at)) (bytesOf 4 waited) (bytesOf k waits),
+        length-bytesOf 4 waited,
+      )
+
+  -- The same by what `write_number` leaves, where there is room.
+  pub part-written : (mid last : List ℕ) → at + partSize k ≤ length l
+      → mid ≡ bufferAfter (roomFault 4 (length start) (at + 2)) (bytesOf 4 waited) start (at + 2)
+      → last ≡ bufferAfter (roomFault k (length mid) (at + 6)) (bytesOf k waits) mid (at + 6)
+      → last ≡ sets l at (partBytes k state entry waited waits)
+  part-written mid last h first second =
+      let size : length start ≡ length l = length-set (set l at state) (at + 1) entry ∙ length-set l at state in
+      let stored = first ∙ stored-where-fits start (at + 2) (bytesOf 4 waited) 4 (length-bytesOf 4 waited) (omega arith) in
+      let kept : length mid ≡ length l = ap length stored ∙ length-sets start (at + 2) (bytesOf 4 waited) ∙ size in
+      second
+      ∙ stored-where-fits mid (at + 6) (bytesOf k waits) k (length-bytesOf k waits) (omega arith)
+      ∙ ap (λ m. sets m (at + 6) (bytesOf k waits)) stored
+      ∙ part-stores
+
+pub room-for-list : (k count size : ℕ) (verdict : Verdict) → verdictNumber verdict ≡ roomFault (listSize k count) size 0
+    → verdict ≡ Verdict.Accepted → listSize k count ≤ size
+room-for-list k count size verdict checked e =
+    omega (arith, room-fits (listSize k count) size 0 (sym checked ∙ ap verdictNumber e))
+
+module _ (k : ℕ) (f : ℕ → List ℕ) (size : (p : ℕ) → length (f p) ≡ partSize k) (l : List ℕ) where
+  -- A turn stores the next part.
+  pub turn-stores : (n : ℕ) (now next : List ℕ) → now ≡ sets l 1 (inTurn n f) → next ≡ sets now (1 + partSize k * n) (f n)
+      → next ≡ sets l 1 (inTurn (n + 1) f)
+  turn-stores n now next so-far stored =
+      let place : 1 + length (inTurn n f) ≡ 1 + partSize k * n = ap (λ (x : ℕ). 1 + x) (length-in-turn (partSize k) f size n) in
+      stored
+      ∙ ap (λ x. sets x (1 + partSize k * n) (f n)) so-far
+      ∙ ap (λ (x : ℕ). sets (sets l 1 (inTurn n f)) x (f n)) (sym place)
+      ∙ sym (sets-append l 1 (inTurn n f) (f n))
+      ∙ ap (sets l 1) (sym (in-turn-more n f))
+
+  -- The count and all parts, where there is room for them, are the list.
+  pub list-stores : (m : ℕ) → listSize k m ≤ length l → sets (set l 0 m) 1 (inTurn m f) ≡ overwritten l 0 (listBytes m f)
+  unfolding listBytes
+  list-stores m room =
+      let whole : 0 + length (m ∷ inTurn m f) ≤ length l = omega (arith, length-in-turn (partSize k) f size m) in
+      sets-overwritten l 0 (m ∷ inTurn m f) whole
+
+  -- What is answered, and what the buffer holds, with room and without. The code's count is m.
+  module _ (m count : ℕ) (are : count ≡ m) (verdict : Verdict) (checked : verdictNumber verdict ≡ roomFault (listSize k count) (length l) 0) where
+    due-here : (n : ℕ) → verdictNumber verdict ≡ n → listFault k m l ≡ n
+    unfolding listFault
+    due-here n e = ap (λ (x : ℕ). roomFault (listSize k x) (length l) 0) (sym are) ∙ sym checked ∙ e
+
+    pub list-written : verdict ≡ Verdict.Accepted → (after : List ℕ) → after ≡ sets (set l 0 count) 1 (inTurn count f)
+        → (_≡_ {A = Said} (record { number = 0; value = listSize k count }) (said (listFault k m l) (listSize k m)))
+        × (after ≡ listBuffer k m f l)
+    unfolding listBuffer
+    list-written e after stored =
+        let none : listFault k m l ≡ 0 = due-here 0 (ap verdictNumber e) in
+        let full = stored ∙ list-stores count (room-for-list k count (length l) verdict checked e) ∙ ap (λ (x : ℕ). overwritten l 0 (listBytes x f)) are in
+        rw (none, ← are) (refl, rw are full)
+
+    pub list-refused : (r : Refusal) → verdict ≡ Verdict.Refused r
+        → (_≡_ {A = Said} (record { number = numberOf r; value = 0 }) (said (listFault k m l) (listSize k m)))
+        × (l ≡ listBuffer k m f l)
+    unfolding listBuffer
+    list-refused r e =
+        let some : listFault k m l ≡ numberOf r = due-here (numberOf r) (ap verdictNumber e) in
+        rw (some, number-not-zero r) (refl, refl)
+
+-- Lists with the same parts leave the same buffer.
+pub list-agree : (k m : ℕ) (f g : ℕ → List ℕ) (l : List ℕ) → ((p : ℕ) → p < m → f p ≡ g p) → listBuffer k m f l ≡ listBuffer k m g l
+unfolding listBytes listBuffer
+list-agree k m f g l same =
+    ap (λ parts. bufferAfter (listFault k m l) (m ∷ parts) l 0) (in-turn-agree m f g same)

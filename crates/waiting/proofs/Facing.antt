@@ -1,0 +1,132 @@
+-- The masks that the code joins are those whom a processor faces, and of these it waits for those in its row of conflicts.
+-- Assumes nothing.
+use Prim.Native.Nat.{ℕ, _^_, _<_}
+use mathlib.Core.Path.{_≡_, refl, sym, ap, ap₂, _∙_}
+use mathlib.Core.Bool.{Bool, true, false, cond, not, _&&_, _||_, and-true, and-false, and-assoc, or-assoc}
+use lib.Bits.{bitAnd, bitOr}
+use lib.ListN.{getD}
+use lib.Dec.{ltb}
+use borrow.Author.Tests.{ltb-false}
+use Rattle.masks.specs.Sets.{bit, without, maskOf}
+use Rattle.masks.proofs.Places.{bit-past, bit-zero, bit-and, bit-or, bit-or-if, bit-without}
+use Rattle.masks.proofs.Masks.{bit-mask-at, mask-agree}
+use Rattle.plans.specs.Entries.{slots, mostEntries}
+use Rattle.settling.specs.declared.Phases.{Phases}
+use Rattle.settling.specs.Requests.{Facts, active, isEarlier, isWriter, entryOf, conflicts, holdingRead, holdingWrite, entitledRead, entitledWrite, waitingRead, waitingWrite}
+use Rattle.settling.specs.inner.Moves.{Table, knownIn}
+use Rattle.settling.proofs.Known.{unknown-read, unknown-row}
+use Rattle.waiting.specs.Waits.{waitsIn}
+use Rattle.waiting.specs.inner.Facing.{facing}
+
+-- ---- sets joined where tests say so
+
+joined-place : (before set after k : ℕ) (t u v : Bool) → after ≡ cond t (bitOr before set) before → bit before k ≡ u → bit set k ≡ v
+    → bit after k ≡ (u || (t && v))
+joined-place before set after k t u v e f g =
+    ap (λ (x : ℕ). bit x k) e ∙ bit-or-if before set k t ∙ ap₂ (λ x y. x || (t && y)) f g
+
+pub left-to-right : (a b c d : Bool) → (a || b || c || d) ≡ (a || (b || (c || d)))
+left-to-right a b c d = or-assoc (a || b) c d ∙ or-assoc a b (c || d)
+
+module _ (w : ℕ) (ph : Phases) (writers earlier p : ℕ) (h : ph .holding < 2 ^ w) (hw : writers < 2 ^ w) where
+  -- The mask of the earlier active writes.
+  abbrev before : ℕ
+  before = bitAnd earlier (bitAnd (bitOr (bitOr (ph .waiting) (ph .entitled)) (ph .holding)) writers)
+
+  bit-before : (q : ℕ) → bit before q ≡ (bit earlier q && (active ph q && bit writers q))
+  bit-before q =
+      bit-and earlier _ q
+      ∙ ap (λ t. bit earlier q && t)
+      (bit-and _ writers q
+      ∙ ap (λ t. t && bit writers q) (bit-or _ (ph .holding) q ∙ ap (λ t. t || bit (ph .holding) q) (bit-or (ph .waiting) (ph .entitled) q)))
+
+  pub faces : (first second third last : ℕ) (waiting entitled write : Bool)
+      → waiting ≡ bit (ph .waiting) p → entitled ≡ bit (ph .entitled) p → write ≡ bit writers p
+      → first ≡ cond (entitled && not write) (bitOr 0 (bitAnd (ph .holding) writers)) 0
+      → second ≡ cond (waiting && not write) (bitOr first (bitAnd (ph .entitled) writers)) first
+      → third ≡ cond (entitled && write) (bitOr second (without w (ph .holding) writers)) second
+      → last ≡ cond (waiting && write) (bitOr third before) third
+      → (q : ℕ) → bit last q ≡ facing ph writers earlier p q
+  unfolding facing
+  faces first second third last waiting entitled write ew ee er e1 e2 e3 e4 q =
+      rw (← ew, ← ee, ← er)
+      (joined-place third _ last q (waiting && write) _ _ e4
+      (joined-place second _ third q (entitled && write) _ _ e3
+      (joined-place first _ second q (waiting && not write) _ _ e2
+      (joined-place 0 _ first q (entitled && not write) _ _ e1 (bit-zero q) (bit-and (ph .holding) writers q))
+      (bit-and (ph .entitled) writers q))
+      (bit-without w (ph .holding) writers q h hw))
+      (bit-before q)
+      ∙ left-to-right
+      (entitled && not write && (bit (ph .holding) q && bit writers q))
+      (waiting && not write && (bit (ph .entitled) q && bit writers q))
+      (entitled && write && (bit (ph .holding) q && not (bit writers q)))
+      (waiting && write && (bit earlier q && (active ph q && bit writers q))))
+
+-- ---- with the row of conflicts
+
+each-way : (a x b y c z d u k : Bool)
+    → ((a && x || (b && y || (c && z || d && u))) && k) ≡ (a && (x && k) || (b && (y && k) || (c && (z && k) || d && (u && k))))
+each-way a x b y c z d u true = simp and-true
+each-way a x b y c z d u false = simp and-false
+
+-- The known processors, and those of them whose requests are writes.
+pub record Sides (f : Facts) (known writers : ℕ) : Type 0 where
+  pub table : Table (f .rows)
+  pub words : f .writes < 2 ^ mostEntries
+  pub all : known ≡ knownIn (f .entry)
+  pub write : writers ≡ maskOf slots (λ q. bit known q && isWriter f q)
+
+abbrev hasRow : Facts → ℕ → Bool
+hasRow f p = ltb (entryOf f p) mostEntries
+
+module _ (f : Facts) (ph : Phases) (known writers : ℕ) (sides : Sides f known writers) where
+  is-known : (k : ℕ) → k < slots → bit known k ≡ hasRow f k
+  is-known k l = ap (λ (x : ℕ). bit x k) (sides .all) ∙ bit-mask-at slots (hasRow f) k l
+
+  pub is-writer : (k : ℕ) → k < slots → bit writers k ≡ isWriter f k
+  is-writer k l =
+      ap (λ (x : ℕ). bit x k) (sides .write) ∙ bit-mask-at slots (λ q. bit known q && isWriter f q) k l
+      ∙ ap (λ t. t && isWriter f k) (is-known k l) ∙ at (hasRow f k) refl
+    where
+      at : (t : Bool) → hasRow f k ≡ t → (t && isWriter f k) ≡ isWriter f k
+      at true e = refl
+      at false e = sym (unknown-read f (sides .words) k e)
+
+  -- A request whose entry has no row conflicts with none, either way.
+  pub unknown-against-none : (p q : ℕ) → p < slots → bit known p ≡ false → conflicts f p q ≡ false
+  unknown-against-none p q l e =
+      ap (λ (row : ℕ). bit row (entryOf f q)) (unknown-row f (sides .table) p (sym (is-known p l) ∙ e)) ∙ bit-zero (entryOf f q)
+
+  pub none-against-unknown : (p q : ℕ) → q < slots → bit known q ≡ false → conflicts f p q ≡ false
+  none-against-unknown p q l e =
+      bit-past mostEntries _ (entryOf f q) (sides .table .places (entryOf f p))
+      (ltb-false (entryOf f q) mostEntries (sym (is-known q l) ∙ e))
+
+  known-conflict : (p q : ℕ) → q < slots → (bit known q && conflicts f p q) ≡ conflicts f p q
+  known-conflict p q l = at (bit known q) refl
+    where
+      at : (t : Bool) → bit known q ≡ t → (t && conflicts f p q) ≡ conflicts f p q
+      at true e = refl
+      at false e = sym (none-against-unknown p q l e)
+
+  -- ---- of one processor
+
+  faced-waits : (p q : ℕ) → p < slots → q < slots
+      → (facing ph writers (getD (f .earlier) p 0) p q && conflicts f p q) ≡ waitsIn f ph p q
+  unfolding facing waitsIn
+  faced-waits p q below l =
+      rw (is-writer p below, is-writer q l)
+      (each-way (entitledRead f ph p) (holdingWrite f ph q) (waitingRead f ph p) (entitledWrite f ph q) (entitledWrite f ph p) (holdingRead f ph q)
+      (waitingWrite f ph p) (isEarlier f q p && (active ph q && isWriter f q)) (conflicts f p q))
+
+  pub waits-mask : (p others row r : ℕ) → p < slots → ((q : ℕ) → bit others q ≡ facing ph writers (getD (f .earlier) p 0) p q)
+      → row ≡ getD (f .rows) (entryOf f p) 0 → r ≡ maskOf slots (λ q. bit (bitAnd others known) q && bit row (entryOf f q))
+      → r ≡ maskOf slots (waitsIn f ph p)
+  waits-mask p others row r below face conflicting e =
+      e
+      ∙ mask-agree slots _ _
+      (λ q l. ap₂ _&&_ (bit-and others known q ∙ ap (λ t. t && bit known q) (face q)) (ap (λ (x : ℕ). bit x (entryOf f q)) conflicting)
+      ∙ and-assoc (facing ph writers (getD (f .earlier) p 0) p q) (bit known q) (conflicts f p q)
+      ∙ ap (λ t. facing ph writers (getD (f .earlier) p 0) p q && t) (known-conflict p q l)
+      ∙ faced-waits p q below l)

@@ -1,0 +1,210 @@
+-- The walk that joins a mask to each candidate's, and the four walks one after the other: the direct waits of all.
+-- Assumes nothing.
+use Prim.Native.Nat.{ℕ, zero, suc, _-_, _^_, _<_}
+use mathlib.Core.Path.{_≡_, refl, sym, ap, ap₂, _∙_}
+use mathlib.Core.List.{List}
+use mathlib.Core.Bool.{Bool, true, false, cond, not, _&&_, _||_, and-true, and-false, or-false, false≢true}
+use native.Mathlib.Omega.{arith}
+use lib.Bits.{bitAnd, bitOr}
+use lib.Count.{trailingZeros}
+use lib.Dec.{eqb}
+use lib.ListN.{length, getD, set, replicate, length-set}
+use lib.Seq.{ext-getD}
+use lib.Pow.{pow-pos}
+use borrow.Author.Tests.{lt-ltb}
+use Rattle.masks.specs.Sets.{bit, without, maskOf}
+use Rattle.masks.proofs.Places.{bit-zero, bit-and, bit-or, bit-ones, bit-without, or-below}
+use Rattle.masks.proofs.Masks.{mask-below, mask-below-width, bit-mask-at, is-mask}
+use Rattle.masks.proofs.Walks.{Left, left-more, lowest-place, bit-left, at-lowest, bit-none}
+use Rattle.masks.proofs.Stores.{stored-at}
+use Rattle.plans.specs.Entries.{slots}
+use Rattle.conflicts.specs.Conflict.{tabulate}
+use Rattle.conflicts.proofs.Tabulate.{length-tabulate, getD-tabulate}
+use Rattle.settling.specs.declared.Phases.{Phases}
+use Rattle.settling.specs.Requests.{Facts, active, isEarlier, isWriter, conflicts}
+use Rattle.settling.specs.inner.Moves.{knownIn, Known}
+use Rattle.settling.proofs.FourSteps.{fit}
+use Rattle.settling.proofs.Known.{known-all, known-and, and-known, known-kept}
+use Rattle.waiting.specs.Waits.{waitsIn}
+use Rattle.waiting.specs.inner.Facing.{Joined}
+use Rattle.waiting.proofs.Facing.{Sides, left-to-right, is-writer, unknown-against-none, none-against-unknown}
+
+-- ---- one walk
+
+module _ (rows entry before : List ℕ) (candidates others : ℕ) (first : List ℕ) where
+  -- Processor q is joined to the mask of candidate p.
+  abbrev joins : ℕ → ℕ → Bool
+  joins p q = bit (getD before p 0) q && bit others q && bit (getD rows (getD entry p 0) 0) (getD entry q 0)
+
+  -- The masks so far, joined for what is left of the candidates, are the whole.
+  pub record Joining (left : ℕ) (out : List ℕ) : Type 0 where
+    pub walk : Left slots 32 left
+    pub full : length out ≡ slots
+    pub places : (p q : ℕ) → p < slots → q < slots
+        → (bit (getD out p 0) q || bit left p && joins p q) ≡ (bit (getD first p 0) q || bit candidates p && joins p q)
+    pub small : ((p : ℕ) → getD first p 0 < 2 ^ slots) → (p : ℕ) → getD out p 0 < 2 ^ slots
+
+  pub joining-first : Left slots 32 candidates → length first ≡ slots → Joining candidates first
+  joining-first walk full = record { walk = walk; full = full; places = λ p q l m. refl; small = λ s. s }
+
+  -- What is found for a candidate.
+  abbrev found : ℕ → ℕ → Bool
+  found p q = bit (bitAnd (getD before p 0) others) q && bit (getD rows (getD entry p 0) 0) (getD entry q 0)
+
+  module _ (left : ℕ) (out : List ℕ) (new : ℕ) (some-left : 0 < left) (h : Joining left out)
+      (e : new ≡ maskOf slots (found (trailingZeros 32 left))) where
+    abbrev low : ℕ
+    low = trailingZeros 32 left
+
+    bit-new : (q : ℕ) → q < slots → bit new q ≡ joins low q
+    bit-new q l =
+        ap (λ (x : ℕ). bit x q) e ∙ bit-mask-at slots (found low) q l
+        ∙ ap (λ t. t && bit (getD rows (getD entry low 0) 0) (getD entry q 0)) (bit-and (getD before low 0) others q)
+
+    stored : (p : ℕ) → getD (set out low (bitOr (getD out low 0) new)) p 0 ≡ cond (eqb p low) (bitOr (getD out low 0) new) (getD out p 0)
+    stored p = stored-at out low _ p (omega (arith, lowest-place (h .walk) some-left, h .full))
+
+    at-place : (p q : ℕ) → q < slots → (t : Bool) → eqb p low ≡ t
+        → (bit (cond t (bitOr (getD out low 0) new) (getD out p 0)) q || bit left p && not t && joins p q)
+        ≡ (bit (getD out p 0) q || bit left p && joins p q)
+    at-place p q l true same =
+        let here = at-lowest (h .walk) some-left p same in
+        ap (λ t. bit (bitOr (getD out low 0) new) q || t && false && joins p q) (here .1)
+        ∙ or-false (bit (bitOr (getD out low 0) new) q)
+        ∙ bit-or (getD out low 0) new q
+        ∙ ap (λ t. bit (getD out low 0) q || t) (bit-new q l)
+        ∙ ap (λ (x : ℕ). bit (getD out x 0) q || joins x q) (sym (here .0))
+        ∙ ap (λ t. bit (getD out p 0) q || t && joins p q) (sym (here .1))
+    at-place p q l false same = ap (λ t. bit (getD out p 0) q || t && joins p q) (and-true (bit left p))
+
+    stays-small : ((p : ℕ) → getD out p 0 < 2 ^ slots) → (p : ℕ) (t : Bool) → cond t (bitOr (getD out low 0) new) (getD out p 0) < 2 ^ slots
+    stays-small s p true = or-below slots (getD out low 0) new (s low) (rw e (mask-below slots _))
+    stays-small s p false = s p
+
+    pub joining-more : Joining (bitAnd left (left - 1)) (set out low (bitOr (getD out low 0) new))
+    joining-more =
+        record {
+          walk = left-more (h .walk);
+          full = length-set out low _ ∙ h .full;
+          places = λ p q l m.
+              ap₂ (λ (x : ℕ) t. bit x q || t && joins p q) (stored p) (bit-left (h .walk) some-left p)
+              ∙ at-place p q m (eqb p low) refl
+              ∙ h .places p q l m;
+          small = λ s p. rw (stored p) (stays-small (h .small s) p (eqb p low));
+        }
+
+  pub joining-last : (left : ℕ) (out : List ℕ) → left ≡ 0 → Joining left out → Joined rows entry before candidates others first out
+  joining-last left out e h =
+      record {
+        full = h .full;
+        places = λ p q l m.
+            sym (or-false (bit (getD out p 0) q)) ∙ ap (λ t. bit (getD out p 0) q || t && joins p q) (sym (bit-none left p e))
+            ∙ h .places p q l m;
+        small = h .small;
+      }
+
+-- ---- the four walks
+
+-- What the four walks find for p and q, and what the definition asks. An entry with no row conflicts with none.
+four-ways : (ep wp kp Wp eq hq aq kq Wq before k : Bool) → (kp ≡ false → k ≡ false) → (kq ≡ false → k ≡ false)
+    → (false || ep && (kp && not Wp) && (true && (hq && Wq) && k) || wp && (kp && not Wp) && (true && (eq && Wq) && k)
+    || ep && Wp && (true && (hq && (kq && not Wq)) && k) || wp && Wp && (before && (aq && Wq) && k))
+    ≡ (ep && not Wp && (hq && Wq && k) || (wp && not Wp && (eq && Wq && k) || (ep && Wp && (hq && not Wq && k) || wp && Wp && (before && (aq && Wq) && k))))
+four-ways ep wp kp Wp eq hq aq kq Wq before false h g = simp and-false
+four-ways ep wp false Wp eq hq aq kq Wq before true h g = absurd (false≢true (sym (h refl)))
+four-ways ep wp true Wp eq hq aq false Wq before true h g = absurd (false≢true (sym (g refl)))
+four-ways ep wp true Wp eq hq aq true Wq before true h g =
+    simp and-true
+    (left-to-right (ep && not Wp && (hq && Wq)) (wp && not Wp && (eq && Wq)) (ep && Wp && (hq && not Wq)) (wp && Wp && (before && (aq && Wq))))
+
+-- The candidates and the others of each walk are known processors: the writes among them and the reads.
+module _ (entry : List ℕ) (known : ℕ) (test : ℕ → Bool) (w : ℕ) (all : known ≡ knownIn entry) (are : w ≡ maskOf slots (λ q. bit known q && test q)) where
+  writes-known : Known entry w
+  writes-known = known-kept test (known-all all) are
+
+  reads-known : Known entry (without 32 known w)
+  reads-known = known-and _ (known-all all)
+
+  pub reads-writes : (x y : ℕ) → Known entry (bitAnd x (without 32 known w)) × Known entry (bitAnd y w)
+  reads-writes x y = (and-known x reads-known, and-known y writes-known)
+
+  pub writes-reads : (x y : ℕ) → Known entry (bitAnd x w) × Known entry (bitAnd y (without 32 known w))
+  writes-reads x y = (and-known x writes-known, and-known y reads-known)
+
+  pub writes-writes : (x y : ℕ) → Known entry (bitAnd x w) × Known entry (bitAnd y w)
+  writes-writes x y = (and-known x writes-known, and-known y writes-known)
+
+-- The masks of the start are all empty.
+pub getD-zeros : (n p : ℕ) → _≡_ {A = ℕ} (getD (replicate n 0) p 0) 0
+getD-zeros zero p = refl
+getD-zeros (suc n) zero = refl
+getD-zeros (suc n) (suc p) = getD-zeros n p
+
+-- A list with these elements.
+is-tabulate : (n : ℕ) (f : ℕ → ℕ) (xs : List ℕ) → length xs ≡ n → ((k : ℕ) → k < n → getD xs k 0 ≡ f k) → xs ≡ tabulate n f
+is-tabulate n f xs full same =
+    ext-getD 0 xs (tabulate n f) (full ∙ sym (length-tabulate n f))
+    (λ k l. let here : k < n = omega (arith, full) in same k here ∙ sym (getD-tabulate n f k 0 here))
+
+module _ (f : Facts) (ph : Phases) (known w : ℕ) (sides : Sides f known w)
+    (all none first second third out : List ℕ) (ones : (p : ℕ) → p < slots → getD all p 0 ≡ 2 ^ slots - 1)
+    (zeros : (p : ℕ) → getD none p 0 ≡ 0) where
+  abbrev r : ℕ
+  r = without 32 known w
+
+  hk : known < 2 ^ 32
+  hk = rw (sides .all) (mask-below-width 32 slots _ fit)
+
+  hw : w < 2 ^ 32
+  hw = rw (sides .write) (mask-below-width 32 slots _ fit)
+
+  abbrev act : ℕ
+  act = bitOr (bitOr (ph .waiting) (ph .entitled)) (ph .holding)
+
+  module _ (one : Joined (f .rows) (f .entry) all (bitAnd (ph .entitled) r) (bitAnd (ph .holding) w) none first)
+      (two : Joined (f .rows) (f .entry) all (bitAnd (ph .waiting) r) (bitAnd (ph .entitled) w) first second)
+      (three : Joined (f .rows) (f .entry) all (bitAnd (ph .entitled) w) (bitAnd (ph .holding) r) second third)
+      (four : Joined (f .rows) (f .entry) (f .earlier) (bitAnd (ph .waiting) w) (bitAnd act w) third out) where
+    bit-act : (q : ℕ) → bit act q ≡ active ph q
+    bit-act q = bit-or _ (ph .holding) q ∙ ap (λ t. t || bit (ph .holding) q) (bit-or (ph .waiting) (ph .entitled) q)
+
+    bit-one : (p q : ℕ) → p < slots → q < slots → bit (getD all p 0) q ≡ true
+    bit-one p q l m = ap (λ (x : ℕ). bit x q) (ones p l) ∙ bit-ones slots q ∙ lt-ltb q slots m
+
+    bit-out : (p q : ℕ) → p < slots → q < slots → bit (getD out p 0) q ≡ waitsIn f ph p q
+    unfolding waitsIn
+    bit-out p q l m =
+        let wp = is-writer f ph known w sides p l in
+        let wq = is-writer f ph known w sides q m in
+        rw (
+          four .places p q l m,
+          three .places p q l m,
+          two .places p q l m,
+          one .places p q l m,
+          zeros p,
+          bit-zero q,
+          bit-one p q l m,
+          bit-and (ph .entitled) r p,
+          bit-and (ph .holding) w q,
+          bit-and (ph .waiting) r p,
+          bit-and (ph .entitled) w q,
+          bit-and (ph .entitled) w p,
+          bit-and (ph .holding) r q,
+          bit-and (ph .waiting) w p,
+          bit-and act w q,
+          bit-act q,
+          bit-without 32 known w p hk hw,
+          bit-without 32 known w q hk hw,
+          wp,
+          wq,
+        )
+        (four-ways (bit (ph .entitled) p) (bit (ph .waiting) p) (bit known p) (isWriter f p) (bit (ph .entitled) q) (bit (ph .holding) q) (active ph q)
+        (bit known q) (isWriter f q) (isEarlier f q p) (conflicts f p q)
+        (unknown-against-none f ph known w sides p q l) (none-against-unknown f ph known w sides p q m))
+
+    pub waits-of-all : out ≡ tabulate slots (λ p. maskOf slots (waitsIn f ph p))
+    waits-of-all =
+        is-tabulate slots _ out (four .full)
+        (λ p l. is-mask slots (getD out p 0) (waitsIn f ph p)
+        (four .small (three .small (two .small (one .small (λ q. rw (zeros q) (pow-pos slots))))) p)
+        (λ q m. bit-out p q l m))
