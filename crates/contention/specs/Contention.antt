@@ -1,4 +1,4 @@
--- Which resource two entries of a board share. Specification, clauses 3.4 and 7.7.
+-- Which resource two entries of a board share. Specification, clauses 3.4 and 7.10.
 use Prim.Native.Nat.{ℕ}
 use mathlib.Core.Bool.{cond, not, _&&_}
 use mathlib.Core.List.{List}
@@ -29,11 +29,11 @@ abbrev pub sharedSays : SharedAnswer → SharedSaid
 sharedSays (SharedAnswer.Is c) = record { number = 0; conflict = conflictSays c }
 sharedSays (SharedAnswer.Refused r) = record { number = numberOf r; conflict = noConflict }
 
--- Clauses 7.7 and 8.2: 12 where either entry is not one of the plan's.
+-- Clauses 7.10 and 8.2: 12 where either entry is not one of the plan's.
 abbrev pub entriesFault : Terms → ℕ → ℕ → ℕ
 entriesFault terms i j = due (ltb i (terms .count) && ltb j (terms .count)) 12
 
--- Clause 7.7: what is due, and the conflict where nothing is.
+-- Clause 7.10: what is due, and the conflict where nothing is.
 unfoldable pub sharedOf : Terms → List ℕ → List ℕ → ℕ → ℕ → SharedSaid
 sharedOf terms names widened i j =
     record {
@@ -41,6 +41,6 @@ sharedOf terms names widened i j =
       conflict = cond (eqb (entriesFault terms i j) 0) (over (sharedIn (terms .writes) names widened i j)) noConflict;
     }
 
--- Clause 7.7: the same of a board.
+-- Clause 7.10: the same of a board.
 abbrev pub sharedQuery : Board → ℕ → ℕ → SharedSaid
 sharedQuery b i j = sharedOf (b .terms) (b .names) (b .widened) i j

@@ -45,7 +45,7 @@ fn conflict_in(
     )
 }
 
-// Clause 7.7: what two entries of a board conflict over, with the board's names and widened sets lent. Refuses by 12.
+// Clause 7.10: what two entries of a board conflict over, with the board's names and widened sets lent. Refuses by 12.
 pub fn shared_on(
     terms: Terms,
     names: &[u64; ENTRIES],

@@ -33,7 +33,8 @@ use Rattle.logs.specs.Records.{fieldsIn, noFields, recordFault, readRecord}
 -- case alone, with the state and all lent buffers unchanged.
 --
 -- Which number is due is said by readFault, writeFault, planFault, issueFault, completeFault, withdrawFault,
--- processorFault, reachFault, listFault, recordFault and tailFault; 0 is none. The functions promise, for every value:
+-- processorFault, reachFault, listFault, entriesFault (contention), recordFault and tailFault; 0 is none. The functions promise,
+-- for every value:
 --   plan_reader::read        outcomeSays (r .outcome) ≡ readSays bytes, and r .plan ≡ planRead bytes
 --   plan_writer::write       outcomeSays r ≡ writeSays plan buffer at, and the buffer after it ≡ writtenBuffer plan buffer at
 --   plans::check             verdictNumber r ≡ planFault plan
@@ -50,6 +51,7 @@ use Rattle.logs.specs.Records.{fieldsIn, noFields, recordFault, readRecord}
 --   queries::reach           maskSays r ≡ reachQuery board state processor scratch, the scratch after it ≡ reachScratch ..
 --   queries::list_board      outcomeSays r ≡ boardQuery .. board buffer, and the buffer after it ≡ boardBuffer .. board state buffer
 --   queries::list_board_in_place  the same, of the board and the state that it was lent
+--   contention::shared_by    sharedSays r ≡ sharedQuery board first second; what that is on a plan's board, Contention.antt says
 --   logs::read_count         countSays r ≡ readCount bytes
 --   logs::read_record        recordSays r ≡ readRecord bytes
 --   logs::check_tail         verdictNumber r ≡ tailFault bytes
