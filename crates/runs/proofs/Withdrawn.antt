@@ -1,5 +1,5 @@
--- A request that leaves the line, counted: it ends at its withdrawal, its wait runs to that tick, and a later grant to its
--- processor is not its own. One run of plan F, request by request. Assumes nothing.
+-- A request that leaves the line, counted: the withdrawal is its end, up to there it has waited, and what its processor is
+-- granted later is not its own. One run of plan F, request by request. Assumes nothing.
 use Prim.Native.Nat.{ℕ}
 use mathlib.Core.Path.{_≡_, refl}
 use mathlib.Core.List.{List, [], _∷_, map}
