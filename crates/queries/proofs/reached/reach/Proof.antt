@@ -2,8 +2,8 @@
 use mathlib.Core.Path.{refl}
 use Rattle.queries.specs.Queries.{waitsFor}
 use borrow.Author.Needs.{needs}
-use Rattle.queries.proofs.reaching.reach.Statement.{statement}
-use Rattle.queries.proofs.reaching.reach.Tie as tie
+use Rattle.queries.proofs.reached.reach.Statement.{statement}
+use Rattle.queries.proofs.reached.reach.Tie as tie
 
 returns : tie.Need-returns
 unfolding waitsFor
