@@ -59,10 +59,10 @@ fn store_rows(rows: [u32; SLOTS], scratch: &mut [u8])
         now (scratch .exit) ≡ sets (now (scratch .entry)) 0 (wordsOf maskSize slots (λ p. getD rows p 0))
         ⌝ }
 {
-    let mut p: usize = 0;
-    while p < SLOTS {
-        write_number(rows[p] as u64, MASK_BYTES, scratch, MASK_BYTES * p);
-        p += 1;
+    let mut i: usize = 0;
+    while i < SLOTS {
+        write_number(rows[i] as u64, MASK_BYTES, scratch, MASK_BYTES * i);
+        i += 1;
     }
 }
 

@@ -13,11 +13,11 @@ use Rattle.reaching.proofs.store_rows.Statement.{statement}
 use Rattle.reaching.proofs.store_rows.Tie as tie
 
 abbrev Inv-loop : tie.InvT-loop
-Inv-loop scratch₀ rows p₀ scratch p =
-    (p ≤ slots) × (length scratch ≡ length scratch₀) × (scratch ≡ sets scratch₀ 0 (wordsOf maskSize p (λ q. getD rows q 0)))
+Inv-loop scratch₀ rows i₀ scratch i =
+    (i ≤ slots) × (length scratch ≡ length scratch₀) × (scratch ≡ sets scratch₀ 0 (wordsOf maskSize i (λ q. getD rows q 0)))
 
 abbrev μ-loop : tie.MeasureT-loop
-μ-loop scratch₀ rows p₀ scratch p = slots - p
+μ-loop scratch₀ rows i₀ scratch i = slots - i
 
 loop-holds : tie.Need-loop-holds Inv-loop μ-loop
 unfolding wordsOf inTurn
@@ -27,9 +27,9 @@ loop-again : tie.Need-loop-again Inv-loop μ-loop
 loop-again c =
     let written = c .before .before in
     let loop = written .before .before .before .loop in
-    let low : loop .p < slots = written .before .before .loop-test .taken in
+    let low : loop .i < slots = written .before .before .loop-test .taken in
     let start = written .before .before .before .before .before in
-    let next = word-stored maskSize _ slots (loop .p) _ _ _ low (start .pre) (loop .inv .1) (loop .inv .2) (written .write-number .ensures .1) in
+    let next = word-stored maskSize _ slots (loop .i) _ _ _ low (start .pre) (loop .inv .1) (loop .inv .2) (written .write-number .ensures .1) in
     (omega arith, next .0, next .1)
 
 same-length : tie.Need-same-length Inv-loop μ-loop
@@ -37,7 +37,7 @@ same-length c = c .before .loop .inv .1
 
 returns : tie.Need-returns Inv-loop μ-loop
 returns c =
-    let last : c .before .loop .p ≡ slots = omega arith in
+    let last : c .before .loop .i ≡ slots = omega arith in
     rw last at (c .before .loop .inv .2)
 
 pub store-rows-spec : {M : Type 1} → statement M
