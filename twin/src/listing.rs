@@ -44,10 +44,18 @@ fn query_lines(arbiter: &Arbiter) -> String {
 /// The whole board: the bytes of its list, written into a buffer of 170s that is 16 bytes longer.
 fn board_line(arbiter: &Arbiter) -> String {
     let list = arbiter.list();
-    let mut buffer = vec![170u8; list.len() + 16];
-    buffer[..list.len()].copy_from_slice(&list);
-    let digits: String = buffer.iter().map(|byte| format!("{byte:02x}")).collect();
-    format!("board {digits}\n")
+    format!("board {}\n", digits_behind(&list))
+}
+
+/// The scratch after processor 0's reach: a word of two bytes for each processor, written over 170s likewise.
+fn scratch_line(arbiter: &Arbiter) -> String {
+    let words: Vec<u8> = (0..16).flat_map(|p| arbiter.reach(p).unwrap_or(0).to_le_bytes()).collect();
+    format!("scratch {}\n", digits_behind(&words))
+}
+
+/// The digits of bytes that were written into a buffer of 170s that is 16 bytes longer.
+fn digits_behind(bytes: &[u8]) -> String {
+    bytes.iter().chain(&[170u8; 16]).map(|byte| format!("{byte:02x}")).collect()
 }
 
 fn replay(bytes: &mut &[u8], queries: bool, out: &mut impl Write) -> Result<(), Refusal> {
@@ -69,6 +77,7 @@ fn replay(bytes: &mut &[u8], queries: bool, out: &mut impl Write) -> Result<(), 
         if queries {
             out.write_all(query_lines(&arbiter).as_bytes()).unwrap();
             out.write_all(board_line(&arbiter).as_bytes()).unwrap();
+            out.write_all(scratch_line(&arbiter).as_bytes()).unwrap();
         }
     }
     if bytes.is_empty() { Ok(()) } else { Err(2) }

@@ -7,11 +7,8 @@ fn in_row(state: &State, among: u32, row: u64) -> u32 {
     Bits(among).fold(0, |mask, q| mask | ((row >> (state.entry[q] & 63) & 1) as u32) << q)
 }
 
-/// Fills the buffer with the list and gives the number of its bytes, or 16 where it has no room.
-pub fn list(board: &Board, state: &State, buffer: &mut [u8]) -> Result<usize, u8> {
-    let m = board.processors.min(16) as usize;
-    let size = 1 + 8 * m;
-    let buffer = buffer.get_mut(..size).ok_or(16)?;
+/// The phases of the requests that count: waiting, entitled, holding; and the direct waits of every processor.
+pub fn phases_and_waits(board: &Board, state: &State) -> ([u32; 3], [u32; 16]) {
     let (mut counted, mut known) = (0u32, 0u32);
     for p in 0..16u8 {
         counted |= ((p < board.processors && state.entry[p as usize] < board.count) as u32) << p;
@@ -34,6 +31,16 @@ pub fn list(board: &Board, state: &State, buffer: &mut [u8]) -> Result<usize, u8
     join(waiting & r, entitled & w, false);
     join(entitled & w, holding & r, false);
     join(waiting & w, active & w, true);
+    ([waiting, entitled, holding], waits)
+}
+
+/// Fills the buffer with the list and gives the number of its bytes, or 16 where it has no room.
+pub fn list(board: &Board, state: &State, buffer: &mut [u8]) -> Result<usize, u8> {
+    let m = board.processors.min(16) as usize;
+    let size = 1 + 8 * m;
+    let buffer = buffer.get_mut(..size).ok_or(16)?;
+    let ([waiting, entitled, holding], waits) = phases_and_waits(board, state);
+    let active = waiting | entitled | holding;
     buffer[0] = m as u8;
     for (p, part) in buffer[1..].chunks_exact_mut(8).enumerate() {
         let is = |mask: u32| mask >> p & 1 == 1;

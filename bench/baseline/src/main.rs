@@ -4,10 +4,12 @@
 //! baseline calls KIND BUSY TURNS    lean, plain or first: see arbiter.rs
 //! baseline plans TURNS              reads a plan of 64 entries
 //! baseline list TURNS               plain calls with 16 busy processors, and the list of the whole board after each two
+//! baseline reach TURNS              the reach of a processor, where all 16 wait in one long line
 //! baseline replay                   a log on standard input to its listing, lean
 mod arbiter;
 mod list;
 mod plan;
+mod reach;
 mod replay;
 
 use arbiter::{board_of, Entry, State, FIRST, LEAN, PLAIN};
@@ -79,6 +81,7 @@ fn main() {
         ["calls", "plain", busy, turns] => println!("{}", calls::<PLAIN>(number(busy) as u8, false, number(turns))),
         ["calls", "first", busy, turns] => println!("{}", calls::<FIRST>(number(busy) as u8, false, number(turns))),
         ["list", turns] => println!("{}", calls::<PLAIN>(16, true, number(turns))),
+        ["reach", turns] => println!("{}", reach::turns(number(turns))),
         ["plans", turns] => println!("{}", plans(number(turns))),
         ["replay"] => replay::replay().expect("a log on standard input"),
         _ => eprintln!("usage: see the head of bench/baseline/src/main.rs"),

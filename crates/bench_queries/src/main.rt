@@ -1,9 +1,11 @@
 // What a viewer asks of a board with 16 busy processors. Prints a checksum, which the Rust program prints too for the
-// list. A program of its own: with it in `bench_library` the calls there were compiled to more instructions.
+// list and for reach. A program of its own: with it in `bench_library` the calls there were compiled to more instructions.
 //   bench_queries none TURNS       turns of two calls alone
 //   bench_queries list TURNS       the list of the whole board after each turn
 //   bench_queries queries TURNS    the state and the direct waits of each processor, by single queries, after each turn
+//   bench_queries reach TURNS      the reach of a processor, where all 16 wait in one long line
 mod board;
+mod line;
 mod turns;
 mod viewed;
 
@@ -41,9 +43,14 @@ fn first_letter() -> u8 {
 
 fn main() {
     let letter = first_letter();
+    let turns = number_of(2, TURNS);
     let single = letter == b'q';
     let asks = single | (letter == b'l');
-    let sum = turns::sum_of(View { asks, single }, number_of(2, TURNS));
+    let sum = if letter == b'r' {
+        line::sum_of(turns)
+    } else {
+        turns::sum_of(View { asks, single }, turns)
+    };
     io::print_decimal(STDOUT_FILENO, sum);
     io::write_all(STDOUT_FILENO, b"\n");
 }

@@ -64,7 +64,7 @@ fn state_number(answer: PhaseAnswer) -> u64 {
     }
 }
 
-fn mask_number(answer: MaskAnswer) -> u64 {
+pub fn mask_number(answer: MaskAnswer) -> u64 {
     match answer {
         MaskAnswer::Mask(mask) => mask as u64,
         MaskAnswer::Refused(_) => 0,

@@ -1,6 +1,6 @@
 pub mod Growing
 pub mod Waits
 pub mod Chains
-pub mod Joining
+pub mod AllReached
 pub mod Answers
 pub mod WholeBoard

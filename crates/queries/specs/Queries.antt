@@ -1,6 +1,6 @@
 -- The state of a processor, its direct waits, and all that it reaches. Specification, section 7.
-use Prim.Native.Nat.{ℕ, zero, suc, _*_, _/_, _%_}
-use mathlib.Core.Bool.{Bool, true, false, cond, _&&_, _||_}
+use Prim.Native.Nat.{ℕ, zero, suc}
+use mathlib.Core.Bool.{Bool, true, false, _&&_, _||_}
 use mathlib.Core.List.{List}
 use mathlib.Core.Path.{_≡_}
 use lib.ListN.{length}
@@ -9,12 +9,12 @@ use Rattle.refusals.specs.Number.{numberOf}
 use Rattle.refusals.specs.Due.{Said, firstOf, said}
 use Rattle.encoding.specs.Buffers.{roomFault, bufferAfter}
 use Rattle.plans.specs.Entries.{slots}
-use Rattle.conflicts.specs.Conflict.{tabulate}
 use Rattle.states.specs.declared.Board.{Board}
 use Rattle.states.specs.declared.State.{State}
 use Rattle.states.specs.Faults.{processorFault}
 use Rattle.acting.specs.Calls.{factsOf, phasesOf}
-use Rattle.wait_listing.specs.Listing.{stateIn}
+use Rattle.wait_listing.specs.Listing.{stateIn, maskSize}
+use Rattle.reaching.specs.Rows.{wordsOf, wordsSize}
 use Rattle.waiting.specs.Waits.{waitsIn}
 use Rattle.queries.specs.declared.Phase.{Phase}
 use Rattle.queries.specs.declared.PhaseAnswer.{PhaseAnswer}
@@ -67,14 +67,15 @@ chained b s (suc n) p q = waitsFor b s p q || some slots (λ r. waitsFor b s p r
 unfoldable pub reaches : Board → State → ℕ → ℕ → Bool
 reaches b s p q = chained b s slots p q
 
--- Clause 7.4: the scratch has a byte for each pair p and q, the one at 16p + q: 1 where p reaches q, else 0.
+-- Clause 7.4: the scratch has a word for each processor, of as many bytes as a mask takes: in word p bit q is set where p
+-- reaches q, else clear.
 abbrev pub scratchSize : ℕ
-scratchSize = slots * slots
+scratchSize = wordsSize maskSize
 
 unfoldable pub reachBytes : Board → State → List ℕ
-reachBytes b s = tabulate scratchSize (λ k. cond (reaches b s (k / slots) (k % slots)) 1 0)
+reachBytes b s = wordsOf maskSize slots (λ p. maskOf slots (reaches b s p))
 
--- Clauses 7.5, 7.4 and 8.2: first 11 for the processor, then 16 for a scratch of fewer than 256 bytes.
+-- Clauses 7.5, 7.4 and 8.2: first 11 for the processor, then 16 for a scratch of fewer than 32 bytes.
 unfoldable pub reachFault : Board → ℕ → List ℕ → ℕ
 reachFault b p scratch = firstOf (processorFault (b .terms) p) (roomFault scratchSize (length scratch) 0)
 
@@ -82,6 +83,6 @@ reachFault b p scratch = firstOf (processorFault (b .terms) p) (roomFault scratc
 abbrev pub reachQuery : Board → State → ℕ → List ℕ → Said
 reachQuery b s p scratch = said (reachFault b p scratch) (maskOf slots (reaches b s p))
 
--- Clauses 7.4 and 7.5: the scratch after the query. Bytes behind the first 256 stay, and on a refusal all do.
+-- Clauses 7.4 and 7.5: the scratch after the query. Bytes behind the first 32 stay, and on a refusal all do.
 unfoldable pub reachScratch : Board → State → ℕ → List ℕ → List ℕ
 reachScratch b s p scratch = bufferAfter (reachFault b p scratch) (reachBytes b s) scratch 0

@@ -1,6 +1,7 @@
 // The refusals of the queries: 11, then 16. Specification, clause 7.5.
 use encoding::check_room;
 use plans::SLOTS;
+use reaching::ROOM;
 use refusals::Refusal;
 use refusals::Verdict;
 use refusals::first_of;
@@ -12,9 +13,6 @@ ghost use Rattle.refusals.specs.Due.{firstOf};
 ghost use Rattle.encoding.specs.Buffers.{roomFault};
 ghost use Rattle.states.specs.Faults.{processorFault};
 ghost use Rattle.queries.specs.Queries.{scratchSize};
-
-// The bytes of the scratch that are written: one for each pair of processors.
-const ROOM: usize = SLOTS * SLOTS;
 
 // Refuses by 11 a processor that is not the plan's.
 pub fn check_processor(terms: Terms, processor: u8) -> Verdict

@@ -1,14 +1,14 @@
 // Who holds, who waits, and for whom: what a viewer asks of a state. Nothing is changed.
 mod checks;
 mod direct;
-mod reaching;
+mod reached;
 mod whole_board;
 
 use checks::check_processor;
 pub use direct::direct_waits;
 use masks::has32;
 use plans::SLOTS;
-pub use reaching::reach;
+pub use reached::reach;
 use refusals::Refusal;
 use refusals::Verdict;
 use settling::Phases;

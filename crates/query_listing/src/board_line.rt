@@ -28,7 +28,8 @@ fn size_of(processors: u8) -> usize
     }
 }
 
-fn print_bytes(bytes: &[u8]) {
+// Two hexadecimal digits for each byte.
+pub fn print_bytes(bytes: &[u8]) {
     let mut i = 0;
     while i < bytes.len() {
         io::print_hex(STDOUT_FILENO, wide(bytes[i]), 2);

@@ -1,7 +1,8 @@
 // Replays a log from standard input, and after each call prints what the queries answer for every processor and
-// one past the last: its number, state, direct waits and reach; then the bytes of the whole board's list. A test
-// program: its output is compared with another's.
+// one past the last: its number, state, direct waits and reach; then the bytes of the whole board's list, and those of
+// a scratch after a reach. A test program: its output is compared with another's.
 mod board_line;
+mod scratch_line;
 
 use encoding::Outcome;
 use libc::STDIN_FILENO;
@@ -17,6 +18,7 @@ use logs::RECORD_BYTES;
 use plans::SLOTS;
 use queries::MaskAnswer;
 use queries::PhaseAnswer;
+use reaching::ROOM;
 use refusals::Refusal;
 use replay::RanBlock;
 use states::Board;
@@ -46,9 +48,9 @@ fn print_mask(answer: MaskAnswer) {
     }
 }
 
-// The scratch is the largest that a reach needs, so that none is refused for it.
+// The scratch is as large as a reach needs, so that none is refused for it.
 fn print_query(board: Board, state: State, processor: u8) {
-    let mut scratch = [0u8; SLOTS * SLOTS];
+    let mut scratch = [0u8; ROOM];
     io::print_decimal(STDOUT_FILENO, processor as u64);
     let phase = queries::phase_of(board, state, processor);
     match phase {
@@ -88,6 +90,7 @@ fn print_call(board: Board, state: State, bytes: &[u8], out: &mut [u8]) -> RanBl
         let after = ran.state;
         print_queries(board, after);
         board_line::print_board_line(board, after);
+        scratch_line::print_scratch_line(board, after);
     }
     ran
 }

@@ -101,32 +101,32 @@ fn four_calls(board: Board, fresh: State) -> State {
     d.state
 }
 
-fn print_digit(byte: u8) {
-    io::print_decimal(STDOUT_FILENO, byte as u64);
+fn print_digits(byte: u8) {
+    io::print_hex(STDOUT_FILENO, byte as u64, 2);
 }
 
-// The first bytes of the scratch: 16 p + q is 1 where p reaches q.
+// The bytes of the scratch: a word for each processor, low byte first.
 fn print_bytes(scratch: &[u8]) {
     let mut i = 0;
     while i < scratch.len() {
-        print_digit(scratch[i]);
+        print_digits(scratch[i]);
         i += 1;
     }
     io::write_all(STDOUT_FILENO, b"\n");
 }
 
-// Clauses 7.4 and 7.5: too short a scratch is refused and stays, 11 comes before 16, the byte behind 256 stays.
+// Clauses 7.4 and 7.5: a scratch of 31 is refused and stays, 11 comes before 16, 32 are taken, the byte behind them stays.
 fn print_scratches(board: Board, state: State) {
-    let mut short = [7u8; 255];
+    let mut short = [7u8; 31];
     print_mask(queries::reach(board, state, 2, &mut short));
     print_mask(queries::reach(board, state, 4, &mut short));
     print_byte(short[0]);
-    print_byte(short[254]);
+    print_byte(short[30]);
     io::write_all(STDOUT_FILENO, b"\n");
-    let mut long = [7u8; 257];
+    let mut long = [7u8; 33];
     print_mask(queries::reach(board, state, 2, &mut long));
-    print_byte(long[255]);
-    print_byte(long[256]);
+    print_byte(long[31]);
+    print_byte(long[32]);
     io::write_all(STDOUT_FILENO, b"\n");
     print_mask(queries::reach(board, state, 16, &mut long));
     io::write_all(STDOUT_FILENO, b"\n");
@@ -137,7 +137,7 @@ fn main() {
     let board = fresh.board;
     let start = fresh.state;
     let state = four_calls(board, start);
-    let mut scratch = [7u8; 256];
+    let mut scratch = [7u8; 32];
     print_all(board, state, 0, &mut scratch);
     print_all(board, state, 1, &mut scratch);
     print_all(board, state, 2, &mut scratch);

@@ -1,5 +1,5 @@
--- Parts of one size, one after the other: how long they are together, one part more, and where each lies.
--- Assumes nothing.
+-- Parts of one size, one after the other: how long they are together, one part more, where each lies, and
+-- one part more stored. Assumes nothing.
 use Prim.Native.Nat.{ℕ, zero, suc, _+_, _*_, _≤_, _<_}
 use mathlib.Core.Path.{_≡_, refl, sym, ap, ap₂, _∙_}
 use mathlib.Core.List.{List, _++_}
@@ -8,9 +8,10 @@ use native.Mathlib.Nat.{le-refl, le-step, le-of-suc-le-suc, not-suc-le-zero, eq-
 use native.Mathlib.Numerals.{add-one}
 use native.Mathlib.Omega.{arith}
 use lib.ListN.{length, take, drop, length-append, length-drop}
-use lib.Seq.{take-append-le, drop-append-le, take-all, drop-at}
+use lib.Seq.{sets, take-append-le, drop-append-le, take-all, drop-at}
 use Rattle.encoding.specs.Numbers.{bytesOf}
 use Rattle.encoding.proofs.Numbers.{length-bytesOf}
+use Rattle.encoding.proofs.Stores.{sets-append}
 use Rattle.wait_listing.specs.Listing.{partBytes, partSize, inTurn}
 
 pub in-turn-more : (n : ℕ) (f : ℕ → List ℕ) → inTurn (n + 1) f ≡ inTurn n f ++ f n
@@ -55,3 +56,14 @@ module _ (c : ℕ) (f : ℕ → List ℕ) (size : (p : ℕ) → length (f p) ≡
   part-at zero p l = absurd (not-suc-le-zero l)
   part-at (suc n) p l =
       ⊎-elim (last-part n p) (λ h. part-before n p h ∙ part-at n p h) (eq-or-lt-of-le (le-of-suc-le-suc l))
+
+  -- A turn stores the next part, where the first one lies at `at`.
+  pub turn-stores : (at n : ℕ) (l now next : List ℕ) → now ≡ sets l at (inTurn n f) → next ≡ sets now (at + c * n) (f n)
+      → next ≡ sets l at (inTurn (n + 1) f)
+  turn-stores at n l now next so-far stored =
+      let place : at + length (inTurn n f) ≡ at + c * n = ap (λ (x : ℕ). at + x) (length-in-turn n) in
+      stored
+      ∙ ap (λ x. sets x (at + c * n) (f n)) so-far
+      ∙ ap (λ (x : ℕ). sets (sets l at (inTurn n f)) x (f n)) (sym place)
+      ∙ sym (sets-append l at (inTurn n f) (f n))
+      ∙ ap (sets l at) (sym (in-turn-more n f))

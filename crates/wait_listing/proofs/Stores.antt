@@ -16,7 +16,7 @@ use Rattle.encoding.proofs.Numbers.{length-bytesOf}
 use Rattle.encoding.proofs.Room.{room-fits, stored-where-fits}
 use Rattle.encoding.proofs.Stores.{sets-append, sets-overwritten}
 use Rattle.wait_listing.specs.Listing.{partBytes, inTurn, partSize, listSize, listBytes, listFault, listBuffer}
-use Rattle.wait_listing.proofs.InTurn.{in-turn-more, in-turn-agree, length-in-turn}
+use Rattle.wait_listing.proofs.InTurn.{in-turn-agree, length-in-turn}
 
 -- The stores of a part: state, entry, four bytes and k bytes.
 module _ (k state entry waited waits : ℕ) (l : List ℕ) (at : ℕ) where
@@ -57,17 +57,6 @@ room-for-list k count size verdict checked e =
     omega (arith, room-fits (listSize k count) size 0 (sym checked ∙ ap verdictNumber e))
 
 module _ (k : ℕ) (f : ℕ → List ℕ) (size : (p : ℕ) → length (f p) ≡ partSize k) (l : List ℕ) where
-  -- A turn stores the next part.
-  pub turn-stores : (n : ℕ) (now next : List ℕ) → now ≡ sets l 1 (inTurn n f) → next ≡ sets now (1 + partSize k * n) (f n)
-      → next ≡ sets l 1 (inTurn (n + 1) f)
-  turn-stores n now next so-far stored =
-      let place : 1 + length (inTurn n f) ≡ 1 + partSize k * n = ap (λ (x : ℕ). 1 + x) (length-in-turn (partSize k) f size n) in
-      stored
-      ∙ ap (λ x. sets x (1 + partSize k * n) (f n)) so-far
-      ∙ ap (λ (x : ℕ). sets (sets l 1 (inTurn n f)) x (f n)) (sym place)
-      ∙ sym (sets-append l 1 (inTurn n f) (f n))
-      ∙ ap (sets l 1) (sym (in-turn-more n f))
-
   -- The count and all parts, where there is room for them, are the list.
   pub list-stores : (m : ℕ) → listSize k m ≤ length l → sets (set l 0 m) 1 (inTurn m f) ≡ overwritten l 0 (listBytes m f)
   unfolding listBytes

@@ -20,7 +20,7 @@ ghost use Rattle.wait_listing.specs.Listing.{stateIn, maskSize, listedOf
 ghost use Rattle.wait_listing.specs.Listing.{partSize, listSize, listFault, listBuffer};
 
 // The bytes of a mask, of a part, and the most ticks that four bytes show.
-const MASK_BYTES: usize = 2;
+pub const MASK_BYTES: usize = 2;
 
 const PART_BYTES: usize = 6 + MASK_BYTES;
 

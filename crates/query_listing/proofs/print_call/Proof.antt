@@ -31,6 +31,9 @@ print-queries-requires c κs = search needs
 print-board-line-requires : tie.Need-print-board-line-requires
 print-board-line-requires c κs = search needs
 
+print-scratch-line-requires : tie.Need-print-scratch-line-requires
+print-scratch-line-requires c κs = search needs
+
 same-length : tie.Need-same-length
 same-length c = search needs
 
@@ -53,6 +56,7 @@ print-call-spec =
     write-all-requires
     print-queries-requires
     print-board-line-requires
+    print-scratch-line-requires
     same-length
     returns
     same-length-2

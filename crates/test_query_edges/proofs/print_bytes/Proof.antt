@@ -15,11 +15,11 @@ abbrev μ-loop : tie.MeasureT-loop
 loop-holds : tie.Need-loop-holds Inv-loop μ-loop
 loop-holds c = search needs
 
-shared-slice-read-print-digit : tie.Need-shared-slice-read-print-digit Inv-loop μ-loop
-shared-slice-read-print-digit c = search needs
+shared-slice-read-print-digits : tie.Need-shared-slice-read-print-digits Inv-loop μ-loop
+shared-slice-read-print-digits c = search needs
 
-print-digit-requires : tie.Need-print-digit-requires Inv-loop μ-loop
-print-digit-requires c κs = search needs
+print-digits-requires : tie.Need-print-digits-requires Inv-loop μ-loop
+print-digits-requires c κs = search needs
 
 add-i : tie.Need-add-i Inv-loop μ-loop
 add-i c = search needs
@@ -46,8 +46,8 @@ print-bytes-spec =
     Inv-loop
     μ-loop
     loop-holds
-    shared-slice-read-print-digit
-    print-digit-requires
+    shared-slice-read-print-digits
+    print-digits-requires
     add-i
     loop-less
     loop-again

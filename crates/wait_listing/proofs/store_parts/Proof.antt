@@ -6,9 +6,8 @@ use native.Mathlib.Omega.{arith}
 use lib.ListN.{length}
 use lib.Seq.{sets, length-sets}
 use Rattle.plans.specs.Entries.{slots}
-use Rattle.wait_listing.specs.Listing.{maskSize, entryIn, waitedIn, partIn, inTurn, listSize}
-use Rattle.wait_listing.proofs.InTurn.{length-part}
-use Rattle.wait_listing.proofs.Stores.{turn-stores}
+use Rattle.wait_listing.specs.Listing.{maskSize, entryIn, waitedIn, partIn, inTurn, partSize, listSize}
+use Rattle.wait_listing.proofs.InTurn.{length-part, turn-stores}
 use borrow.Author.Needs.{needs}
 use Rattle.wait_listing.proofs.store_parts.Statement.{statement}
 use Rattle.wait_listing.proofs.store_parts.Tie as tie
@@ -37,8 +36,8 @@ loop-again c =
     let part = stored .store-part .ensures in (
       omega arith,
       ap length part ∙ simp length-sets (loop .inv .1),
-      turn-stores maskSize (partIn maskSize (a .phases) (a .last) (a .entries .now) (a .since .now) (a .waits .now))
-          (λ p. length-part maskSize _ _ _ _) (a .buffer .now) (loop .i) (loop .buffer) _ (loop .inv .2)
+      turn-stores (partSize maskSize) (partIn maskSize (a .phases) (a .last) (a .entries .now) (a .since .now) (a .waits .now))
+          (λ p. length-part maskSize _ _ _ _) 1 (loop .i) (a .buffer .now) (loop .buffer) _ (loop .inv .2)
           (rw (state .state-at .ensures, entry .entry-at .ensures, waited .waited-at .ensures) at part),
     )
 

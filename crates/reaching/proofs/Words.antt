@@ -1,0 +1,39 @@
+-- Words of one size in turn: how long they are together, and one word more stored. Assumes nothing.
+use Prim.Native.Nat.{ℕ, suc, _+_, _*_, _≤_, _<_}
+use mathlib.Core.Path.{_≡_, ap, _∙_}
+use mathlib.Core.List.{List}
+use native.Mathlib.Nat.{mul-le-mul-left}
+use native.Mathlib.Omega.{arith}
+use lib.ListN.{length}
+use lib.Seq.{sets, length-sets}
+use Rattle.encoding.specs.Numbers.{bytesOf}
+use Rattle.encoding.specs.Buffers.{roomFault, bufferAfter}
+use Rattle.encoding.proofs.Numbers.{length-bytesOf}
+use Rattle.encoding.proofs.Room.{stored-where-fits}
+use Rattle.wait_listing.proofs.InTurn.{in-turn-agree, length-in-turn, turn-stores}
+use Rattle.reaching.specs.Rows.{wordsOf}
+
+module _ (k : ℕ) (f : ℕ → ℕ) where
+  pub length-words : (n : ℕ) → length (wordsOf k n f) ≡ k * n
+  unfolding wordsOf
+  length-words = length-in-turn k (λ p. bytesOf k (f p)) (λ p. length-bytesOf k (f p))
+
+  -- What `write_number` leaves of word n, where all of m words have room.
+  pub word-stored : (m n : ℕ) (l now next : List ℕ) → n < m → k * m ≤ length l → length now ≡ length l
+      → now ≡ sets l 0 (wordsOf k n f)
+      → next ≡ bufferAfter (roomFault k (length now) (k * n)) (bytesOf k (f n)) now (k * n)
+      → (length next ≡ length l) × (next ≡ sets l 0 (wordsOf k (n + 1) f))
+  unfolding wordsOf
+  word-stored m n l now next low room size so-far written =
+      let fits : k * n + k ≤ length now = omega (arith, mul-le-mul-left k low) in
+      let stored = written ∙ stored-where-fits now (k * n) (bytesOf k (f n)) k (length-bytesOf k (f n)) fits in
+      let place : k * n ≡ 0 + k * n = omega arith in (
+        ap length stored ∙ length-sets now (k * n) (bytesOf k (f n)) ∙ size,
+        turn-stores k (λ p. bytesOf k (f p)) (λ p. length-bytesOf k (f p)) 0 n l now next so-far
+            (stored ∙ ap (λ (x : ℕ). sets now x (bytesOf k (f n))) place),
+      )
+
+pub words-agree : (k n : ℕ) (f g : ℕ → ℕ) → ((p : ℕ) → p < n → f p ≡ g p) → wordsOf k n f ≡ wordsOf k n g
+unfolding wordsOf
+words-agree k n f g same =
+    in-turn-agree n (λ p. bytesOf k (f p)) (λ p. bytesOf k (g p)) (λ p l. ap (bytesOf k) (same p l))

@@ -1,0 +1,81 @@
+// Reach in rows: row p is the mask of all that processor p reaches. The queries use it. Specification, clauses 7.3 and
+// 7.4.
+use encoding::Outcome;
+use encoding::has_room;
+use encoding::write_number;
+use masks::has32;
+use plans::SLOTS;
+use refusals::Refusal;
+use wait_listing::MASK_BYTES;
+use waiting::join_if;
+ghost use mathlib.Core.Path.{_≡_};
+ghost use Prim.Native.Nat.{_<_, _≤_};
+ghost use lib.ListN.{length, getD};
+ghost use lib.Seq.{sets};
+ghost use Rattle.refusals.specs.Due.{said};
+ghost use Rattle.encoding.specs.Buffers.{outcomeSays};
+ghost use Rattle.plans.specs.Entries.{slots};
+ghost use Rattle.conflicts.specs.Conflict.{tabulate};
+ghost use Rattle.wait_listing.specs.Listing.{maskSize};
+ghost use Rattle.reaching.specs.Rows.{joinedRow, rowsThrough, wordsOf, wordsSize, wordsFault, wordsScratch};
+
+// The bytes of the words of all rows.
+pub const ROOM: usize = MASK_BYTES * SLOTS;
+
+// Every row, joined with row k where k is in it.
+fn join_through(rows: [u32; SLOTS], k: usize) -> [u32; SLOTS]
+    requires { ⌜ k < slots ⌝ }
+    ensures { λ r. ⌜ r ≡ tabulate slots (joinedRow rows k) ⌝ }
+{
+    let row = rows[k];
+    let mut next: [u32; SLOTS] = [0; SLOTS];
+    let mut p: usize = 0;
+    while p < SLOTS {
+        next[p] = join_if(rows[p], row, has32(rows[p], k as u32));
+        p += 1;
+    }
+    next
+}
+
+// Clause 7.3: from the direct waits of all to all that each reaches. One pass for each processor that a chain may lead
+// through: the rows of those before it already have the chains through them.
+pub fn reach_rows(direct: [u32; SLOTS]) -> [u32; SLOTS]
+    ensures { λ r. ⌜ r ≡ rowsThrough slots direct ⌝ }
+{
+    let mut rows = direct;
+    let mut k: usize = 0;
+    while k < SLOTS {
+        let next = join_through(rows, k);
+        rows = next;
+        k += 1;
+    }
+    rows
+}
+
+// Stores the rows from the start of the scratch, a word for each.
+fn store_rows(rows: [u32; SLOTS], scratch: &mut [u8])
+    requires { ⌜ wordsSize maskSize ≤ length (now scratch) ⌝ }
+    ensures { λ _. ⌜
+        now (scratch .exit) ≡ sets (now (scratch .entry)) 0 (wordsOf maskSize slots (λ p. getD rows p 0))
+        ⌝ }
+{
+    let mut i: usize = 0;
+    while i < SLOTS {
+        write_number(rows[i] as u64, MASK_BYTES, scratch, MASK_BYTES * i);
+        i += 1;
+    }
+}
+
+// Clause 7.4: writes the rows into the scratch, a word for each, low byte first; bytes behind them stay. Refuses by 16
+// a scratch that is too short, and then writes nothing.
+pub fn write_rows(rows: [u32; SLOTS], scratch: &mut [u8]) -> Outcome
+    ensures outcome { λ r. ⌜ outcomeSays r ≡ said (wordsFault maskSize (now (scratch .entry))) (wordsSize maskSize) ⌝ }
+    ensures bytes { λ _. ⌜ now (scratch .exit) ≡ wordsScratch maskSize rows (now (scratch .entry)) ⌝ }
+{
+    if has_room(ROOM, scratch.len(), 0) {
+        store_rows(rows, scratch);
+        Outcome::Bytes(ROOM)
+    } else {
+        Outcome::Refused(Refusal::Room)
+    }
+}
