@@ -1,13 +1,13 @@
--- A decimal number stored from its last digit to its first. Assumes nothing.
+-- A decimal number stored two digits at a time, the last ones first. Assumes nothing.
 use Prim.Native.Nat.{ℕ, suc, _+_, _-_, _/_, _%_, _^_, _≤_, _<_}
 use native.Mathlib.Omega.{arith}
 use mathlib.Core.Path.{_≡_, refl, sym, _∙_}
 use mathlib.Core.List.{List, [], _∷_, _++_}
-use lib.ListN.{length, set, length-set}
-use lib.Seq.{sets}
-use Rattle.listings.specs.Digits.{decimal}
+use lib.ListN.{length}
+use lib.Seq.{sets, length-sets}
+use Rattle.digits.specs.Digits.{decimal}
 use Rattle.listings.specs.inner.Stored.{Stored}
-use Rattle.listings.proofs.Decimals.{decimal-one, decimal-more, length-more, some-digit}
+use Rattle.digits.proofs.Decimals.{decimal-two-more, length-two-more, some-digit}
 use Rattle.listings.proofs.Stores.{last-first}
 
 -- Of the number n the digits of `rest` are left to store, so many; storing them gives the whole.
@@ -24,21 +24,23 @@ all-to-store n l at size most e =
     record { most = most; some = omega (arith, some-digit n); within = omega arith; places = e; same = refl; stores = refl }
 
 module _ (n : ℕ) (l : List ℕ) (at : ℕ) (b : List ℕ) (rest left : ℕ) (h : ToStore n l at b rest left) where
-  pub one-digit-less : (x : ℕ) → 9 < rest → x ≡ 48 + rest % 10 → ToStore n l at (set b (at + (left - 1)) x) (rest / 10) (left - 1)
-  one-digit-less x more e =
-      let ten : 10 ≤ rest = omega arith in
-      let d : length (decimal rest) ≡ length (decimal (rest / 10)) + 1 = length-more rest ten (h .most) in
-      let p : left - 1 ≡ length (decimal (rest / 10)) = omega arith in
+  pub two-at-least : 99 < rest → 3 ≤ left
+  two-at-least more =
+      omega (arith, h .places, length-two-more rest (omega arith) (h .most), some-digit (rest / 100))
+
+  pub two-digits-less : (a : List ℕ) → 99 < rest → a ≡ sets b (at + (left - 2)) ((48 + rest % 100 / 10) ∷ (48 + rest % 100 % 10) ∷ []) → ToStore n l at a (rest / 100) (left - 2)
+  two-digits-less a more e =
+      let hundred : 100 ≤ rest = omega arith in
+      let d : length (decimal rest) ≡ length (decimal (rest / 100)) + 2 = length-two-more rest hundred (h .most) in
+      let p : left - 2 ≡ length (decimal (rest / 100)) = omega (arith, h .places) in
       record {
-        most = omega arith;
-        some = omega (arith, some-digit (rest / 10));
-        within = omega arith;
+        most = omega (arith, h .most);
+        some = omega (arith, some-digit (rest / 100));
+        within = omega (arith, h .within);
         places = p;
-        same = simp length-set (h .same);
-        stores = rw (p, e, last-first b at (decimal (rest / 10)) (48 + rest % 10), ← decimal-more rest ten (h .most)) (h .stores);
+        same = rw e (length-sets b (at + (left - 2)) ((48 + rest % 100 / 10) ∷ (48 + rest % 100 % 10) ∷ []) ∙ h .same);
+        stores = rw (e, p, last-first b at (decimal (rest / 100)) ((48 + rest % 100 / 10) ∷ (48 + rest % 100 % 10) ∷ []), ← decimal-two-more rest hundred (h .most)) (h .stores);
       }
 
-  pub last-digit : (x size : ℕ) → rest ≤ 9 → x ≡ 48 + rest → size ≡ length (decimal n) → Stored (decimal n) l at (at + size) (set b at x)
-  last-digit x size few e s =
-      let ten : rest < 10 = omega arith in
-      record { place = rw s refl; stores = rw e (rw (decimal-one rest ten) at (h .stores)) }
+  pub last-digits : (a : List ℕ) (size : ℕ) → a ≡ sets b at (decimal rest) → size ≡ length (decimal n) → Stored (decimal n) l at (at + size) a
+  last-digits a size e s = record { place = rw s refl; stores = e ∙ h .stores }

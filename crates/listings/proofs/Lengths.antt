@@ -11,10 +11,13 @@ use Rattle.plans.specs.declared.Plan.{Plan}
 use Rattle.plans.specs.declared.Figures.{Figures}
 use Rattle.plans.specs.Figures.{readFigure, writeFigure, figuresOf}
 use Rattle.calls.specs.declared.Reply.{Reply}
+use Rattle.calls.specs.declared.Call.{Call}
 use Rattle.calls.specs.Replies.{Response, replySays}
-use Rattle.listings.specs.Digits.{decimal, hex4}
-use Rattle.listings.specs.Lines.{refusedWord, furtherFields, replyFields, refusalLine, firstLine}
-use Rattle.listings.specs.inner.Stored.{Stored, partsLine, numbersLine}
+use Rattle.encoding.specs.Numbers.{bytesOf}
+use Rattle.digits.specs.Digits.{decimal, hex4, hexPairs, maskBy}
+use Rattle.digits.proofs.Table.{mask-digits}
+use Rattle.listings.specs.Lines.{furtherFields, replyFields, refusalLine, firstLine, callLine, callLineBy}
+use Rattle.listings.specs.inner.Stored.{Stored, callLead, fieldsLine, doneFields, refusedFields, numbersLine}
 
 length-end : length (furtherFields []) ≡ 1
 unfolding furtherFields
@@ -24,37 +27,64 @@ length-field : (field : List ℕ) (later : List (List ℕ)) → length (furtherF
 unfolding furtherFields
 length-field field later = simp length-append (omega arith)
 
-length-hex4 : (mask : ℕ) → length (hex4 mask) ≡ 4
+-- A mask has four digits, by a table too.
+pub length-hex4 : (mask : ℕ) → length (hex4 mask) ≡ 4
 unfolding hex4
 length-hex4 mask = refl
 
--- ---- a reply
+pub length-mask : (pairs : List ℕ) (mask : ℕ) → length (maskBy pairs mask) ≡ 4
+unfolding maskBy bytesOf
+length-mask pairs mask = refl
 
-pub done-length : (granted entitled late : ℕ)
-    → length (furtherFields (hex4 granted ∷ hex4 entitled ∷ decimal late ∷ [])) ≡ 12 + length (decimal late)
-done-length granted entitled late = simp (length-field, length-end, length-hex4) (omega arith)
+-- ---- a call's line
 
-pub refused-length : (n : ℕ) → length (furtherFields (refusedWord ∷ decimal n ∷ [])) ≡ 10 + length (decimal n)
+pub done-length : (mask : ℕ → List ℕ) → ((x : ℕ) → length (mask x) ≡ 4) → (granted entitled late : ℕ)
+    → length (furtherFields (doneFields mask granted entitled late)) ≡ 12 + length (decimal late)
+done-length mask four granted entitled late =
+    simp (length-field, length-end) (omega (arith, four granted, four entitled))
+
+pub refused-length : (n : ℕ) → length (furtherFields (refusedFields n)) ≡ 10 + length (decimal n)
 refused-length n = simp (length-field, length-end) (omega arith)
 
-module _ (reply : Reply) where
-  pub length-done : (granted entitled late : ℕ) → reply ≡ Reply.Done granted entitled late
-      → length (furtherFields (replyFields (replySays reply))) ≡ 12 + length (decimal late)
-  length-done granted entitled late e = rw e (done-length granted entitled late)
+pub lead-length : (letter processor tick : ℕ)
+    → length (callLead letter processor tick) ≡ length (decimal tick) + 3 + length (decimal processor)
+lead-length letter processor tick = simp length-append (omega arith)
 
-  pub refused-fields : (r : Refusal) → reply ≡ Reply.Refused r → replyFields (replySays reply) ≡ refusedWord ∷ decimal (numberOf r) ∷ []
+pub length-fields : (letter processor tick : ℕ) (fields : List (List ℕ))
+    → length (fieldsLine letter processor tick fields)
+    ≡ length (decimal tick) + 3 + length (decimal processor) + length (furtherFields fields)
+length-fields letter processor tick fields = simp (length-append, length-field) (omega arith)
+
+-- The bytes that a call's line takes.
+module _ (letter processor tick : ℕ) (t p d : ℕ) (ticks : t ≡ length (decimal tick)) (width : p ≡ length (decimal processor)) where
+  pub done-size : (pairs : List ℕ) (granted entitled late : ℕ) → d ≡ length (decimal late)
+      → t + 15 + p + d ≡ length (fieldsLine letter processor tick (doneFields (maskBy pairs) granted entitled late))
+  done-size pairs granted entitled late e =
+      omega (
+        arith,
+        length-fields letter processor tick (doneFields (maskBy pairs) granted entitled late),
+        done-length (maskBy pairs) (length-mask pairs) granted entitled late,
+      )
+
+  pub refused-size : (n : ℕ) → d ≡ length (decimal n)
+      → t + 13 + p + d ≡ length (fieldsLine letter processor tick (refusedFields n))
+  refused-size n e = omega (arith, length-fields letter processor tick (refusedFields n), refused-length n)
+
+-- What a reply has behind the processor.
+module _ (mask : ℕ → List ℕ) (reply : Reply) where
+  pub done-fields : (granted entitled late : ℕ) → reply ≡ Reply.Done granted entitled late
+      → replyFields mask (replySays reply) ≡ doneFields mask granted entitled late
+  done-fields granted entitled late e = rw e refl
+
+  pub refused-fields : (r : Refusal) → reply ≡ Reply.Refused r → replyFields mask (replySays reply) ≡ refusedFields (numberOf r)
   refused-fields r e = rw (e, number-not-zero r)
 
-  pub length-refused : (r : Refusal) → reply ≡ Reply.Refused r
-      → length (furtherFields (replyFields (replySays reply))) ≡ 10 + length (decimal (numberOf r))
-  length-refused r e = rw (refused-fields r e) (refused-length (numberOf r))
+-- By the table of all bytes a call's line is the call's line.
+pub line-by-table : (c : Call) (reply : Response) → callLineBy hexPairs c reply ≡ callLine c reply
+unfolding callLineBy callLine
+line-by-table c reply = rw (mask-digits (reply .granted), mask-digits (reply .entitled)) refl
 
--- ---- a line
-
-pub length-parts : (letter processor tick : ℕ) (reply : Response)
-    → length (partsLine letter processor tick reply)
-    ≡ length (decimal tick) + 3 + length (decimal processor) + length (furtherFields (replyFields reply))
-length-parts letter processor tick reply = simp (length-append, length-field) (omega arith)
+-- ---- the other lines
 
 pub length-numbers : (m r n read write : ℕ)
     → length (numbersLine m r n read write)

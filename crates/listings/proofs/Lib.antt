@@ -1,4 +1,3 @@
-pub mod Decimals
 pub mod Stores
 pub mod Backwards
 pub mod Lengths

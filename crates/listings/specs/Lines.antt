@@ -11,7 +11,7 @@ use Rattle.plans.specs.Figures.{readFigure, writeFigure}
 use Rattle.calls.specs.declared.Call.{Call}
 use Rattle.calls.specs.Calls.{callSays}
 use Rattle.calls.specs.Replies.{Response}
-use Rattle.listings.specs.Digits.{decimal, hex4}
+use Rattle.digits.specs.Digits.{decimal, hex4, maskBy}
 
 -- Clauses 9.6 to 9.8: the words `processors`, `resources`, `entries`, `read`, `write`, `refused`.
 abbrev pub processorsWord : List ℕ
@@ -60,10 +60,10 @@ firstLine p =
 unfoldable pub refusalLine : ℕ → List ℕ
 refusalLine number = line refusedWord (decimal number ∷ [])
 
--- Clause 9.7: what stands behind the processor: both masks and late, or `refused` and the number.
-abbrev pub replyFields : Response → List (List ℕ)
-replyFields reply =
-    cond (eqb (reply .number) 0) (hex4 (reply .granted) ∷ hex4 (reply .entitled) ∷ decimal (reply .late) ∷ [])
+-- Clause 9.7: what stands behind the processor: both masks, in the given digits, and late, or `refused` and the number.
+abbrev pub replyFields : (ℕ → List ℕ) → Response → List (List ℕ)
+replyFields mask reply =
+    cond (eqb (reply .number) 0) (mask (reply .granted) ∷ mask (reply .entitled) ∷ decimal (reply .late) ∷ [])
     (refusedWord ∷ decimal (reply .number) ∷ [])
 
 -- Clause 9.7: the letter of a call, `i`, `c` or `w`.
@@ -75,7 +75,13 @@ letterOf (Call.Withdraw p t) = 119
 -- Clause 9.7: a call's line: its tick, its letter, its processor, and the reply's fields.
 unfoldable pub callLine : Call → Response → List ℕ
 callLine c reply =
-    line (decimal (callSays c .tick)) ((letterOf c ∷ []) ∷ decimal (callSays c .processor) ∷ replyFields reply)
+    line (decimal (callSays c .tick)) ((letterOf c ∷ []) ∷ decimal (callSays c .processor) ∷ replyFields hex4 reply)
+
+-- The same with the digits of masks from a table of pairs.
+unfoldable pub callLineBy : List ℕ → Call → Response → List ℕ
+callLineBy pairs c reply =
+    line (decimal (callSays c .tick))
+    ((letterOf c ∷ []) ∷ decimal (callSays c .processor) ∷ replyFields (maskBy pairs) reply)
 
 -- Clauses 9.9 and 2.12: a line goes into a lent buffer from a position. 16 where there is no room for it.
 abbrev pub lineFault : List ℕ → ℕ → ℕ → ℕ

@@ -1,70 +1,89 @@
 // Words, decimal numbers and masks, stored from a position on where they fit. Each gives the position after it.
+use digits::digit_count;
+use digits::pair_at;
 ghost use mathlib.Core.Path.{_≡_};
 ghost use mathlib.Core.List.{[], _∷_, _++_};
-ghost use Prim.Native.Nat.{_+_, _≤_, _<_};
-ghost use lib.ListN.{length};
-ghost use Rattle.listings.specs.Digits.{decimal, hexDigit, hex4};
+ghost use Prim.Native.Nat.{_+_, _/_, _%_, _≤_, _<_};
+ghost use lib.ListN.{length, getD};
+ghost use lib.Seq.{sets};
+ghost use Rattle.encoding.specs.Numbers.{bytesOf};
+ghost use Rattle.digits.specs.Digits.{decimal, maskBy};
 ghost use Rattle.listings.specs.inner.Stored.{Stored};
 
-// How many digits a decimal number has.
-pub fn digit_count(n: u64) -> usize
-    ensures is { λ r. ⌜ r ≡ length (decimal n) ⌝ }
-    ensures most { λ r. ⌜ r ≤ 20 ⌝ }
+// ---- decimal numbers
+
+// The two digits of a number below 100, the first a 0 where it is below 10.
+fn write_two(n: u64, buffer: &mut [u8], at: usize)
+    requires { ⌜ (n < 100) × (at + 2 ≤ length (now buffer)) ⌝ }
+    ensures { λ _. ⌜ now (buffer .exit) ≡ sets (now (buffer .entry)) at ((48 + n / 10) ∷ (48 + n % 10) ∷ []) ⌝ }
 {
-    let mut head = n;
-    let mut count: usize = 1;
-    while 9 < head {
-        head = head / 10;
-        count += 1;
+    buffer[at] = 48 + (n / 10) as u8;
+    buffer[at + 1] = 48 + (n % 10) as u8;
+}
+
+// A number below 100 without a leading 0.
+fn write_lead(n: u64, buffer: &mut [u8], at: usize)
+    requires { ⌜ (n < 100) × (at + length (decimal n) ≤ length (now buffer)) ⌝ }
+    ensures { λ _. ⌜ now (buffer .exit) ≡ sets (now (buffer .entry)) at (decimal n) ⌝ }
+{
+    if 9 < n {
+        write_two(n, buffer, at);
+    } else {
+        buffer[at] = 48 + n as u8;
     }
-    count
 }
 
-// The byte of a decimal digit.
-fn digit(d: u64) -> u8
-    requires { ⌜ d < 10 ⌝ }
-    ensures { λ r. ⌜ r ≡ 48 + d ⌝ }
-{
-    48 + d as u8
-}
-
-// The byte of a hexadecimal digit, lower case.
-fn hex_digit(d: u32) -> u8
-    requires { ⌜ d < 16 ⌝ }
-    ensures { λ r. ⌜ r ≡ hexDigit d ⌝ }
-{
-    if d < 10 { 48 + d as u8 } else { 87 + d as u8 }
-}
-
-// A decimal number, its last digit first.
-pub fn write_decimal(n: u64, buffer: &mut [u8], at: usize) -> usize
-    requires { ⌜ at + length (decimal n) ≤ length (now buffer) ⌝ }
+// A decimal number of so many digits, two at a time, the last ones first.
+pub fn write_digits(n: u64, size: usize, buffer: &mut [u8], at: usize) -> usize
+    requires { ⌜ (size ≡ length (decimal n)) × (at + size ≤ length (now buffer)) ⌝ }
     ensures { λ r. ⌜ Stored (decimal n) (now (buffer .entry)) at r (now (buffer .exit)) ⌝ }
 {
-    let size = digit_count(n);
     let mut rest = n;
     let mut left = size;
-    while 9 < rest {
-        left -= 1;
-        buffer[at + left] = digit(rest % 10);
-        rest = rest / 10;
+    while 99 < rest {
+        left -= 2;
+        write_two(rest % 100, buffer, at + left);
+        rest = rest / 100;
     }
-    buffer[at] = digit(rest);
+    write_lead(rest, buffer, at);
     at + size
 }
 
-// A space and the four digits of a mask.
-pub fn write_mask(mask: u32, buffer: &mut [u8], at: usize) -> usize
+// ---- masks
+
+// Two digits that lie in one number, the first in its low byte.
+fn write_pair(pair: u16, buffer: &mut [u8], at: usize)
+    requires { ⌜ at + 2 ≤ length (now buffer) ⌝ }
+    ensures { λ _. ⌜ now (buffer .exit) ≡ sets (now (buffer .entry)) at (bytesOf 2 pair) ⌝ }
+{
+    buffer[at] = (pair % 256) as u8;
+    buffer[at + 1] = (pair / 256) as u8;
+}
+
+// The two digits of a byte, from a table of pairs.
+fn write_byte(pairs: &[u16], byte: u8, buffer: &mut [u8], at: usize)
+    requires { ⌜ at + 2 ≤ length (now buffer) ⌝ }
+    ensures { λ _. ⌜
+        now (buffer .exit) ≡ sets (now (buffer .entry)) at (bytesOf 2 (getD (now (pairs .entry)) byte 0))
+        ⌝ }
+{
+    write_pair(pair_at(pairs, byte), buffer, at)
+}
+
+// A space and the four digits of a mask, byte by byte.
+pub fn write_mask(pairs: &[u16], mask: u32, buffer: &mut [u8], at: usize) -> usize
     requires { ⌜ at + 5 ≤ length (now buffer) ⌝ }
-    ensures { λ r. ⌜ Stored (32 ∷ hex4 mask) (now (buffer .entry)) at r (now (buffer .exit)) ⌝ }
+    ensures { λ r. ⌜
+        Stored (32 ∷ maskBy (now (pairs .entry)) mask) (now (buffer .entry)) at r (now (buffer .exit))
+        ⌝ }
 {
     buffer[at] = 32;
-    buffer[at + 1] = hex_digit(mask / 4096 % 16);
-    buffer[at + 2] = hex_digit(mask / 256 % 16);
-    buffer[at + 3] = hex_digit(mask / 16 % 16);
-    buffer[at + 4] = hex_digit(mask % 16);
+    write_byte(pairs, (mask / 256 % 256) as u8, buffer, at + 1);
+    write_byte(pairs, (mask % 256) as u8, buffer, at + 3);
     at + 5
 }
+
+// ---- words
 
 // The bytes of a word.
 fn write_word(word: &[u8], buffer: &mut [u8], at: usize) -> usize
@@ -85,7 +104,7 @@ pub fn write_labelled(word: &[u8], n: u64, buffer: &mut [u8], at: usize) -> usiz
     ensures { λ r. ⌜ Stored (now (word .entry) ++ decimal n) (now (buffer .entry)) at r (now (buffer .exit)) ⌝ }
 {
     let next = write_word(word, buffer, at);
-    write_decimal(n, buffer, next)
+    write_digits(n, digit_count(n), buffer, next)
 }
 
 // The same and the line feed: a line's end.

@@ -2,10 +2,11 @@
 // A line's length is worked out first, so that a buffer that is too short is refused before a byte is written.
 use calls::Call;
 use calls::Reply;
+use digits::digit_count;
+use digits::hex_pairs;
 use encoding::Outcome;
 use encoding::has_room;
-use fields::digit_count;
-use fields::write_decimal;
+use fields::write_digits;
 use fields::write_labelled;
 use fields::write_last;
 use fields::write_mask;
@@ -20,10 +21,10 @@ ghost use lib.ListN.{length};
 ghost use Rattle.refusals.specs.Number.{numberOf};
 ghost use Rattle.encoding.specs.Buffers.{outcomeSays};
 ghost use Rattle.calls.specs.Replies.{replySays};
-ghost use Rattle.listings.specs.Digits.{decimal};
+ghost use Rattle.digits.specs.Digits.{decimal, maskBy};
 ghost use Rattle.listings.specs.Lines.{entriesWord, readWord, writeWord, furtherFields, replyFields};
-ghost use Rattle.listings.specs.Lines.{firstLine, callLine, refusalLine, lineSays, lineBuffer};
-ghost use Rattle.listings.specs.inner.Stored.{Stored, numbersLine, partsLine};
+ghost use Rattle.listings.specs.Lines.{firstLine, callLine, callLineBy, refusalLine, lineSays, lineBuffer};
+ghost use Rattle.listings.specs.inner.Stored.{Stored, numbersLine, callLead, fieldsLine, doneFields, refusedFields};
 
 mod fields;
 
@@ -113,44 +114,108 @@ pub fn first_line(plan: Plan, buffer: &mut [u8], at: usize) -> Outcome
 
 // ---- a call's line
 
-// How many bytes a reply takes, to the line's end.
-fn reply_size(reply: Reply) -> usize
-    ensures is { λ r. ⌜ r ≡ length (furtherFields (replyFields (replySays reply))) ⌝ }
-    ensures most { λ r. ⌜ r ≤ 32 ⌝ }
+// What every call's line begins with: the tick, which has so many digits, the letter and the processor.
+fn write_call(
+    letter: u8,
+    processor: u8,
+    tick: u64,
+    size: usize,
+    buffer: &mut [u8],
+    at: usize,
+) -> usize
+    requires { ⌜
+        (size ≡ length (decimal tick)) × (at + size + 3 + length (decimal processor) ≤ length (now buffer))
+        ⌝ }
+    ensures { λ r. ⌜ Stored (callLead letter processor tick) (now (buffer .entry)) at r (now (buffer .exit)) ⌝ }
 {
-    match reply {
-        Reply::Done {
-            granted,
-            entitled,
-            late,
-        } => 12 + digit_count(late as u64),
-        Reply::Refused(refusal) => 10 + digit_count(number(refusal) as u64),
-    }
+    let second = write_digits(tick, size, buffer, at);
+    write_labelled(&[b' ', letter, b' '], processor as u64, buffer, second)
 }
 
-// What stands after the processor.
-fn write_reply(reply: Reply, buffer: &mut [u8], at: usize) -> usize
-    requires { ⌜ at + length (furtherFields (replyFields (replySays reply))) ≤ length (now buffer) ⌝ }
+// What stands after the processor where the call is accepted.
+fn write_done(
+    pairs: &[u16],
+    granted: u32,
+    entitled: u32,
+    late: u8,
+    buffer: &mut [u8],
+    at: usize,
+) -> usize
+    requires { ⌜ at + 12 + length (decimal late) ≤ length (now buffer) ⌝ }
     ensures { λ r. ⌜
-        Stored (furtherFields (replyFields (replySays reply))) (now (buffer .entry)) at r (now (buffer .exit))
+        Stored (furtherFields (doneFields (maskBy (now (pairs .entry))) granted entitled late))
+        (now (buffer .entry)) at r (now (buffer .exit))
         ⌝ }
 {
-    match reply {
-        Reply::Done {
-            granted,
-            entitled,
-            late,
-        } => {
-            let second = write_mask(granted, buffer, at);
-            let third = write_mask(entitled, buffer, second);
-            write_last(b" ", late as u64, buffer, third)
-        }
-        Reply::Refused(refusal) => write_last(b" refused ", number(refusal) as u64, buffer, at),
+    let second = write_mask(pairs, granted, buffer, at);
+    let third = write_mask(pairs, entitled, buffer, second);
+    write_last(b" ", late as u64, buffer, third)
+}
+
+// The line of an accepted call.
+fn done_line(
+    pairs: &[u16],
+    letter: u8,
+    processor: u8,
+    tick: u64,
+    granted: u32,
+    entitled: u32,
+    late: u8,
+    buffer: &mut [u8],
+    at: usize,
+) -> Outcome
+    ensures outcome { λ r. ⌜
+        outcomeSays r
+        ≡ lineSays (fieldsLine letter processor tick (doneFields (maskBy (now (pairs .entry))) granted entitled late)) (length (now (buffer .entry))) at
+        ⌝ }
+    ensures bytes { λ _. ⌜
+        now (buffer .exit)
+        ≡ lineBuffer (fieldsLine letter processor tick (doneFields (maskBy (now (pairs .entry))) granted entitled late)) (now (buffer .entry)) at
+        ⌝ }
+{
+    let size = digit_count(tick);
+    let needed = size + 15 + digit_count(processor as u64) + digit_count(late as u64);
+    if has_room(needed, buffer.len(), at) {
+        let second = write_call(letter, processor, tick, size, buffer, at);
+        write_done(pairs, granted, entitled, late, buffer, second);
+        Outcome::Bytes(needed)
+    } else {
+        Outcome::Refused(Refusal::Room)
     }
 }
 
-// A call's line from its parts.
-fn parts_line(
+// The line of a call that the arbiter refuses by a number.
+fn refused_line(
+    letter: u8,
+    processor: u8,
+    tick: u64,
+    number: u8,
+    buffer: &mut [u8],
+    at: usize,
+) -> Outcome
+    ensures outcome { λ r. ⌜
+        outcomeSays r
+        ≡ lineSays (fieldsLine letter processor tick (refusedFields number)) (length (now (buffer .entry))) at
+        ⌝ }
+    ensures bytes { λ _. ⌜
+        now (buffer .exit)
+        ≡ lineBuffer (fieldsLine letter processor tick (refusedFields number)) (now (buffer .entry)) at
+        ⌝ }
+{
+    let size = digit_count(tick);
+    let needed = size + 13 + digit_count(processor as u64) + digit_count(number as u64);
+    if has_room(needed, buffer.len(), at) {
+        let second = write_call(letter, processor, tick, size, buffer, at);
+        write_last(b" refused ", number as u64, buffer, second);
+        Outcome::Bytes(needed)
+    } else {
+        Outcome::Refused(Refusal::Room)
+    }
+}
+
+// A call's line from its letter, its numbers and the reply.
+fn reply_line(
+    pairs: &[u16],
     letter: u8,
     processor: u8,
     tick: u64,
@@ -159,20 +224,65 @@ fn parts_line(
     at: usize,
 ) -> Outcome
     ensures outcome { λ r. ⌜
-        outcomeSays r ≡ lineSays (partsLine letter processor tick (replySays reply)) (length (now (buffer .entry))) at
+        outcomeSays r
+        ≡ lineSays (fieldsLine letter processor tick (replyFields (maskBy (now (pairs .entry))) (replySays reply))) (length (now (buffer .entry))) at
         ⌝ }
     ensures bytes { λ _. ⌜
-        now (buffer .exit) ≡ lineBuffer (partsLine letter processor tick (replySays reply)) (now (buffer .entry)) at
+        now (buffer .exit)
+        ≡ lineBuffer (fieldsLine letter processor tick (replyFields (maskBy (now (pairs .entry))) (replySays reply))) (now (buffer .entry)) at
         ⌝ }
 {
-    let needed = digit_count(tick) + 3 + digit_count(processor as u64) + reply_size(reply);
-    if has_room(needed, buffer.len(), at) {
-        let second = write_decimal(tick, buffer, at);
-        let third = write_labelled(&[b' ', letter, b' '], processor as u64, buffer, second);
-        write_reply(reply, buffer, third);
-        Outcome::Bytes(needed)
-    } else {
-        Outcome::Refused(Refusal::Room)
+    match reply {
+        Reply::Done {
+            granted,
+            entitled,
+            late,
+        } => done_line(
+            pairs,
+            letter,
+            processor,
+            tick,
+            granted,
+            entitled,
+            late,
+            buffer,
+            at,
+        ),
+        Reply::Refused(refusal) => {
+            refused_line(letter, processor, tick, number(refusal), buffer, at)
+        }
+    }
+}
+
+// Clause 9.7: a call's line, with the digits of masks from a lent table. A loop of calls lends that of `hex_pairs`.
+pub fn call_line_by(
+    pairs: &[u16],
+    call: Call,
+    reply: Reply,
+    buffer: &mut [u8],
+    at: usize,
+) -> Outcome
+    ensures outcome { λ r. ⌜
+        outcomeSays r
+        ≡ lineSays (callLineBy (now (pairs .entry)) call (replySays reply)) (length (now (buffer .entry))) at
+        ⌝ }
+    ensures bytes { λ _. ⌜
+        now (buffer .exit)
+        ≡ lineBuffer (callLineBy (now (pairs .entry)) call (replySays reply)) (now (buffer .entry)) at
+        ⌝ }
+{
+    match call {
+        Call::Issue {
+            processor,
+            entry,
+            tick,
+        } => reply_line(pairs, b'i', processor, tick, reply, buffer, at),
+        Call::Complete { processor, tick } => {
+            reply_line(pairs, b'c', processor, tick, reply, buffer, at)
+        }
+        Call::Withdraw { processor, tick } => {
+            reply_line(pairs, b'w', processor, tick, reply, buffer, at)
+        }
     }
 }
 
@@ -185,15 +295,8 @@ pub fn call_line(call: Call, reply: Reply, buffer: &mut [u8], at: usize) -> Outc
         now (buffer .exit) ≡ lineBuffer (callLine call (replySays reply)) (now (buffer .entry)) at
         ⌝ }
 {
-    match call {
-        Call::Issue {
-            processor,
-            entry,
-            tick,
-        } => parts_line(b'i', processor, tick, reply, buffer, at),
-        Call::Complete { processor, tick } => parts_line(b'c', processor, tick, reply, buffer, at),
-        Call::Withdraw { processor, tick } => parts_line(b'w', processor, tick, reply, buffer, at),
-    }
+    let pairs = hex_pairs();
+    call_line_by(&pairs, call, reply, buffer, at)
 }
 
 // ---- a refusal's line

@@ -16,7 +16,7 @@ use Rattle.acting.specs.Acts.{putIn, putLast, takenOut, stamped}
 use Rattle.acting.specs.Calls.{putState, takenState, done, settledDone, issued, left, completed, withdrawn}
 use Rattle.arbiter.specs.Fresh.{boardOf}
 use Rattle.logs.specs.Records.{fieldsIn, recordFault}
-use Rattle.listings.specs.Digits.{digits, hex4}
+use Rattle.digits.specs.Digits.{digits, hex4}
 use Rattle.listings.specs.Lines.{furtherFields, firstLine, refusalLine, callLine}
 use Rattle.replay.specs.Listing.{callsListing, listingOf}
 

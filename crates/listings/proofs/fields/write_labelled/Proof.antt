@@ -5,8 +5,8 @@ use Rattle.listings.proofs.fields.write_labelled.Statement.{statement}
 use Rattle.listings.proofs.fields.write_labelled.Tie as tie
 
 returns : tie.Need-returns
-returns c = then-stored (c .before .before .before .before .before .before .write-word .ensures) (c .before .before .write-decimal .ensures)
+returns c = then-stored (c .before .before .before .before .before .before .before .write-word .ensures) (c .before .before .write-digits .ensures)
 
 pub write-labelled-spec : {M : Type 1} → statement M
 write-labelled-spec =
-    tie.close (tie.spec (λ c κs. search needs) (λ c κs. search needs) (λ c. search needs) returns)
+    tie.close (tie.spec (λ c κs. search needs) (λ c κs. search needs) (λ c κs. search needs) (λ c. search needs) returns)

@@ -2,7 +2,7 @@
 use native.Mathlib.Omega.{arith}
 use mathlib.Core.List.{append-assoc}
 use lib.ListN.{length-append}
-use Rattle.listings.specs.Digits.{decimal}
+use Rattle.digits.specs.Digits.{decimal}
 use Rattle.listings.proofs.Stores.{one-stored, then-stored}
 use borrow.Author.Needs.{needs}
 use Rattle.listings.proofs.fields.write_last.Statement.{statement}

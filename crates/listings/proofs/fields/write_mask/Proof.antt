@@ -1,4 +1,4 @@
--- `write_mask` meets its contract. Assumes nothing.
+-- `write_mask` meets its contract: the digits are those of the mask's two bytes. Assumes nothing.
 use native.Mathlib.Omega.{arith}
 use lib.ListN.{length-set}
 use Rattle.listings.proofs.Stores.{mask-stored}
@@ -6,38 +6,35 @@ use borrow.Author.Needs.{needs}
 use Rattle.listings.proofs.fields.write_mask.Statement.{statement}
 use Rattle.listings.proofs.fields.write_mask.Tie as tie
 
-slice-write-buffer-2 : tie.Need-slice-write-buffer-2
-slice-write-buffer-2 c = simp length-set (omega arith)
+write-byte-requires : tie.Need-write-byte-requires
+write-byte-requires c κs = simp length-set (omega arith)
 
-slice-write-buffer-3 : tie.Need-slice-write-buffer-3
-slice-write-buffer-3 c = simp length-set (omega arith)
+write-byte-requires-2 : tie.Need-write-byte-requires-2
+write-byte-requires-2 c κs =
+    let a = c .before .before .before .before .before .before .before .args in
+    omega (arith, length-set (a .buffer .now) (a .at) 32)
 
-slice-write-buffer-4 : tie.Need-slice-write-buffer-4
-slice-write-buffer-4 c = simp length-set (omega arith)
-
-slice-write-buffer-5 : tie.Need-slice-write-buffer-5
-slice-write-buffer-5 c = simp length-set (omega arith)
+same-length : tie.Need-same-length
+same-length c =
+    let a = c .before .before .before .before .before .before .before .before .before .before .args in
+    omega (arith, length-set (a .buffer .now) (a .at) 32)
 
 returns : tie.Need-returns
-returns c = mask-stored _ _ _ _ _ _ _ (c .before .before .before .hex-digit .ensures) (c .before .before .hex-digit2 .ensures) (c .before .hex-digit3 .ensures) (c .hex-digit4 .ensures)
+returns c =
+    let low = c .before .before in
+    mask-stored _ _ _ _ _ _ (low .before .before .before .before .write-byte .ensures) (low .write-byte2 .ensures)
 
 pub write-mask-spec : {M : Type 1} → statement M
 write-mask-spec =
     tie.close
     (tie.spec
     (λ c. search needs)
-    (λ c κs. search needs)
-    (λ c. search needs)
-    slice-write-buffer-2
-    (λ c κs. search needs)
-    (λ c. search needs)
-    slice-write-buffer-3
-    (λ c κs. search needs)
-    (λ c. search needs)
-    slice-write-buffer-4
-    (λ c κs. search needs)
-    (λ c. search needs)
-    slice-write-buffer-5
     (λ c. search needs)
     (λ c. search needs)
+    write-byte-requires
+    (λ c. search needs)
+    (λ c. search needs)
+    write-byte-requires-2
+    (λ c. search needs)
+    same-length
     returns)

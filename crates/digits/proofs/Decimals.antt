@@ -1,14 +1,14 @@
--- Decimal numbers: one digit more, and how many digits there are. Assumes nothing.
+-- Decimal numbers: one digit more, two more, and how many digits there are. Assumes nothing.
 use Prim.Native.Nat.{ℕ, zero, suc, _+_, _*_, _/_, _%_, _^_, _≤_, _<_}
 use native.Mathlib.Nat.{pow-succ'}
 use native.Mathlib.Omega.{arith}
 use mathlib.Core.Path.{_≡_, refl, sym, ap, _∙_}
 use mathlib.Core.Bool.{Bool, true, false}
-use mathlib.Core.List.{List, [], _∷_, _++_}
+use mathlib.Core.List.{List, [], _∷_, _++_, append-assoc}
 use borrow.Author.Tests.{lt-ltb, le-ltb, ltb-true, ltb-false}
 use lib.Dec.{ltb}
 use lib.ListN.{length, length-append}
-use Rattle.listings.specs.Digits.{digits, decimal}
+use Rattle.digits.specs.Digits.{digits, decimal}
 
 one-digit : (k n : ℕ) → n < 10 → digits (suc k) n ≡ (48 + n) ∷ []
 unfolding digits
@@ -51,11 +51,37 @@ pub decimal-more : (n : ℕ) → 10 ≤ n → n < 10 ^ 20 → decimal n ≡ deci
 decimal-more n h most =
     more-digits 19 n h ∙ ap (λ ds. ds ++ ((48 + n % 10) ∷ [])) (sym (enough-digits 18 (n / 10) (tenth 19 n most)))
 
+-- Two digits at once: a number of two, and what stands before the last two of a longer one.
+pub decimal-two : (n : ℕ) → 10 ≤ n → n < 100 → decimal n ≡ (48 + n / 10) ∷ (48 + n % 10) ∷ []
+decimal-two n h most =
+    let small : n < 10 ^ 20 = omega arith in
+    let tens : n / 10 < 10 = omega arith in
+    rw (decimal-more n h small, decimal-one (n / 10) tens) refl
+
+pub decimal-two-more : (n : ℕ) → 100 ≤ n → n < 10 ^ 20
+    → decimal n ≡ decimal (n / 100) ++ ((48 + n % 100 / 10) ∷ (48 + n % 100 % 10) ∷ [])
+decimal-two-more n h most =
+    let ten : 10 ≤ n = omega arith in
+    let more : 10 ≤ n / 10 = omega arith in
+    let fewer : n / 10 < 10 ^ 20 = omega arith in
+    let hundreds : n / 10 / 10 ≡ n / 100 = omega arith in
+    let tens : n % 100 / 10 ≡ n / 10 % 10 = omega arith in
+    let ones : n % 100 % 10 ≡ n % 10 = omega arith in
+    rw (tens, ones)
+    (decimal-more n ten most
+    ∙ rw (decimal-more (n / 10) more fewer, hundreds) (append-assoc (decimal (n / 100)) ((48 + n / 10 % 10) ∷ []) ((48 + n % 10) ∷ [])))
+
 pub length-one : (n : ℕ) → n < 10 → length (decimal n) ≡ 1
 length-one n h = ap length (decimal-one n h)
 
 pub length-more : (n : ℕ) → 10 ≤ n → n < 10 ^ 20 → length (decimal n) ≡ length (decimal (n / 10)) + 1
 length-more n h most = ap length (decimal-more n h most) ∙ simp length-append
+
+pub length-two : (n : ℕ) → 10 ≤ n → n < 100 → length (decimal n) ≡ 2
+length-two n h most = ap length (decimal-two n h most)
+
+pub length-two-more : (n : ℕ) → 100 ≤ n → n < 10 ^ 20 → length (decimal n) ≡ length (decimal (n / 100)) + 2
+length-two-more n h most = ap length (decimal-two-more n h most) ∙ simp length-append
 
 at-least-one : (k n : ℕ) → 1 ≤ length (digits (suc k) n)
 at-least-one k n =
