@@ -1,5 +1,6 @@
 #!/usr/bin/env python3
-"""Write the stored logs: make_logs.py DIR. With --largest, write the log of 65,535 calls to standard output instead."""
+"""Write the stored logs: make_logs.py DIR. With --largest, write the log of 65,535 calls to standard output instead;
+with --largest CALLS, one like it of so many calls."""
 import pathlib
 import random
 import sys
@@ -148,16 +149,16 @@ def cuts():
         yield f"cut_{end:03}", whole[:end]
 
 
-def largest():
-    """65,535 calls on a saturated board: each processor completes as soon as it holds, as far as a guess goes."""
+def largest(calls=65535):
+    """Calls on a saturated board: each processor completes as soon as it holds, as far as a guess goes."""
     rng = random.Random(11)
     entries = [write([i, (i * 5) % 64], i + 1) if i % 3 == 0 else read([i, (i + 9) % 64], i + 1) for i in range(64)]
-    return log(plan(16, 64, entries), busy(rng, 16, entries, 65535))
+    return log(plan(16, 64, entries), busy(rng, 16, entries, calls))
 
 
 def main():
-    if sys.argv[1:] == ["--largest"]:
-        sys.stdout.buffer.write(largest())
+    if sys.argv[1] == "--largest":
+        sys.stdout.buffer.write(largest(*map(int, sys.argv[2:])))
         return
     folder = pathlib.Path(sys.argv[1])
     for name, data in [("plan_f", log(F, F_CALLS)), *refusals(), *boards(), *cuts()]:

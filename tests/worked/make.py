@@ -27,7 +27,7 @@ UNFOLDED = {
     "logs.specs.Records": "fieldsIn recordFault",
     "listings.specs.Digits": "digits hex4",
     "listings.specs.Lines": "furtherFields firstLine refusalLine callLine",
-    "replay.specs.Listing": "callsListing listingOf",
+    "whole_listing.specs.Listing": "callsListing listingOf",
 }
 
 

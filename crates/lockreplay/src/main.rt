@@ -1,16 +1,20 @@
 // `lockreplay`: a log on standard input, its listing on standard output.
-// A thin loop over `replay`: no contract can say what is read or written, so the work is done on slices there.
-// `replay/specs/Buffers.antt` has the same turns over the same buffers as a definition, which is proved to be the
-// listing.
+// A thin loop over `log_input` and `replay`: no contract can say what is read or written, so the work is done on slices
+// there. `whole_listing/specs/Arrivals.antt` has the same turns over the same buffers as a definition, which is proved
+// to be the listing.
 use encoding::Outcome;
+use libc::STDERR_FILENO;
 use libc::STDIN_FILENO;
 use libc::STDOUT_FILENO;
+use log_input::Fed;
+use log_input::bring_to_front;
+use log_input::copy_in;
+use log_input::due_size;
+use log_input::fill_plan;
+use log_input::fill_to;
 use logs::COUNT_BYTES;
 use logs::CountAnswer;
 use logs::RECORD_BYTES;
-use replay::BLOCK_ROOM;
-use replay::LINES_ROOM;
-use replay::PLAN_ROOM;
 use replay::begin;
 use replay::count;
 use replay::finish;
@@ -18,62 +22,43 @@ use replay::line_size;
 use replay::run;
 use states::Board;
 use states::State;
-ghost use mathlib.Core.Path.{_≡_};
-ghost use Prim.Native.Nat.{_-_, _≤_, min};
-ghost use lib.ListN.{length, drop};
-ghost use lib.Seq.{paste};
+use whole_listing::BLOCK_ROOM;
+use whole_listing::LINES_ROOM;
+use whole_listing::PLAN_ROOM;
+ghost use Prim.Native.Nat.{_≤_};
+ghost use lib.ListN.{length};
 ghost use Rattle.encoding.specs.Buffers.{outcomeSays};
 
-// Writes the line at the start of `out`, if there is one.
-fn show(output: i32, line: Outcome, out: &[u8])
+// Reads what is needed behind the bytes at hand. Where a read fails, standard error has why.
+fn feed(input: i32, block: &mut [u8], have: usize, needed: usize) -> Fed
+    ensures { λ r. ⌜ r .have ≤ length (now (block .exit)) ⌝ }
+{
+    let fed = fill_to(input, block, have, needed);
+    if fed.failed {
+        os::fail(b"lockreplay: standard input");
+    }
+    fed
+}
+
+// Writes lines, and says whether all of them were written. Where a write fails, standard error has why.
+fn put(output: i32, lines: &[u8]) -> bool {
+    if io::write_all(output, lines) {
+        return true;
+    }
+    os::fail(b"lockreplay: standard output");
+    false
+}
+
+// The same for the line at the start of `out`, if there is one.
+fn show(output: i32, line: Outcome, out: &[u8]) -> bool
     requires { ⌜ outcomeSays line .value ≤ length (now out) ⌝ }
 {
     let size = line_size(line);
-    io::write_all(output, &out[..size]);
+    put(output, &out[..size])
 }
 
-// Copies bytes to the front of the block, as many as it holds, and gives how many.
-fn copy_in(bytes: &[u8], block: &mut [u8]) -> usize
-    ensures size { λ r. ⌜ r ≡ min (length (now (bytes .entry))) (length (now (block .entry))) ⌝ }
-    ensures bytes { λ r. ⌜ now (block .exit) ≡ paste (now (block .entry)) 0 (now (bytes .entry)) r ⌝ }
-{
-    let most = if bytes.len() < block.len() {
-        bytes.len()
-    } else {
-        block.len()
-    };
-    let mut i = 0;
-    while i < most {
-        block[i] = bytes[i];
-        i += 1;
-    }
-    i
-}
-
-// Moves the bytes between two positions of the block to its front, and gives how many they are.
-fn move_to_front(block: &mut [u8], from: usize, have: usize) -> usize
-    requires { ⌜ (from ≤ have) × (have ≤ length (now block)) ⌝ }
-    ensures size { λ r. ⌜ r ≡ have - from ⌝ }
-    ensures bytes { λ r. ⌜ now (block .exit) ≡ paste (now (block .entry)) 0 (drop from (now (block .entry))) r ⌝ }
-{
-    let rest = have - from;
-    let mut i = 0;
-    while i < rest {
-        block[i] = block[from + i];
-        i += 1;
-    }
-    rest
-}
-
-// Fills the block behind its first bytes, and gives how many bytes it then has.
-fn fill(input: i32, block: &mut [u8], first: usize) -> usize
-    requires { ⌜ first ≤ length (now block) ⌝ }
-    ensures { λ r. ⌜ r ≤ length (now (block .exit)) ⌝ }
-{
-    first + io::read_full(input, &mut block[first..])
-}
-
-// The calls, block by block. A block that carries none out is the last: no call is left, or the input ended.
+// The calls, as they arrive: a record is waited for only where none is whole in the block, and after the last call any
+// byte. A block that carries no call out is the last: no call is left, or the input ended.
 fn replay_calls(
     input: i32,
     output: i32,
@@ -92,8 +77,8 @@ fn replay_calls(
     loop {
         let ran = run(board, current, left, &block[..have], out);
         let written = ran.written;
-        io::write_all(output, &out[..written]);
-        if ran.ended {
+        let shown = put(output, &out[..written]);
+        if ran.ended | !shown {
             return;
         }
         if ran.calls == 0 {
@@ -102,8 +87,12 @@ fn replay_calls(
         let after = ran.state;
         current = after;
         left -= ran.calls;
-        let rest = move_to_front(block, RECORD_BYTES * (ran.calls as usize), have);
-        have = fill(input, block, rest);
+        let rest = bring_to_front(block, RECORD_BYTES * (ran.calls as usize), have);
+        let fed = feed(input, block, rest, due_size(left));
+        if fed.failed {
+            return;
+        }
+        have = fed.have;
     }
     let line = finish(left, &block[..have], out);
     show(output, line, out);
@@ -120,28 +109,46 @@ fn replay_rest(
     out: &mut [u8],
 ) {
     let first = copy_in(bytes, block);
-    let have = fill(input, block, first);
+    let fed = feed(input, block, first, COUNT_BYTES);
+    if fed.failed {
+        return;
+    }
+    let have = fed.have;
     let counted = count(&block[..have], out);
     let line = counted.line;
-    show(output, line, out);
+    let shown = show(output, line, out);
     let calls = counted.calls;
     if let CountAnswer::Calls(left) = calls {
-        let rest = move_to_front(block, COUNT_BYTES, have);
-        replay_calls(input, output, board, state, left, block, rest, out);
+        if shown {
+            let rest = bring_to_front(block, COUNT_BYTES, have);
+            let fed = feed(input, block, rest, due_size(left));
+            if fed.failed {
+                return;
+            }
+            let filled = fed.have;
+            replay_calls(input, output, board, state, left, block, filled, out);
+        }
     }
 }
 
 // The plan goes into a buffer of its own, of which only the filled part is lent.
 fn replay_log(input: i32, output: i32, plan: &mut [u8], block: &mut [u8], out: &mut [u8]) {
-    let filled = io::read_full(input, plan);
+    let fed = fill_plan(input, plan);
+    if fed.failed {
+        os::fail(b"lockreplay: standard input");
+        return;
+    }
+    let filled = fed.have;
     let begun = begin(&plan[..filled], out);
     let line = begun.line;
-    show(output, line, out);
+    let shown = show(output, line, out);
     let board = begun.board;
     let state = begun.state;
     let outcome = begun.outcome;
     if let Outcome::Bytes(size) = outcome {
-        replay_rest(input, output, board, state, &plan[size..filled], block, out);
+        if shown {
+            replay_rest(input, output, board, state, &plan[size..filled], block, out);
+        }
     }
 }
 
@@ -153,6 +160,19 @@ fn replay(input: i32, output: i32) {
     replay_log(input, output, &mut plan, &mut block, &mut out);
 }
 
+fn help() {
+    io::write_all(STDERR_FILENO, b"usage: lockreplay < LOG\n");
+    io::write_all(
+        STDERR_FILENO,
+        b"Replays a log from standard input and writes its listing. It takes no arguments.\n",
+    );
+}
+
+// An argument is answered by the help, and nothing is read: a name would not be opened.
 fn main() {
-    replay(STDIN_FILENO, STDOUT_FILENO);
+    if os::arg_count() > 1 {
+        help();
+    } else {
+        replay(STDIN_FILENO, STDOUT_FILENO);
+    }
 }

@@ -1,8 +1,13 @@
-// Replays a short log from standard input, and after each call prints what the queries answer for every processor and
+// Replays a log from standard input, and after each call prints what the queries answer for every processor and
 // one past the last: its number, state, direct waits and reach. A test program: its output is compared with another's.
 use encoding::Outcome;
 use libc::STDIN_FILENO;
 use libc::STDOUT_FILENO;
+use log_input::bring_to_front;
+use log_input::copy_in;
+use log_input::due_size;
+use log_input::fill_plan;
+use log_input::fill_to;
 use logs::COUNT_BYTES;
 use logs::CountAnswer;
 use logs::RECORD_BYTES;
@@ -13,6 +18,9 @@ use refusals::Refusal;
 use replay::RanBlock;
 use states::Board;
 use states::State;
+use whole_listing::BLOCK_ROOM;
+use whole_listing::LINES_ROOM;
+use whole_listing::PLAN_ROOM;
 ghost use Prim.Native.Nat.{_≤_};
 ghost use lib.ListN.{length};
 ghost use Rattle.encoding.specs.Buffers.{outcomeSays};
@@ -80,50 +88,85 @@ fn print_call(board: Board, state: State, bytes: &[u8], out: &mut [u8]) -> RanBl
     ran
 }
 
-fn print_calls(board: Board, state: State, calls: u16, bytes: &[u8], out: &mut [u8]) {
+fn input_failed() {
+    os::fail(b"query_listing: standard input");
+}
+
+// The calls, one by one as they arrive.
+fn print_calls(
+    board: Board,
+    state: State,
+    calls: u16,
+    block: &mut [u8],
+    filled: usize,
+    out: &mut [u8],
+) {
     let mut current = state;
     let mut left = calls;
-    let mut from: usize = 0;
-    while 0 < left && RECORD_BYTES <= bytes.len() - from {
-        let ran = print_call(board, current, &bytes[from..], out);
+    let mut have = filled;
+    loop {
+        let fed = fill_to(STDIN_FILENO, block, have, due_size(left));
+        if fed.failed {
+            input_failed();
+            return;
+        }
+        have = fed.have;
+        if (left == 0) | (have < RECORD_BYTES) {
+            break;
+        }
+        let ran = print_call(board, current, &block[..have], out);
         if ran.ended {
             return;
         }
         let after = ran.state;
         current = after;
-        from += RECORD_BYTES;
         left -= 1;
+        have = bring_to_front(block, RECORD_BYTES, have);
     }
-    let line = replay::finish(left, &bytes[from..], out);
+    let line = replay::finish(left, &block[..have], out);
     show(line, out);
 }
 
 // After the plan: the call count, and then the calls.
-fn print_rest(board: Board, state: State, bytes: &[u8], out: &mut [u8]) {
-    let counted = replay::count(bytes, out);
+fn print_rest(board: Board, state: State, bytes: &[u8], block: &mut [u8], out: &mut [u8]) {
+    let first = copy_in(bytes, block);
+    let fed = fill_to(STDIN_FILENO, block, first, COUNT_BYTES);
+    if fed.failed {
+        input_failed();
+        return;
+    }
+    let have = fed.have;
+    let counted = replay::count(&block[..have], out);
     let line = counted.line;
     show(line, out);
     let calls = counted.calls;
     if let CountAnswer::Calls(left) = calls {
-        print_calls(board, state, left, &bytes[COUNT_BYTES..], out);
+        let rest = bring_to_front(block, COUNT_BYTES, have);
+        print_calls(board, state, left, block, rest, out);
     }
 }
 
-fn print_log(log: &mut [u8], out: &mut [u8]) {
-    let filled = io::read_full(STDIN_FILENO, log);
-    let begun = replay::begin(&log[..filled], out);
+fn print_log(plan: &mut [u8], block: &mut [u8], out: &mut [u8]) {
+    let fed = fill_plan(STDIN_FILENO, plan);
+    if fed.failed {
+        input_failed();
+        return;
+    }
+    let filled = fed.have;
+    let begun = replay::begin(&plan[..filled], out);
     let line = begun.line;
     show(line, out);
     let board = begun.board;
     let state = begun.state;
     let outcome = begun.outcome;
     if let Outcome::Bytes(size) = outcome {
-        print_rest(board, state, &log[size..filled], out);
+        print_rest(board, state, &plan[size..filled], block, out);
     }
 }
 
 fn main() {
-    let mut log = io::large_buffer();
-    let mut out = io::buffer();
-    print_log(&mut log, &mut out);
+    let mut plan = [0u8; PLAN_ROOM];
+    let mut block = [0u8; BLOCK_ROOM];
+    let mut out = [0u8; LINES_ROOM];
+    print_log(&mut plan, &mut block, &mut out);
 }

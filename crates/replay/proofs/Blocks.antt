@@ -17,28 +17,26 @@ use Rattle.replay.specs.inner.Parts.{carried}
 use Rattle.replay.proofs.Records.{one-line-room}
 use Rattle.replay.proofs.Turns.{over-over, front, one-then-more, one-ends}
 
--- Before a record: what is left from the state st and the bytes from a position on still gives the whole block.
-pub record Leaves (whole : Ran) (b : Board) (due : ℕ) (s out₀ : List ℕ) (st : State) (calls from at : ℕ) (out : List ℕ) : Type 0 where
+-- Before a record: what is left from the state st and the bytes behind the calls so far still gives the whole block.
+pub record Leaves (whole : Ran) (b : Board) (due : ℕ) (s out₀ : List ℕ) (st : State) (calls at : ℕ) (out : List ℕ) : Type 0 where
   pub some : calls ≤ due
-  pub place : from ≡ 8 * calls
   pub room : at ≤ lineRoom * calls
   pub long : length out ≡ length out₀
-  pub stands : overwritten out at (ran b st (due - calls) (drop from s) .lines) ≡ overwritten out₀ 0 (whole .lines)
-  pub size : at + length (ran b st (due - calls) (drop from s) .lines) ≡ length (whole .lines)
-  pub after : ran b st (due - calls) (drop from s) .state ≡ whole .state
-  pub counts : calls + ran b st (due - calls) (drop from s) .calls ≡ whole .calls
-  pub ends : ran b st (due - calls) (drop from s) .ended ≡ whole .ended
+  pub stands : overwritten out at (ran b st (due - calls) (drop (8 * calls) s) .lines) ≡ overwritten out₀ 0 (whole .lines)
+  pub size : at + length (ran b st (due - calls) (drop (8 * calls) s) .lines) ≡ length (whole .lines)
+  pub after : ran b st (due - calls) (drop (8 * calls) s) .state ≡ whole .state
+  pub counts : calls + ran b st (due - calls) (drop (8 * calls) s) .calls ≡ whole .calls
+  pub ends : ran b st (due - calls) (drop (8 * calls) s) .ended ≡ whole .ended
 
 -- A record's line has room.
 pub one-fits : (b : Board) (st : State) (s : List ℕ) (r : Carried) → r ≡ carried (ran b st 1 s) → r .written ≤ lineRoom
 one-fits b st s r e = omega (arith, ap (λ (x : Carried). x .written) e, one-line-room b st s)
 
-pub first-turn : (b : Board) (st : State) (due : ℕ) (s out : List ℕ) → Leaves (ran b st due s) b due s out st 0 0 0 out
+pub first-turn : (b : Board) (st : State) (due : ℕ) (s out : List ℕ) → Leaves (ran b st due s) b due s out st 0 0 out
 first-turn b st due s out =
     let all : due - 0 ≡ due = omega arith in
     record {
       some = omega arith;
-      place = refl;
       room = omega arith;
       long = refl;
       stands = rw all refl;
@@ -48,8 +46,8 @@ first-turn b st due s out =
       ends = rw all refl;
     }
 
-module _ (whole : Ran) (b : Board) (due : ℕ) (s out₀ : List ℕ) (st : State) (calls from at : ℕ) (out : List ℕ)
-    (h : Leaves whole b due s out₀ st calls from at out) where
+module _ (whole : Ran) (b : Board) (due : ℕ) (s out₀ : List ℕ) (st : State) (calls at : ℕ) (out : List ℕ)
+    (h : Leaves whole b due s out₀ st calls at out) where
   -- After the last record.
   pub last-turn : due ≤ calls
       → (_≡_ {A = RanBlock} (record { state = st; calls = calls; written = at; ended = false }) (ranBlock whole)) × (out ≡ overwritten out₀ 0 (whole .lines))
@@ -68,20 +66,23 @@ module _ (whole : Ran) (b : Board) (due : ℕ) (s out₀ : List ℕ) (st : State
       )
 
   module _ (more : calls < due) (fits : lineRoom * due ≤ length out₀) (r : Carried) (out′ : List ℕ)
-      (answered : r ≡ carried (ran b st 1 (take (length s - from) (drop from s))))
-      (written : out′ ≡ overwritten out at (ran b st 1 (take (length s - from) (drop from s)) .lines)) where
+      (answered : r ≡ carried (ran b st 1 (take (length s - 8 * calls) (drop (8 * calls) s))))
+      (written : out′ ≡ overwritten out at (ran b st 1 (take (length s - 8 * calls) (drop (8 * calls) s)) .lines)) where
     -- The bytes from the position on are lent whole.
-    lent : take (length s - from) (drop from s) ≡ drop from s
-    lent = take-all (length s - from) (drop from s) (rw length-drop (le-refl _))
+    lent : take (length s - 8 * calls) (drop (8 * calls) s) ≡ drop (8 * calls) s
+    lent = take-all (length s - 8 * calls) (drop (8 * calls) s) (rw length-drop (le-refl _))
 
-    e : r ≡ carried (ran b st 1 (drop from s))
+    e : r ≡ carried (ran b st 1 (drop (8 * calls) s))
     e = rw lent at answered
 
-    eo : out′ ≡ overwritten out at (ran b st 1 (drop from s) .lines)
+    eo : out′ ≡ overwritten out at (ran b st 1 (drop (8 * calls) s) .lines)
     eo = rw lent at written
 
-    one-written : r .written ≡ length (ran b st 1 (drop from s) .lines)
+    one-written : r .written ≡ length (ran b st 1 (drop (8 * calls) s) .lines)
     one-written = ap (λ (x : Carried). x .written) e
+
+    eight-more : 8 * (calls + 1) ≡ 8 * calls + 8
+    eight-more = omega arith
 
     left-over : due - calls ≡ suc (due - (calls + 1))
     left-over = omega arith
@@ -90,28 +91,27 @@ module _ (whole : Ran) (b : Board) (due : ℕ) (s out₀ : List ℕ) (st : State
     pub ended-turn : r .ended ≡ true
         → (_≡_ {A = RanBlock} (record { state = r .state; calls = calls; written = at + r .written; ended = true }) (ranBlock whole)) × (out′ ≡ overwritten out₀ 0 (whole .lines))
     ended-turn t =
-        let split = one-ends b st (due - (calls + 1)) (drop from s) (sym (ap (λ (x : Carried). x .ended) e) ∙ t) in
+        let split = one-ends b st (due - (calls + 1)) (drop (8 * calls) s) (sym (ap (λ (x : Carried). x .ended) e) ∙ t) in
         let counts : calls + 0 ≡ whole .calls = rw (left-over, split) at (h .counts) in
         let n : calls ≡ whole .calls = omega arith in
-        let size : at + length (ran b st 1 (drop from s) .lines) ≡ length (whole .lines) = rw (left-over, split) at (h .size) in
+        let size : at + length (ran b st 1 (drop (8 * calls) s) .lines) ≡ length (whole .lines) = rw (left-over, split) at (h .size) in
         let w : at + r .written ≡ length (whole .lines) = ap (λ (k : ℕ). at + k) one-written ∙ size in
         let after : r .state ≡ whole .state = ap (λ (x : Carried). x .state) e ∙ (rw (left-over, split) at (h .after)) in
         let ends : true ≡ whole .ended = rw (left-over, split) at (h .ends) in
         (λ i. record { state = after i; calls = n i; written = w i; ended = ends i }, eo ∙ (rw (left-over, split) at (h .stands)))
 
     -- After a call.
-    pub next-turn : r .ended ≡ false → length out′ ≡ length out → Leaves whole b due s out₀ (r .state) (calls + 1) (from + 8) (at + r .written) out′
+    pub next-turn : r .ended ≡ false → length out′ ≡ length out → Leaves whole b due s out₀ (r .state) (calls + 1) (at + r .written) out′
     next-turn t kept =
-        let one = ran b st 1 (drop from s) in
-        let later = ran b (r .state) (due - (calls + 1)) (drop (from + 8) s) in
-        let split : ran b st (due - calls) (drop from s) ≡ front (one .lines) 1 later =
-        rw (left-over, one-then-more b st (due - (calls + 1)) (drop from s) (sym (ap (λ (x : Carried). x .ended) e) ∙ t), ← ap (λ (x : Carried). x .state) e, drop-drop 8 from s) refl in
-        let room : length (one .lines) ≤ lineRoom = one-line-room b st (drop from s) in
+        let one = ran b st 1 (drop (8 * calls) s) in
+        let later = ran b (r .state) (due - (calls + 1)) (drop (8 * (calls + 1)) s) in
+        let split : ran b st (due - calls) (drop (8 * calls) s) ≡ front (one .lines) 1 later =
+        rw (left-over, one-then-more b st (due - (calls + 1)) (drop (8 * calls) s) (sym (ap (λ (x : Carried). x .ended) e) ∙ t), ← ap (λ (x : Carried). x .state) e, drop-drop 8 (8 * calls) s, ← eight-more) refl in
+        let room : length (one .lines) ≤ lineRoom = one-line-room b st (drop (8 * calls) s) in
         let fit : at + length (one .lines) ≤ length out = omega (arith, h .room, h .long) in
-        let lines : ran b st (due - calls) (drop from s) .lines ≡ one .lines ++ later .lines = ap (λ (x : Ran). x .lines) split in
+        let lines : ran b st (due - calls) (drop (8 * calls) s) .lines ≡ one .lines ++ later .lines = ap (λ (x : Ran). x .lines) split in
         record {
           some = omega arith;
-          place = omega (arith, h .place);
           room = omega (arith, h .room, one-written);
           long = kept ∙ h .long;
           stands = rw (eo, one-written) (over-over out at (one .lines) (later .lines) fit ∙ ap (overwritten out at) (sym lines) ∙ h .stands);

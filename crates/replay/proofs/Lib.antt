@@ -1,10 +1,3 @@
 pub mod Records
 pub mod Turns
 pub mod Blocks
-pub mod Pieces
-pub mod Whole
-pub mod PlanBuffer
-pub mod Buffers
-pub mod Program
-pub mod Ranges
-pub mod Shown

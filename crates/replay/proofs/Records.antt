@@ -24,8 +24,7 @@ use Rattle.listings.specs.Lines.{callLine, refusalLine, lineSays, lineBuffer}
 use Rattle.listings.proofs.Room.{fitting-line, fitting-buffer}
 use Rattle.listings.proofs.LongestCall.{any-call, any-refusal}
 use Rattle.replay.specs.declared.Carried.{Carried}
-use Rattle.replay.specs.Listing.{callIn, callsListing}
-use Rattle.replay.specs.Blocks.{Ran, oneMore, ran, lineRoom}
+use Rattle.replay.specs.Blocks.{Ran, callIn, oneMore, ran, lineRoom}
 use Rattle.replay.specs.inner.Parts.{carried}
 
 -- The record is a call, or it is refused.
@@ -60,14 +59,6 @@ module _ (b : Board) (st : State) (s : List ℕ) where
     pub ran-refused : eqb (recordFault s) 0 ≡ false → ran b st (suc k) s ≡ stopped st (recordFault s)
     unfolding ran
     ran-refused e = rw e
-
-    pub listed-call : recordFault s ≡ 0 → callsListing b st (suc k) s ≡ lineIn ++ callsListing b stateIn k (drop recordSize s)
-    unfolding callsListing
-    listed-call e = rw e
-
-    pub listed-refused : eqb (recordFault s) 0 ≡ false → callsListing b st (suc k) s ≡ refusalLine (recordFault s)
-    unfolding callsListing
-    listed-refused e = rw e
 
   pub one-call : recordFault s ≡ 0 → ran b st 1 s ≡ record { lines = lineIn; state = stateIn; calls = 1; ended = false }
   unfolding ran

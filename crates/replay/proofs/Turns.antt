@@ -15,8 +15,7 @@ use Rattle.acting.specs.Calls.{answered}
 use Rattle.acting.specs.InPlace.{boardBy}
 use Rattle.acting.proofs.Answers.{call-reads}
 use Rattle.logs.specs.Records.{recordSize}
-use Rattle.replay.specs.Listing.{callIn}
-use Rattle.replay.specs.Blocks.{Ran, ran}
+use Rattle.replay.specs.Blocks.{callIn, Ran, ran}
 use Rattle.replay.proofs.Records.{Found, found, stopped, ran-call, ran-refused, one-call}
 
 -- Some bytes and then some more, from a position.

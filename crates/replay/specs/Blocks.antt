@@ -4,13 +4,18 @@ use mathlib.Core.Bool.{Bool, true, false, cond}
 use mathlib.Core.List.{List, [], _++_}
 use lib.Dec.{eqb}
 use lib.ListN.{length, drop}
+use Rattle.calls.specs.declared.Call.{Call}
+use Rattle.calls.specs.Calls.{callOf}
 use Rattle.states.specs.declared.Board.{Board}
 use Rattle.states.specs.declared.State.{State}
 use Rattle.acting.specs.Calls.{answered}
-use Rattle.logs.specs.Records.{recordSize, recordFault}
+use Rattle.logs.specs.Records.{recordSize, fieldsIn, recordFault}
 use Rattle.listings.specs.Lines.{callLine, refusalLine}
 use Rattle.replay.specs.declared.RanBlock.{RanBlock}
-use Rattle.replay.specs.Listing.{callIn}
+
+-- The call in the record at the start of the bytes.
+abbrev pub callIn : List ℕ → Call
+callIn s = callOf (fieldsIn s)
 
 -- The lines of some records, the state after them, how many calls were carried out, and whether a refusal ended it.
 pub record Ran : Type 0 where

@@ -1,12 +1,15 @@
 -- The lines before and after the calls: the opening of a log, its call count, and its end.
 use Prim.Native.Nat.{ℕ}
 use mathlib.Core.Bool.{cond}
-use mathlib.Core.List.{List}
+use mathlib.Core.List.{List, []}
 use lib.Dec.{eqb}
 use Rattle.plans.specs.Reading.{readFault, planRead}
 use Rattle.logs.specs.Records.{readCount, recordFault, tailFault}
 use Rattle.listings.specs.Lines.{firstLine, refusalLine}
-use Rattle.replay.specs.Listing.{faultLine}
+
+-- Clause 9.8: the line of a number that is due, and none for 0.
+abbrev pub faultLine : ℕ → List ℕ
+faultLine number = cond (eqb number 0) [] (refusalLine number)
 
 -- Clauses 9.6 and 9.8: the first line where the plan is accepted, else the line of its refusal.
 abbrev pub openingLine : List ℕ → List ℕ

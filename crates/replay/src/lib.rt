@@ -28,18 +28,9 @@ ghost use Rattle.arbiter.specs.Fresh.{freshBoard, freshState};
 ghost use Rattle.acting.specs.InPlace.{boardBy};
 ghost use Rattle.logs.specs.Records.{recordSize, countSays, readCount};
 ghost use Rattle.listings.specs.Lines.{lineSays, lineBuffer};
-ghost use Rattle.replay.specs.Listing.{faultLine};
 ghost use Rattle.replay.specs.Blocks.{lineRoom, ran, budget, ranBlock};
-ghost use Rattle.replay.specs.Ends.{openingLine, countLine, endFault, endLine};
-ghost use Rattle.replay.specs.Buffers.{planRoom, blockRoom, linesRoom};
+ghost use Rattle.replay.specs.Ends.{faultLine, openingLine, countLine, endFault, endLine};
 ghost use Rattle.replay.specs.inner.Parts.{openingBy, carried};
-
-// The program's buffers: for the plan, for a block of the input, and for a block's lines.
-pub const PLAN_ROOM: usize = 707;
-
-pub const BLOCK_ROOM: usize = 4096;
-
-pub const LINES_ROOM: usize = 65536;
 
 // The room that a line needs: the longest of a call or a refusal, rounded up.
 const LINE_ROOM: usize = 80;
@@ -72,27 +63,6 @@ pub struct RanBlock {
     pub calls: u16,
     pub written: usize,
     pub ended: bool,
-}
-
-// ---- the buffers
-
-// The sizes of the program's buffers are those of the definition. The plan's holds the longest plan.
-pub fn plan_room() -> usize
-    ensures { λ r. ⌜ r ≡ planRoom ⌝ }
-{
-    PLAN_ROOM
-}
-
-pub fn block_room() -> usize
-    ensures { λ r. ⌜ r ≡ blockRoom ⌝ }
-{
-    BLOCK_ROOM
-}
-
-pub fn lines_room() -> usize
-    ensures { λ r. ⌜ r ≡ linesRoom ⌝ }
-{
-    LINES_ROOM
 }
 
 // ---- before the calls
@@ -270,22 +240,21 @@ pub fn run(board: Board, state: State, left: u16, bytes: &[u8], out: &mut [u8]) 
     let due = budget_of(left, bytes.len(), out.len());
     let mut current = state;
     let mut calls: u16 = 0;
-    let mut from: usize = 0;
     let mut at: usize = 0;
     while calls < due {
+        let from = RECORD_BYTES * (calls as usize);
         let carried = replay_record(terms, &rows, &lengths, current, &bytes[from..], out, at);
         let next = carried.state;
+        current = next;
         at += carried.written;
         if carried.ended {
             return RanBlock {
-                state: next,
+                state: current,
                 calls: calls,
                 written: at,
                 ended: true,
             };
         }
-        current = next;
-        from += RECORD_BYTES;
         calls += 1;
     }
     RanBlock {

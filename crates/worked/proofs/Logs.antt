@@ -18,7 +18,7 @@ use Rattle.arbiter.specs.Fresh.{boardOf}
 use Rattle.logs.specs.Records.{fieldsIn, recordFault}
 use Rattle.digits.specs.Digits.{digits, hex4}
 use Rattle.listings.specs.Lines.{furtherFields, firstLine, refusalLine, callLine}
-use Rattle.replay.specs.Listing.{callsListing, listingOf}
+use Rattle.whole_listing.specs.Listing.{callsListing, listingOf}
 
 -- The bytes of a log, and those of its listing.
 pub record Worked : Type 0 where

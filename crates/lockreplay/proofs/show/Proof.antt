@@ -6,9 +6,9 @@ use borrow.Author.Needs.{needs}
 use Rattle.lockreplay.proofs.show.Statement.{statement}
 use Rattle.lockreplay.proofs.show.Tie as tie
 
-slice-aggregate-write-all : tie.Need-slice-aggregate-write-all
-slice-aggregate-write-all c = sym (length-take-le _ _ (omega (arith, c .before .line-size .ensures)))
+slice-aggregate-put : tie.Need-slice-aggregate-put
+slice-aggregate-put c = sym (length-take-le _ _ (omega (arith, c .before .line-size .ensures)))
 
 pub show-spec : {M : Type 1} → statement M
 show-spec =
-    tie.close (tie.spec (λ c κs. search needs) slice-aggregate-write-all (λ c κs. search needs) (λ c. search needs))
+    tie.close (tie.spec (λ c κs. search needs) slice-aggregate-put (λ c κs. search needs) (λ c. search needs))

@@ -2,7 +2,7 @@
 use mathlib.Core.Path.{sym}
 use lib.ListN.{length}
 use lib.Seq.{length-take-le}
-use Rattle.replay.proofs.Ranges.{lines-within}
+use Rattle.whole_listing.proofs.Ranges.{lines-within}
 use borrow.Author.Needs.{needs}
 use Rattle.query_listing.proofs.print_call.Statement.{statement}
 use Rattle.query_listing.proofs.print_call.Tie as tie

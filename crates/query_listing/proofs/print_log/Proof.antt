@@ -1,90 +1,61 @@
 -- `query_listing::print_log` lends parts that are there: a plan ends within the bytes that were lent. Assumes nothing.
+use mathlib.Core.Path.{sym}
 use native.Mathlib.Omega.{arith}
+use lib.Seq.{length-take-le}
 use lib.ListN.{length, take}
 use Rattle.replay.specs.Ends.{openingLine}
-use Rattle.replay.proofs.Ranges.{line-within, plan-filled}
+use Rattle.whole_listing.proofs.Ranges.{line-within, plan-filled}
 use borrow.Author.Needs.{needs}
 use Rattle.query_listing.proofs.print_log.Statement.{statement}
 use Rattle.query_listing.proofs.print_log.Tie as tie
 
-read-full-requires : tie.Need-read-full-requires
-read-full-requires c κs = search needs
-
-slice-reshare-prefix-begin : tie.Need-slice-reshare-prefix-begin
-slice-reshare-prefix-begin c = search needs
-
 slice-aggregate-begin : tie.Need-slice-aggregate-begin
-slice-aggregate-begin c = search needs
-
-begin-requires : tie.Need-begin-requires
-begin-requires c κs = search needs
+slice-aggregate-begin c = sym (length-take-le _ _ (c .before .before .before .before .fill-plan .ensures .0))
 
 show-requires : tie.Need-show-requires
 show-requires c κs =
     let begun = c .before .before .before in
-    let filled = begun .before .before .before .before .before in
-    let line = openingLine (take (filled .read-full .result) (filled .read-full .last .1 .0)) in
-    let size = length (filled .before .before .before .before .args .out .now) in
-    omega (arith, line-within line size 0 (begun .begin .result .line) (begun .begin .ensures .1 .1 .1 .0), begun .begin .kept .1 .0)
-
-enum-known-outcome : tie.Need-enum-known-outcome
-enum-known-outcome c = search needs
+    let fed = begun .before .before .before .before .before .before in
+    let start = fed .before .before .before .before .before in
+    let line = openingLine (take (fed .fill-plan .result .have) (fed .fill-plan .last .1 .0)) in
+    omega (arith, line-within line (length (start .args .out .now)) 0 (begun .begin .result .line) (begun .begin .ensures .1 .1 .1 .0), begun .begin .kept .1 .0)
 
 sub-print-rest : tie.Need-sub-print-rest
 sub-print-rest c =
-    let filled = c .before .before .before .before .before .before .before .before .before .before .before .before .before .before .read-full in
-    plan-filled (filled .last .1 .0) (filled .result) _ _ (c .before .before .before .before .before .before .before .before .before .begin .ensures .0) (filled .ensures .0) (c .before .outcome .given .1)
+    let told = c .before in
+    let begun = told .before .before .before .before .before .before .before .before in
+    let fed = begun .before .before .before .before .before .before in
+    plan-filled (fed .fill-plan .last .1 .0) (fed .fill-plan .result .have) _ _ (begun .begin .ensures .0) (fed .fill-plan .ensures .0) (told .outcome .given .1)
 
 part-print-rest-start : tie.Need-part-print-rest-start
 part-print-rest-start c =
-    let filled = c .before .before .before .before .before .before .before .before .before .before .before .before .before .before .before .read-full in
-    plan-filled (filled .last .1 .0) (filled .result) _ _ (c .before .before .before .before .before .before .before .before .before .before .begin .ensures .0) (filled .ensures .0) (c .before .before .outcome .given .1)
-
-part-print-rest-end : tie.Need-part-print-rest-end
-part-print-rest-end c = search needs
-
-print-rest-requires : tie.Need-print-rest-requires
-print-rest-requires c κs = search needs
-
-enum-told : tie.Need-enum-told
-enum-told c = search needs
-
-same-length : tie.Need-same-length
-same-length c = search needs
-
-same-length-2 : tie.Need-same-length-2
-same-length-2 c = search needs
-
-returns : tie.Need-returns
-returns c = search needs
-
-same-length-3 : tie.Need-same-length-3
-same-length-3 c = search needs
-
-same-length-4 : tie.Need-same-length-4
-same-length-4 c = search needs
-
-returns-2 : tie.Need-returns-2
-returns-2 c = search needs
+    let told = c .before .before in
+    let begun = told .before .before .before .before .before .before .before .before in
+    let fed = begun .before .before .before .before .before .before in
+    plan-filled (fed .fill-plan .last .1 .0) (fed .fill-plan .result .have) _ _ (begun .begin .ensures .0) (fed .fill-plan .ensures .0) (told .outcome .given .1)
 
 pub print-log-spec : {M : Type 1} → statement M
 print-log-spec =
     tie.close
     (tie.spec
-    read-full-requires
-    slice-reshare-prefix-begin
+    (λ c κs. search needs)
+    (λ c κs. search needs)
+    (λ c. search needs)
+    (λ c. search needs)
+    (λ c. search needs)
     slice-aggregate-begin
-    begin-requires
+    (λ c κs. search needs)
     show-requires
-    enum-known-outcome
+    (λ c. search needs)
     sub-print-rest
     part-print-rest-start
-    part-print-rest-end
-    print-rest-requires
-    enum-told
-    same-length
-    same-length-2
-    returns
-    same-length-3
-    same-length-4
-    returns-2)
+    (λ c. search needs)
+    (λ c κs. search needs)
+    (λ c. search needs)
+    (λ c. search needs)
+    (λ c. search needs)
+    (λ c. search needs)
+    (λ c. search needs)
+    (λ c. search needs)
+    (λ c. search needs)
+    (λ c. search needs))

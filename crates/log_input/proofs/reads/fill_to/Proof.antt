@@ -1,0 +1,68 @@
+-- `log_input::fill_to` meets its contract, and ends: each read but the last brings a byte. Assumes nothing.
+use Prim.Native.Nat.{_≤_, _-_, min}
+use mathlib.Core.Path.{_≡_, refl, _∙_}
+use native.Mathlib.Omega.{arith}
+use lib.ListN.{length, take}
+use Rattle.log_input.proofs.Copies.{front-kept}
+use Rattle.log_input.proofs.reads.fill_to.Statement.{statement}
+use Rattle.log_input.proofs.reads.fill_to.Tie as tie
+
+abbrev Inv-loop : tie.InvT-loop
+Inv-loop input buffer₀ first needed most have₀ buffer have =
+    (have ≤ length buffer) × ((min first (length buffer) ≤ have) × ((length buffer ≡ length buffer₀) × (take first buffer ≡ take first buffer₀)))
+
+abbrev μ-loop : tie.MeasureT-loop
+μ-loop input buffer₀ first needed most have₀ buffer have = most - have
+
+loop-holds : tie.Need-loop-holds Inv-loop μ-loop
+loop-holds c = (omega arith, (omega arith, (refl, refl)))
+
+read-behind-requires : tie.Need-read-behind-requires Inv-loop μ-loop
+read-behind-requires c κs = c .before .before .loop .inv .0
+
+same-length : tie.Need-same-length Inv-loop μ-loop
+same-length c =
+    let read = c .before .before .before .before in
+    read .read-behind .kept .1 .0 ∙ read .before .before .before .loop .inv .1 .1 .0
+
+returns : tie.Need-returns Inv-loop μ-loop
+returns c =
+    let read = c .before .before .before .before in
+    let loop = read .before .before .before in
+    let inv = loop .loop .inv in
+    let first = loop .before .before .before .before .args .first in
+    let within : first ≤ loop .loop .have = omega arith in
+    (omega (arith, inv .0, read .read-behind .kept .1 .0), front-kept _ _ first _ within (read .read-behind .ensures .1) ∙ inv .1 .1 .1)
+
+loop-again : tie.Need-loop-again Inv-loop μ-loop
+loop-again c =
+    let read = c .before .before .before .before .before in
+    let loop = read .before .before .before in
+    let inv = loop .loop .inv in
+    let first = loop .before .before .before .before .args .first in
+    let within : first ≤ loop .loop .have = omega arith in
+    let long = read .read-behind .kept .1 .0 in (
+      read .read-behind .ensures .0,
+      (
+        omega (arith, inv .1 .0, long),
+        (long ∙ inv .1 .1 .0, front-kept _ _ first _ within (read .read-behind .ensures .1) ∙ inv .1 .1 .1),
+      ),
+    )
+
+pub fill-to-spec : {M : Type 1} → statement M
+fill-to-spec =
+    tie.close
+    (tie.spec
+    Inv-loop
+    μ-loop
+    (λ c κs. tt)
+    (λ c κs. tt)
+    loop-holds
+    read-behind-requires
+    same-length
+    returns
+    (λ c. omega arith)
+    (λ c. omega arith)
+    loop-again
+    (λ c. c .before .loop .inv .1 .1 .0)
+    (λ c. (c .before .loop .inv .0, c .before .loop .inv .1 .1 .1)))

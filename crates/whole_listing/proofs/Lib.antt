@@ -1,0 +1,9 @@
+pub mod Waits
+pub mod Calls
+pub mod Blocks
+pub mod Plans
+pub mod Stages
+pub mod Program
+pub mod Prefixes
+pub mod Shown
+pub mod Ranges

@@ -1,0 +1,4 @@
+pub mod Listing
+pub mod SoFar
+pub mod Rooms
+pub mod Arrivals
