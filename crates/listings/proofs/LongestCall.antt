@@ -11,9 +11,10 @@ use Rattle.calls.specs.declared.Call.{Call}
 use Rattle.calls.specs.Calls.{callSays}
 use Rattle.calls.specs.Replies.{Response}
 use Rattle.digits.specs.Digits.{decimal, hex4}
-use Rattle.listings.specs.Lines.{refusedWord, furtherFields, replyFields, letterOf, callLine, refusalLine}
+use Rattle.lines.specs.Lines.{refusedWord, furtherFields, refusalLine}
+use Rattle.listings.specs.Lines.{replyFields, letterOf, callLine}
 use Rattle.digits.proofs.Decimals.{few-digits, most-digits}
-use Rattle.listings.proofs.Lengths.{length-hex4, done-length, refused-length, length-fields, length-refusal}
+use Rattle.lines.proofs.Lengths.{length-hex4, done-length, refused-length, length-fields, length-refusal}
 
 -- A reply takes 12 bytes more than its late mark, or two more than its number has digits.
 reply-most : (reply : Response) (n : ℕ) → length (decimal (reply .number)) ≤ 2 + n → length (decimal (reply .late)) ≤ n

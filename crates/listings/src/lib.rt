@@ -1,90 +1,25 @@
-// The lines of a listing, as bytes in a lent buffer. `lockreplay` prints them.
-// A line's length is worked out first, so that a buffer that is too short is refused before a byte is written.
+// The lines of a listing, as bytes in a lent buffer: of a plan, of a call and its reply, of a refusal. `lockreplay`
+// prints them.
 use calls::Call;
 use calls::Reply;
-use digits::digit_count;
 use digits::hex_pairs;
 use encoding::Outcome;
-use encoding::has_room;
-use fields::write_digits;
-use fields::write_labelled;
-use fields::write_last;
-use fields::write_mask;
+use lines::done_line;
+use lines::fault_line;
+use lines::numbers_line;
+use lines::refused_line;
 use plans::Plan;
 use plans::figures_of;
 use refusals::Refusal;
 use refusals::number;
 ghost use mathlib.Core.Path.{_≡_};
-ghost use mathlib.Core.List.{[], _∷_};
-ghost use Prim.Native.Nat.{_+_, _≤_};
 ghost use lib.ListN.{length};
 ghost use Rattle.refusals.specs.Number.{numberOf};
 ghost use Rattle.encoding.specs.Buffers.{outcomeSays};
 ghost use Rattle.calls.specs.Replies.{replySays};
-ghost use Rattle.digits.specs.Digits.{decimal, maskBy};
-ghost use Rattle.listings.specs.Lines.{entriesWord, readWord, writeWord, furtherFields, replyFields};
-ghost use Rattle.listings.specs.Lines.{firstLine, callLine, callLineBy, refusalLine, lineSays, lineBuffer};
-ghost use Rattle.listings.specs.inner.Stored.{Stored, numbersLine, callLead, fieldsLine, doneFields, refusedFields};
-
-mod fields;
-
-// ---- the first line
-
-// The second half of the first line: the words `entries`, `read` and `write`, and their numbers.
-fn write_figures(count: u8, read: u32, write: u32, buffer: &mut [u8], at: usize) -> usize
-    requires { ⌜
-        at + 23 + (length (decimal count) + length (decimal read) + length (decimal write)) ≤ length (now buffer)
-        ⌝ }
-    ensures { λ r. ⌜
-        Stored (furtherFields (entriesWord ∷ decimal count ∷ readWord ∷ decimal read ∷ writeWord ∷ decimal write ∷ []))
-        (now (buffer .entry)) at r (now (buffer .exit))
-        ⌝ }
-{
-    let second = write_labelled(b" entries ", count as u64, buffer, at);
-    let third = write_labelled(b" read ", read as u64, buffer, second);
-    write_last(b" write ", write as u64, buffer, third)
-}
-
-// The first line from its numbers.
-fn write_first(
-    processors: u8,
-    resources: u8,
-    count: u8,
-    read: u32,
-    write: u32,
-    buffer: &mut [u8],
-    at: usize,
-) -> usize
-    requires { ⌜
-        at + 45
-        + (length (decimal processors) + length (decimal resources)
-        + length (decimal count) + length (decimal read) + length (decimal write))
-        ≤ length (now buffer)
-        ⌝ }
-    ensures { λ r. ⌜
-        Stored (numbersLine processors resources count read write) (now (buffer .entry)) at r (now (buffer .exit))
-        ⌝ }
-{
-    let second = write_labelled(b"processors ", processors as u64, buffer, at);
-    let third = write_labelled(b" resources ", resources as u64, buffer, second);
-    write_figures(count, read, write, buffer, third)
-}
-
-// How many bytes the first line takes.
-fn first_size(processors: u8, resources: u8, count: u8, read: u32, write: u32) -> usize
-    ensures is { λ r. ⌜
-        r
-        ≡ 45
-        + (length (decimal processors) + length (decimal resources)
-        + length (decimal count) + length (decimal read) + length (decimal write))
-        ⌝ }
-    ensures most { λ r. ⌜ r ≤ 145 ⌝ }
-{
-    let counts = digit_count(processors as u64)
-        + digit_count(resources as u64)
-        + digit_count(count as u64);
-    45 + (counts + digit_count(read as u64) + digit_count(write as u64))
-}
+ghost use Rattle.digits.specs.Digits.{maskBy};
+ghost use Rattle.lines.specs.Lines.{fieldsLine, refusalLine, lineSays, lineBuffer};
+ghost use Rattle.listings.specs.Lines.{firstLine, replyFields, callLine, callLineBy};
 
 // Clause 9.6: the first line, of any plan value.
 pub fn first_line(plan: Plan, buffer: &mut [u8], at: usize) -> Outcome
@@ -92,125 +27,15 @@ pub fn first_line(plan: Plan, buffer: &mut [u8], at: usize) -> Outcome
     ensures bytes { λ _. ⌜ now (buffer .exit) ≡ lineBuffer (firstLine plan) (now (buffer .entry)) at ⌝ }
 {
     let figures = figures_of(plan);
-    let processors = plan.processors;
-    let resources = plan.resources;
-    let count = plan.count;
-    let needed = first_size(processors, resources, count, figures.read, figures.write);
-    if has_room(needed, buffer.len(), at) {
-        write_first(
-            processors,
-            resources,
-            count,
-            figures.read,
-            figures.write,
-            buffer,
-            at,
-        );
-        Outcome::Bytes(needed)
-    } else {
-        Outcome::Refused(Refusal::Room)
-    }
-}
-
-// ---- a call's line
-
-// What every call's line begins with: the tick, which has so many digits, the letter and the processor.
-fn write_call(
-    letter: u8,
-    processor: u8,
-    tick: u64,
-    size: usize,
-    buffer: &mut [u8],
-    at: usize,
-) -> usize
-    requires { ⌜
-        (size ≡ length (decimal tick)) × (at + size + 3 + length (decimal processor) ≤ length (now buffer))
-        ⌝ }
-    ensures { λ r. ⌜ Stored (callLead letter processor tick) (now (buffer .entry)) at r (now (buffer .exit)) ⌝ }
-{
-    let second = write_digits(tick, size, buffer, at);
-    write_labelled(&[b' ', letter, b' '], processor as u64, buffer, second)
-}
-
-// What stands after the processor where the call is accepted.
-fn write_done(
-    pairs: &[u16],
-    granted: u32,
-    entitled: u32,
-    late: u8,
-    buffer: &mut [u8],
-    at: usize,
-) -> usize
-    requires { ⌜ at + 12 + length (decimal late) ≤ length (now buffer) ⌝ }
-    ensures { λ r. ⌜
-        Stored (furtherFields (doneFields (maskBy (now (pairs .entry))) granted entitled late))
-        (now (buffer .entry)) at r (now (buffer .exit))
-        ⌝ }
-{
-    let second = write_mask(pairs, granted, buffer, at);
-    let third = write_mask(pairs, entitled, buffer, second);
-    write_last(b" ", late as u64, buffer, third)
-}
-
-// The line of an accepted call.
-fn done_line(
-    pairs: &[u16],
-    letter: u8,
-    processor: u8,
-    tick: u64,
-    granted: u32,
-    entitled: u32,
-    late: u8,
-    buffer: &mut [u8],
-    at: usize,
-) -> Outcome
-    ensures outcome { λ r. ⌜
-        outcomeSays r
-        ≡ lineSays (fieldsLine letter processor tick (doneFields (maskBy (now (pairs .entry))) granted entitled late)) (length (now (buffer .entry))) at
-        ⌝ }
-    ensures bytes { λ _. ⌜
-        now (buffer .exit)
-        ≡ lineBuffer (fieldsLine letter processor tick (doneFields (maskBy (now (pairs .entry))) granted entitled late)) (now (buffer .entry)) at
-        ⌝ }
-{
-    let size = digit_count(tick);
-    let needed = size + 15 + digit_count(processor as u64) + digit_count(late as u64);
-    if has_room(needed, buffer.len(), at) {
-        let second = write_call(letter, processor, tick, size, buffer, at);
-        write_done(pairs, granted, entitled, late, buffer, second);
-        Outcome::Bytes(needed)
-    } else {
-        Outcome::Refused(Refusal::Room)
-    }
-}
-
-// The line of a call that the arbiter refuses by a number.
-fn refused_line(
-    letter: u8,
-    processor: u8,
-    tick: u64,
-    number: u8,
-    buffer: &mut [u8],
-    at: usize,
-) -> Outcome
-    ensures outcome { λ r. ⌜
-        outcomeSays r
-        ≡ lineSays (fieldsLine letter processor tick (refusedFields number)) (length (now (buffer .entry))) at
-        ⌝ }
-    ensures bytes { λ _. ⌜
-        now (buffer .exit)
-        ≡ lineBuffer (fieldsLine letter processor tick (refusedFields number)) (now (buffer .entry)) at
-        ⌝ }
-{
-    let size = digit_count(tick);
-    let needed = size + 13 + digit_count(processor as u64) + digit_count(number as u64);
-    if has_room(needed, buffer.len(), at) {
-        let second = write_call(letter, processor, tick, size, buffer, at);
-        write_last(b" refused ", number as u64, buffer, second);
-        Outcome::Bytes(needed)
-    } else {
-        Outcome::Refused(Refusal::Room)
-    }
+    numbers_line(
+        plan.processors,
+        plan.resources,
+        plan.count,
+        figures.read,
+        figures.write,
+        buffer,
+        at,
+    )
 }
 
 // A call's line from its letter, its numbers and the reply.
@@ -299,8 +124,6 @@ pub fn call_line(call: Call, reply: Reply, buffer: &mut [u8], at: usize) -> Outc
     call_line_by(&pairs, call, reply, buffer, at)
 }
 
-// ---- a refusal's line
-
 // Clause 9.8: the line of a fault of the bytes.
 pub fn refusal_line(refusal: Refusal, buffer: &mut [u8], at: usize) -> Outcome
     ensures outcome { λ r. ⌜
@@ -310,12 +133,5 @@ pub fn refusal_line(refusal: Refusal, buffer: &mut [u8], at: usize) -> Outcome
         now (buffer .exit) ≡ lineBuffer (refusalLine (numberOf refusal)) (now (buffer .entry)) at
         ⌝ }
 {
-    let n = number(refusal) as u64;
-    let needed = 9 + digit_count(n);
-    if has_room(needed, buffer.len(), at) {
-        write_last(b"refused ", n, buffer, at);
-        Outcome::Bytes(needed)
-    } else {
-        Outcome::Refused(Refusal::Room)
-    }
+    fault_line(number(refusal), buffer, at)
 }

@@ -20,8 +20,9 @@ use Rattle.acting.specs.Calls.{answered}
 use Rattle.logs.specs.declared.RecordAnswer.{RecordAnswer}
 use Rattle.logs.specs.Records.{recordSize, recordFault, recordSays, readRecord}
 use Rattle.logs.proofs.Answers.{record-is, record-refused}
-use Rattle.listings.specs.Lines.{callLine, refusalLine, lineSays, lineBuffer}
-use Rattle.listings.proofs.Room.{fitting-line, fitting-buffer}
+use Rattle.lines.specs.Lines.{refusalLine, lineSays, lineBuffer}
+use Rattle.listings.specs.Lines.{callLine}
+use Rattle.lines.proofs.Room.{fitting-line, fitting-buffer}
 use Rattle.listings.proofs.LongestCall.{any-call, any-refusal}
 use Rattle.replay.specs.Blocks.{Ran, callIn, oneMore, ran, lineRoom}
 use Rattle.replay.specs.inner.Parts.{Stands, carried}

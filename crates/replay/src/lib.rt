@@ -31,7 +31,7 @@ ghost use Rattle.arbiter.specs.Fresh.{freshBoard, freshState};
 ghost use Rattle.acting.specs.InPlace.{boardBy, stateBy};
 ghost use Rattle.logs.specs.Records.{recordSize, countSays, readCount};
 ghost use Rattle.digits.specs.Digits.{hexPairs};
-ghost use Rattle.listings.specs.Lines.{lineSays, lineBuffer};
+ghost use Rattle.lines.specs.Lines.{lineSays, lineBuffer};
 ghost use Rattle.replay.specs.Blocks.{lineRoom, ran, budget, ranBlock};
 ghost use Rattle.replay.specs.Ends.{faultLine, openingLine, countLine, endFault, endLine};
 ghost use Rattle.replay.specs.inner.Parts.{openingBy, carried, carriedBy};

@@ -17,7 +17,8 @@ use Rattle.acting.specs.Calls.{putState, takenState, done, settledDone, issued,
 use Rattle.arbiter.specs.Fresh.{boardOf}
 use Rattle.logs.specs.Records.{fieldsIn, recordFault}
 use Rattle.digits.specs.Digits.{digits, hex4}
-use Rattle.listings.specs.Lines.{furtherFields, firstLine, refusalLine, callLine}
+use Rattle.lines.specs.Lines.{furtherFields, refusalLine}
+use Rattle.listings.specs.Lines.{firstLine, callLine}
 use Rattle.whole_listing.specs.Listing.{callsListing, listingOf}
 
 -- The bytes of a log, and those of its listing.

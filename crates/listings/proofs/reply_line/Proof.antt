@@ -1,6 +1,6 @@
 -- `reply_line` meets its contract: the fields are those of the reply. Assumes nothing.
 use mathlib.Core.Path.{_∙_}
-use Rattle.listings.proofs.Lengths.{done-fields, refused-fields}
+use Rattle.listings.proofs.Fields.{done-fields, refused-fields}
 use borrow.Author.Needs.{needs}
 use Rattle.listings.proofs.reply_line.Statement.{statement}
 use Rattle.listings.proofs.reply_line.Tie as tie

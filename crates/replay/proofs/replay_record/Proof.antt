@@ -2,7 +2,7 @@
 use mathlib.Core.Path.{ap}
 use borrow.Author.Needs.{needs}
 use Rattle.acting.specs.Calls.{Answer}
-use Rattle.listings.proofs.Lengths.{line-by-table}
+use Rattle.listings.proofs.Fields.{line-by-table}
 use Rattle.replay.proofs.Records.{call-carried, refusal-carried}
 use Rattle.replay.proofs.replay_record.Statement.{statement}
 use Rattle.replay.proofs.replay_record.Tie as tie

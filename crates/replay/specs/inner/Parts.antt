@@ -7,7 +7,8 @@ use lib.ListN.{length}
 use Rattle.plans.specs.declared.Plan.{Plan}
 use Rattle.states.specs.declared.State.{State}
 use Rattle.acting.specs.InPlace.{stateBy}
-use Rattle.listings.specs.Lines.{firstLine, refusalLine}
+use Rattle.lines.specs.Lines.{refusalLine}
+use Rattle.listings.specs.Lines.{firstLine}
 use Rattle.replay.specs.Blocks.{Ran}
 use Rattle.replay.specs.declared.Carried.{Carried}
 
