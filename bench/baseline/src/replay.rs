@@ -3,24 +3,43 @@ use crate::arbiter::{board_of, Done, State, LEAN};
 use crate::plan::{self, number};
 use std::io::{self, Read, Write};
 
+/// The two digits of every byte, and of every number below 100.
+const HEX_PAIRS: [[u8; 2]; 256] = pairs(16);
+const DECIMAL_PAIRS: [[u8; 2]; 100] = pairs(10);
+
+const fn pairs<const N: usize>(base: usize) -> [[u8; 2]; N] {
+    let digits = b"0123456789abcdef";
+    let mut table = [[0; 2]; N];
+    let mut i = 0;
+    while i < N {
+        table[i] = [digits[i / base], digits[i % base]];
+        i += 1;
+    }
+    table
+}
+
 fn push_decimal(out: &mut Vec<u8>, mut n: u64) {
     let mut digits = [0u8; 20];
     let mut at = 20;
-    loop {
+    while n > 99 {
+        at -= 2;
+        digits[at..at + 2].copy_from_slice(&DECIMAL_PAIRS[(n % 100) as usize]);
+        n /= 100;
+    }
+    if n > 9 {
+        at -= 2;
+        digits[at..at + 2].copy_from_slice(&DECIMAL_PAIRS[n as usize]);
+    } else {
         at -= 1;
-        digits[at] = b'0' + (n % 10) as u8;
-        n /= 10;
-        if n == 0 {
-            break;
-        }
+        digits[at] = b'0' + n as u8;
     }
     out.extend_from_slice(&digits[at..]);
 }
 
 fn push_mask(out: &mut Vec<u8>, mask: u32) {
-    for shift in [12, 8, 4, 0] {
-        out.push(b"0123456789abcdef"[(mask >> shift & 15) as usize]);
-    }
+    let [high, low] = (mask as u16).to_be_bytes();
+    out.extend_from_slice(&HEX_PAIRS[high as usize]);
+    out.extend_from_slice(&HEX_PAIRS[low as usize]);
 }
 
 fn push_answer(out: &mut Vec<u8>, answer: Result<Done, u8>) {

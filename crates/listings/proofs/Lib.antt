@@ -1,7 +1,3 @@
-pub mod Decimals
-pub mod Stores
-pub mod Backwards
-pub mod Lengths
-pub mod Room
+pub mod Fields
 pub mod LongestFirst
 pub mod LongestCall

@@ -10,27 +10,28 @@ use lib.ListN.{length}
 use Rattle.calls.specs.declared.Call.{Call}
 use Rattle.calls.specs.Calls.{callSays}
 use Rattle.calls.specs.Replies.{Response}
-use Rattle.listings.specs.Digits.{decimal, hex4}
-use Rattle.listings.specs.Lines.{refusedWord, furtherFields, replyFields, letterOf, callLine, refusalLine}
-use Rattle.listings.proofs.Decimals.{few-digits, most-digits}
-use Rattle.listings.proofs.Lengths.{done-length, refused-length, length-parts, length-refusal}
+use Rattle.digits.specs.Digits.{decimal, hex4}
+use Rattle.lines.specs.Lines.{refusedWord, furtherFields, refusalLine}
+use Rattle.listings.specs.Lines.{replyFields, letterOf, callLine}
+use Rattle.digits.proofs.Decimals.{few-digits, most-digits}
+use Rattle.lines.proofs.Lengths.{length-hex4, done-length, refused-length, length-fields, length-refusal}
 
 -- A reply takes 12 bytes more than its late mark, or two more than its number has digits.
 reply-most : (reply : Response) (n : ℕ) → length (decimal (reply .number)) ≤ 2 + n → length (decimal (reply .late)) ≤ n
-    → length (furtherFields (replyFields reply)) ≤ 12 + n
+    → length (furtherFields (replyFields hex4 reply)) ≤ 12 + n
 reply-most reply n number late = go (eqb (reply .number) 0)
   where
     go : (b : Bool)
         → length (furtherFields (cond b (hex4 (reply .granted) ∷ hex4 (reply .entitled) ∷ decimal (reply .late) ∷ []) (refusedWord ∷ decimal (reply .number) ∷ [])))
         ≤ 12 + n
-    go true = omega (arith, done-length (reply .granted) (reply .entitled) (reply .late))
+    go true = omega (arith, done-length hex4 length-hex4 (reply .granted) (reply .entitled) (reply .late))
     go false = omega (arith, refused-length (reply .number))
 
 call-length : (c : Call) (reply : Response)
     → length (callLine c reply)
-    ≡ length (decimal (callSays c .tick)) + 3 + length (decimal (callSays c .processor)) + length (furtherFields (replyFields reply))
+    ≡ length (decimal (callSays c .tick)) + 3 + length (decimal (callSays c .processor)) + length (furtherFields (replyFields hex4 reply))
 unfolding callLine
-call-length c reply = length-parts (letterOf c) (callSays c .processor) (callSays c .tick) reply
+call-length c reply = length-fields (letterOf c) (callSays c .processor) (callSays c .tick) (replyFields hex4 reply)
 
 pub any-call : (c : Call) (reply : Response) → length (callLine c reply) ≤ 75
 any-call c reply =

@@ -1,70 +1,25 @@
--- The lines of a listing, in bytes of ASCII: 32 is a space, 10 a line feed. Specification, section 9.
+-- The lines of a plan and of a call, in bytes of ASCII. Specification, section 9.
 use Prim.Native.Nat.{ℕ}
 use mathlib.Core.Bool.{cond}
-use mathlib.Core.List.{List, [], _∷_, _++_}
+use mathlib.Core.List.{List}
 use lib.Dec.{eqb}
-use lib.ListN.{length}
-use Rattle.refusals.specs.Due.{Said, said}
-use Rattle.encoding.specs.Buffers.{roomFault, bufferAfter}
 use Rattle.plans.specs.declared.Plan.{Plan}
 use Rattle.plans.specs.Figures.{readFigure, writeFigure}
 use Rattle.calls.specs.declared.Call.{Call}
 use Rattle.calls.specs.Calls.{callSays}
 use Rattle.calls.specs.Replies.{Response}
-use Rattle.listings.specs.Digits.{decimal, hex4}
+use Rattle.digits.specs.Digits.{hex4, maskBy}
+use Rattle.lines.specs.Lines.{numbersLine, doneFields, refusedFields, fieldsLine}
 
--- Clauses 9.6 to 9.8: the words `processors`, `resources`, `entries`, `read`, `write`, `refused`.
-abbrev pub processorsWord : List ℕ
-processorsWord = 112 ∷ 114 ∷ 111 ∷ 99 ∷ 101 ∷ 115 ∷ 115 ∷ 111 ∷ 114 ∷ 115 ∷ []
-
-abbrev pub resourcesWord : List ℕ
-resourcesWord = 114 ∷ 101 ∷ 115 ∷ 111 ∷ 117 ∷ 114 ∷ 99 ∷ 101 ∷ 115 ∷ []
-
-abbrev pub entriesWord : List ℕ
-entriesWord = 101 ∷ 110 ∷ 116 ∷ 114 ∷ 105 ∷ 101 ∷ 115 ∷ []
-
-abbrev pub readWord : List ℕ
-readWord = 114 ∷ 101 ∷ 97 ∷ 100 ∷ []
-
-abbrev pub writeWord : List ℕ
-writeWord = 119 ∷ 114 ∷ 105 ∷ 116 ∷ 101 ∷ []
-
-abbrev pub refusedWord : List ℕ
-refusedWord = 114 ∷ 101 ∷ 102 ∷ 117 ∷ 115 ∷ 101 ∷ 100 ∷ []
-
--- Clause 9.9: a space before each further field, and a line feed after the last.
-unfoldable pub furtherFields : List (List ℕ) → List ℕ
-furtherFields [] = 10 ∷ []
-furtherFields (field ∷ later) = 32 ∷ field ++ furtherFields later
-
--- A line from its first field and the further ones.
-abbrev pub line : List ℕ → List (List ℕ) → List ℕ
-line field later = field ++ furtherFields later
-
--- Clause 9.6: the first line has the three counts and the two figures, each behind its word.
+-- Clause 9.6: the first line has the plan's counts and its two figures.
 unfoldable pub firstLine : Plan → List ℕ
-firstLine p =
-    line processorsWord
-    (decimal (p .processors)
-    ∷ resourcesWord
-    ∷ decimal (p .resources)
-    ∷ entriesWord
-    ∷ decimal (p .count)
-    ∷ readWord
-    ∷ decimal (readFigure p)
-    ∷ writeWord
-    ∷ decimal (writeFigure p)
-    ∷ [])
+firstLine p = numbersLine (p .processors) (p .resources) (p .count) (readFigure p) (writeFigure p)
 
--- Clause 9.8: the line of a fault of the bytes.
-unfoldable pub refusalLine : ℕ → List ℕ
-refusalLine number = line refusedWord (decimal number ∷ [])
-
--- Clause 9.7: what stands behind the processor: both masks and late, or `refused` and the number.
-abbrev pub replyFields : Response → List (List ℕ)
-replyFields reply =
-    cond (eqb (reply .number) 0) (hex4 (reply .granted) ∷ hex4 (reply .entitled) ∷ decimal (reply .late) ∷ [])
-    (refusedWord ∷ decimal (reply .number) ∷ [])
+-- Clause 9.7: what stands behind the processor: both masks and late, or the number of the refusal.
+abbrev pub replyFields : (ℕ → List ℕ) → Response → List (List ℕ)
+replyFields mask reply =
+    cond (eqb (reply .number) 0) (doneFields mask (reply .granted) (reply .entitled) (reply .late))
+    (refusedFields (reply .number))
 
 -- Clause 9.7: the letter of a call, `i`, `c` or `w`.
 abbrev pub letterOf : Call → ℕ
@@ -72,19 +27,11 @@ letterOf (Call.Issue p e t) = 105
 letterOf (Call.Complete p t) = 99
 letterOf (Call.Withdraw p t) = 119
 
--- Clause 9.7: a call's line: its tick, its letter, its processor, and the reply's fields.
+-- Clause 9.7: a call's line, with masks in hexadecimal digits.
 unfoldable pub callLine : Call → Response → List ℕ
-callLine c reply =
-    line (decimal (callSays c .tick)) ((letterOf c ∷ []) ∷ decimal (callSays c .processor) ∷ replyFields reply)
+callLine c reply = fieldsLine (letterOf c) (callSays c .processor) (callSays c .tick) (replyFields hex4 reply)
 
--- Clauses 9.9 and 2.12: a line goes into a lent buffer from a position. 16 where there is no room for it.
-abbrev pub lineFault : List ℕ → ℕ → ℕ → ℕ
-lineFault bytes size at = roomFault (length bytes) size at
-
--- How many bytes were written into a buffer of so many bytes, or the refusal.
-abbrev pub lineSays : List ℕ → ℕ → ℕ → Said
-lineSays bytes size at = said (lineFault bytes size at) (length bytes)
-
--- Clause 2.12: the buffer after the line. Other bytes stay, and a refusal writes nothing.
-abbrev pub lineBuffer : List ℕ → List ℕ → ℕ → List ℕ
-lineBuffer bytes buffer at = bufferAfter (lineFault bytes (length buffer) at) bytes buffer at
+-- The same with the digits of masks from a table of pairs.
+unfoldable pub callLineBy : List ℕ → Call → Response → List ℕ
+callLineBy pairs c reply =
+    fieldsLine (letterOf c) (callSays c .processor) (callSays c .tick) (replyFields (maskBy pairs) reply)

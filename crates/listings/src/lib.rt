@@ -1,89 +1,25 @@
-// The lines of a listing, as bytes in a lent buffer. `lockreplay` prints them.
-// A line's length is worked out first, so that a buffer that is too short is refused before a byte is written.
+// The lines of a listing, as bytes in a lent buffer: of a plan, of a call and its reply, of a refusal. `lockreplay`
+// prints them.
 use calls::Call;
 use calls::Reply;
+use digits::hex_pairs;
 use encoding::Outcome;
-use encoding::has_room;
-use fields::digit_count;
-use fields::write_decimal;
-use fields::write_labelled;
-use fields::write_last;
-use fields::write_mask;
+use lines::done_line;
+use lines::fault_line;
+use lines::numbers_line;
+use lines::refused_line;
 use plans::Plan;
 use plans::figures_of;
 use refusals::Refusal;
 use refusals::number;
 ghost use mathlib.Core.Path.{_≡_};
-ghost use mathlib.Core.List.{[], _∷_};
-ghost use Prim.Native.Nat.{_+_, _≤_};
 ghost use lib.ListN.{length};
 ghost use Rattle.refusals.specs.Number.{numberOf};
 ghost use Rattle.encoding.specs.Buffers.{outcomeSays};
 ghost use Rattle.calls.specs.Replies.{replySays};
-ghost use Rattle.listings.specs.Digits.{decimal};
-ghost use Rattle.listings.specs.Lines.{entriesWord, readWord, writeWord, furtherFields, replyFields};
-ghost use Rattle.listings.specs.Lines.{firstLine, callLine, refusalLine, lineSays, lineBuffer};
-ghost use Rattle.listings.specs.inner.Stored.{Stored, numbersLine, partsLine};
-
-mod fields;
-
-// ---- the first line
-
-// The second half of the first line: the words `entries`, `read` and `write`, and their numbers.
-fn write_figures(count: u8, read: u32, write: u32, buffer: &mut [u8], at: usize) -> usize
-    requires { ⌜
-        at + 23 + (length (decimal count) + length (decimal read) + length (decimal write)) ≤ length (now buffer)
-        ⌝ }
-    ensures { λ r. ⌜
-        Stored (furtherFields (entriesWord ∷ decimal count ∷ readWord ∷ decimal read ∷ writeWord ∷ decimal write ∷ []))
-        (now (buffer .entry)) at r (now (buffer .exit))
-        ⌝ }
-{
-    let second = write_labelled(b" entries ", count as u64, buffer, at);
-    let third = write_labelled(b" read ", read as u64, buffer, second);
-    write_last(b" write ", write as u64, buffer, third)
-}
-
-// The first line from its numbers.
-fn write_first(
-    processors: u8,
-    resources: u8,
-    count: u8,
-    read: u32,
-    write: u32,
-    buffer: &mut [u8],
-    at: usize,
-) -> usize
-    requires { ⌜
-        at + 45
-        + (length (decimal processors) + length (decimal resources)
-        + length (decimal count) + length (decimal read) + length (decimal write))
-        ≤ length (now buffer)
-        ⌝ }
-    ensures { λ r. ⌜
-        Stored (numbersLine processors resources count read write) (now (buffer .entry)) at r (now (buffer .exit))
-        ⌝ }
-{
-    let second = write_labelled(b"processors ", processors as u64, buffer, at);
-    let third = write_labelled(b" resources ", resources as u64, buffer, second);
-    write_figures(count, read, write, buffer, third)
-}
-
-// How many bytes the first line takes.
-fn first_size(processors: u8, resources: u8, count: u8, read: u32, write: u32) -> usize
-    ensures is { λ r. ⌜
-        r
-        ≡ 45
-        + (length (decimal processors) + length (decimal resources)
-        + length (decimal count) + length (decimal read) + length (decimal write))
-        ⌝ }
-    ensures most { λ r. ⌜ r ≤ 145 ⌝ }
-{
-    let counts = digit_count(processors as u64)
-        + digit_count(resources as u64)
-        + digit_count(count as u64);
-    45 + (counts + digit_count(read as u64) + digit_count(write as u64))
-}
+ghost use Rattle.digits.specs.Digits.{maskBy};
+ghost use Rattle.lines.specs.Lines.{fieldsLine, refusalLine, lineSays, lineBuffer};
+ghost use Rattle.listings.specs.Lines.{firstLine, replyFields, callLine, callLineBy};
 
 // Clause 9.6: the first line, of any plan value.
 pub fn first_line(plan: Plan, buffer: &mut [u8], at: usize) -> Outcome
@@ -91,66 +27,20 @@ pub fn first_line(plan: Plan, buffer: &mut [u8], at: usize) -> Outcome
     ensures bytes { λ _. ⌜ now (buffer .exit) ≡ lineBuffer (firstLine plan) (now (buffer .entry)) at ⌝ }
 {
     let figures = figures_of(plan);
-    let processors = plan.processors;
-    let resources = plan.resources;
-    let count = plan.count;
-    let needed = first_size(processors, resources, count, figures.read, figures.write);
-    if has_room(needed, buffer.len(), at) {
-        write_first(
-            processors,
-            resources,
-            count,
-            figures.read,
-            figures.write,
-            buffer,
-            at,
-        );
-        Outcome::Bytes(needed)
-    } else {
-        Outcome::Refused(Refusal::Room)
-    }
+    numbers_line(
+        plan.processors,
+        plan.resources,
+        plan.count,
+        figures.read,
+        figures.write,
+        buffer,
+        at,
+    )
 }
 
-// ---- a call's line
-
-// How many bytes a reply takes, to the line's end.
-fn reply_size(reply: Reply) -> usize
-    ensures is { λ r. ⌜ r ≡ length (furtherFields (replyFields (replySays reply))) ⌝ }
-    ensures most { λ r. ⌜ r ≤ 32 ⌝ }
-{
-    match reply {
-        Reply::Done {
-            granted,
-            entitled,
-            late,
-        } => 12 + digit_count(late as u64),
-        Reply::Refused(refusal) => 10 + digit_count(number(refusal) as u64),
-    }
-}
-
-// What stands after the processor.
-fn write_reply(reply: Reply, buffer: &mut [u8], at: usize) -> usize
-    requires { ⌜ at + length (furtherFields (replyFields (replySays reply))) ≤ length (now buffer) ⌝ }
-    ensures { λ r. ⌜
-        Stored (furtherFields (replyFields (replySays reply))) (now (buffer .entry)) at r (now (buffer .exit))
-        ⌝ }
-{
-    match reply {
-        Reply::Done {
-            granted,
-            entitled,
-            late,
-        } => {
-            let second = write_mask(granted, buffer, at);
-            let third = write_mask(entitled, buffer, second);
-            write_last(b" ", late as u64, buffer, third)
-        }
-        Reply::Refused(refusal) => write_last(b" refused ", number(refusal) as u64, buffer, at),
-    }
-}
-
-// A call's line from its parts.
-fn parts_line(
+// A call's line from its letter, its numbers and the reply.
+fn reply_line(
+    pairs: &[u16],
     letter: u8,
     processor: u8,
     tick: u64,
@@ -159,20 +49,65 @@ fn parts_line(
     at: usize,
 ) -> Outcome
     ensures outcome { λ r. ⌜
-        outcomeSays r ≡ lineSays (partsLine letter processor tick (replySays reply)) (length (now (buffer .entry))) at
+        outcomeSays r
+        ≡ lineSays (fieldsLine letter processor tick (replyFields (maskBy (now (pairs .entry))) (replySays reply))) (length (now (buffer .entry))) at
         ⌝ }
     ensures bytes { λ _. ⌜
-        now (buffer .exit) ≡ lineBuffer (partsLine letter processor tick (replySays reply)) (now (buffer .entry)) at
+        now (buffer .exit)
+        ≡ lineBuffer (fieldsLine letter processor tick (replyFields (maskBy (now (pairs .entry))) (replySays reply))) (now (buffer .entry)) at
         ⌝ }
 {
-    let needed = digit_count(tick) + 3 + digit_count(processor as u64) + reply_size(reply);
-    if has_room(needed, buffer.len(), at) {
-        let second = write_decimal(tick, buffer, at);
-        let third = write_labelled(&[b' ', letter, b' '], processor as u64, buffer, second);
-        write_reply(reply, buffer, third);
-        Outcome::Bytes(needed)
-    } else {
-        Outcome::Refused(Refusal::Room)
+    match reply {
+        Reply::Done {
+            granted,
+            entitled,
+            late,
+        } => done_line(
+            pairs,
+            letter,
+            processor,
+            tick,
+            granted,
+            entitled,
+            late,
+            buffer,
+            at,
+        ),
+        Reply::Refused(refusal) => {
+            refused_line(letter, processor, tick, number(refusal), buffer, at)
+        }
+    }
+}
+
+// Clause 9.7: a call's line, with the digits of masks from a lent table. A loop of calls lends that of `hex_pairs`.
+pub fn call_line_by(
+    pairs: &[u16],
+    call: Call,
+    reply: Reply,
+    buffer: &mut [u8],
+    at: usize,
+) -> Outcome
+    ensures outcome { λ r. ⌜
+        outcomeSays r
+        ≡ lineSays (callLineBy (now (pairs .entry)) call (replySays reply)) (length (now (buffer .entry))) at
+        ⌝ }
+    ensures bytes { λ _. ⌜
+        now (buffer .exit)
+        ≡ lineBuffer (callLineBy (now (pairs .entry)) call (replySays reply)) (now (buffer .entry)) at
+        ⌝ }
+{
+    match call {
+        Call::Issue {
+            processor,
+            entry,
+            tick,
+        } => reply_line(pairs, b'i', processor, tick, reply, buffer, at),
+        Call::Complete { processor, tick } => {
+            reply_line(pairs, b'c', processor, tick, reply, buffer, at)
+        }
+        Call::Withdraw { processor, tick } => {
+            reply_line(pairs, b'w', processor, tick, reply, buffer, at)
+        }
     }
 }
 
@@ -185,18 +120,9 @@ pub fn call_line(call: Call, reply: Reply, buffer: &mut [u8], at: usize) -> Outc
         now (buffer .exit) ≡ lineBuffer (callLine call (replySays reply)) (now (buffer .entry)) at
         ⌝ }
 {
-    match call {
-        Call::Issue {
-            processor,
-            entry,
-            tick,
-        } => parts_line(b'i', processor, tick, reply, buffer, at),
-        Call::Complete { processor, tick } => parts_line(b'c', processor, tick, reply, buffer, at),
-        Call::Withdraw { processor, tick } => parts_line(b'w', processor, tick, reply, buffer, at),
-    }
+    let pairs = hex_pairs();
+    call_line_by(&pairs, call, reply, buffer, at)
 }
-
-// ---- a refusal's line
 
 // Clause 9.8: the line of a fault of the bytes.
 pub fn refusal_line(refusal: Refusal, buffer: &mut [u8], at: usize) -> Outcome
@@ -207,12 +133,5 @@ pub fn refusal_line(refusal: Refusal, buffer: &mut [u8], at: usize) -> Outcome
         now (buffer .exit) ≡ lineBuffer (refusalLine (numberOf refusal)) (now (buffer .entry)) at
         ⌝ }
 {
-    let n = number(refusal) as u64;
-    let needed = 9 + digit_count(n);
-    if has_room(needed, buffer.len(), at) {
-        write_last(b"refused ", n, buffer, at);
-        Outcome::Bytes(needed)
-    } else {
-        Outcome::Refused(Refusal::Room)
-    }
+    fault_line(number(refusal), buffer, at)
 }

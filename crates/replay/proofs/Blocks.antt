@@ -10,10 +10,9 @@ use lib.Seq.{drop-drop, take-all}
 use Rattle.states.specs.declared.Board.{Board}
 use Rattle.states.specs.declared.State.{State}
 use Rattle.encoding.specs.Buffers.{overwritten}
-use Rattle.replay.specs.declared.Carried.{Carried}
 use Rattle.replay.specs.declared.RanBlock.{RanBlock}
 use Rattle.replay.specs.Blocks.{Ran, ran, lineRoom, ranBlock}
-use Rattle.replay.specs.inner.Parts.{carried}
+use Rattle.replay.specs.inner.Parts.{Stands, carried}
 use Rattle.replay.proofs.Records.{one-line-room}
 use Rattle.replay.proofs.Turns.{over-over, front, one-then-more, one-ends}
 
@@ -29,8 +28,8 @@ pub record Leaves (whole : Ran) (b : Board) (due : ℕ) (s out₀ : List ℕ) (s
   pub ends : ran b st (due - calls) (drop (8 * calls) s) .ended ≡ whole .ended
 
 -- A record's line has room.
-pub one-fits : (b : Board) (st : State) (s : List ℕ) (r : Carried) → r ≡ carried (ran b st 1 s) → r .written ≤ lineRoom
-one-fits b st s r e = omega (arith, ap (λ (x : Carried). x .written) e, one-line-room b st s)
+pub one-fits : (b : Board) (st : State) (s : List ℕ) (r : Stands) → r ≡ carried (ran b st 1 s) → r .written ≤ lineRoom
+one-fits b st s r e = omega (arith, ap (λ (x : Stands). x .written) e, one-line-room b st s)
 
 pub first-turn : (b : Board) (st : State) (due : ℕ) (s out : List ℕ) → Leaves (ran b st due s) b due s out st 0 0 out
 first-turn b st due s out =
@@ -65,7 +64,7 @@ module _ (whole : Ran) (b : Board) (due : ℕ) (s out₀ : List ℕ) (st : State
         rw (add-zero, take-append-drop) at stands,
       )
 
-  module _ (more : calls < due) (fits : lineRoom * due ≤ length out₀) (r : Carried) (out′ : List ℕ)
+  module _ (more : calls < due) (fits : lineRoom * due ≤ length out₀) (r : Stands) (out′ : List ℕ)
       (answered : r ≡ carried (ran b st 1 (take (length s - 8 * calls) (drop (8 * calls) s))))
       (written : out′ ≡ overwritten out at (ran b st 1 (take (length s - 8 * calls) (drop (8 * calls) s)) .lines)) where
     -- The bytes from the position on are lent whole.
@@ -79,7 +78,7 @@ module _ (whole : Ran) (b : Board) (due : ℕ) (s out₀ : List ℕ) (st : State
     eo = rw lent at written
 
     one-written : r .written ≡ length (ran b st 1 (drop (8 * calls) s) .lines)
-    one-written = ap (λ (x : Carried). x .written) e
+    one-written = ap (λ (x : Stands). x .written) e
 
     eight-more : 8 * (calls + 1) ≡ 8 * calls + 8
     eight-more = omega arith
@@ -91,12 +90,12 @@ module _ (whole : Ran) (b : Board) (due : ℕ) (s out₀ : List ℕ) (st : State
     pub ended-turn : r .ended ≡ true
         → (_≡_ {A = RanBlock} (record { state = r .state; calls = calls; written = at + r .written; ended = true }) (ranBlock whole)) × (out′ ≡ overwritten out₀ 0 (whole .lines))
     ended-turn t =
-        let split = one-ends b st (due - (calls + 1)) (drop (8 * calls) s) (sym (ap (λ (x : Carried). x .ended) e) ∙ t) in
+        let split = one-ends b st (due - (calls + 1)) (drop (8 * calls) s) (sym (ap (λ (x : Stands). x .ended) e) ∙ t) in
         let counts : calls + 0 ≡ whole .calls = rw (left-over, split) at (h .counts) in
         let n : calls ≡ whole .calls = omega arith in
         let size : at + length (ran b st 1 (drop (8 * calls) s) .lines) ≡ length (whole .lines) = rw (left-over, split) at (h .size) in
         let w : at + r .written ≡ length (whole .lines) = ap (λ (k : ℕ). at + k) one-written ∙ size in
-        let after : r .state ≡ whole .state = ap (λ (x : Carried). x .state) e ∙ (rw (left-over, split) at (h .after)) in
+        let after : r .state ≡ whole .state = ap (λ (x : Stands). x .state) e ∙ (rw (left-over, split) at (h .after)) in
         let ends : true ≡ whole .ended = rw (left-over, split) at (h .ends) in
         (λ i. record { state = after i; calls = n i; written = w i; ended = ends i }, eo ∙ (rw (left-over, split) at (h .stands)))
 
@@ -106,7 +105,7 @@ module _ (whole : Ran) (b : Board) (due : ℕ) (s out₀ : List ℕ) (st : State
         let one = ran b st 1 (drop (8 * calls) s) in
         let later = ran b (r .state) (due - (calls + 1)) (drop (8 * (calls + 1)) s) in
         let split : ran b st (due - calls) (drop (8 * calls) s) ≡ front (one .lines) 1 later =
-        rw (left-over, one-then-more b st (due - (calls + 1)) (drop (8 * calls) s) (sym (ap (λ (x : Carried). x .ended) e) ∙ t), ← ap (λ (x : Carried). x .state) e, drop-drop 8 (8 * calls) s, ← eight-more) refl in
+        rw (left-over, one-then-more b st (due - (calls + 1)) (drop (8 * calls) s) (sym (ap (λ (x : Stands). x .ended) e) ∙ t), ← ap (λ (x : Stands). x .state) e, drop-drop 8 (8 * calls) s, ← eight-more) refl in
         let room : length (one .lines) ≤ lineRoom = one-line-room b st (drop (8 * calls) s) in
         let fit : at + length (one .lines) ≤ length out = omega (arith, h .room, h .long) in
         let lines : ran b st (due - calls) (drop (8 * calls) s) .lines ≡ one .lines ++ later .lines = ap (λ (x : Ran). x .lines) split in

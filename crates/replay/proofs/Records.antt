@@ -20,12 +20,12 @@ use Rattle.acting.specs.Calls.{answered}
 use Rattle.logs.specs.declared.RecordAnswer.{RecordAnswer}
 use Rattle.logs.specs.Records.{recordSize, recordFault, recordSays, readRecord}
 use Rattle.logs.proofs.Answers.{record-is, record-refused}
-use Rattle.listings.specs.Lines.{callLine, refusalLine, lineSays, lineBuffer}
-use Rattle.listings.proofs.Room.{fitting-line, fitting-buffer}
+use Rattle.lines.specs.Lines.{refusalLine, lineSays, lineBuffer}
+use Rattle.listings.specs.Lines.{callLine}
+use Rattle.lines.proofs.Room.{fitting-line, fitting-buffer}
 use Rattle.listings.proofs.LongestCall.{any-call, any-refusal}
-use Rattle.replay.specs.declared.Carried.{Carried}
 use Rattle.replay.specs.Blocks.{Ran, callIn, oneMore, ran, lineRoom}
-use Rattle.replay.specs.inner.Parts.{carried}
+use Rattle.replay.specs.inner.Parts.{Stands, carried}
 
 -- The record is a call, or it is refused.
 pub data Found (s : List ℕ) : Type 0 where
@@ -95,7 +95,7 @@ module _ (b : Board) (st : State) (s out : List ℕ) (at : ℕ) (room : at + lin
       → after ≡ answered b st c .state
       → outcomeSays la ≡ lineSays (callLine c reply) (length out) at
       → out′ ≡ lineBuffer (callLine c reply) out at
-      → (_≡_ {A = Carried} (record { state = after; written = n; ended = false }) (carried (ran b st 1 s)))
+      → (_≡_ {A = Stands} (record { state = after; written = n; ended = false }) (carried (ran b st 1 s)))
       × (out′ ≡ overwritten out at (ran b st 1 s .lines))
   call-carried a c read is reply after er es says put =
       let e = record-is a s read c is in
@@ -105,7 +105,7 @@ module _ (b : Board) (st : State) (s out : List ℕ) (at : ℕ) (room : at + lin
   pub refusal-carried : (a : RecordAnswer) (r : Refusal) → recordSays a ≡ readRecord s → a ≡ RecordAnswer.Refused r
       → outcomeSays la ≡ lineSays (refusalLine (numberOf r)) (length out) at
       → out′ ≡ lineBuffer (refusalLine (numberOf r)) out at
-      → (_≡_ {A = Carried} (record { state = st; written = n; ended = true }) (carried (ran b st 1 s)))
+      → (_≡_ {A = Stands} (record { state = st; written = n; ended = true }) (carried (ran b st 1 s)))
       × (out′ ≡ overwritten out at (ran b st 1 s .lines))
   refusal-carried a r read is says put =
       let e = record-refused a s read r is in

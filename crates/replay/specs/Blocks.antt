@@ -10,7 +10,8 @@ use Rattle.states.specs.declared.Board.{Board}
 use Rattle.states.specs.declared.State.{State}
 use Rattle.acting.specs.Calls.{answered}
 use Rattle.logs.specs.Records.{recordSize, fieldsIn, recordFault}
-use Rattle.listings.specs.Lines.{callLine, refusalLine}
+use Rattle.lines.specs.Lines.{refusalLine}
+use Rattle.listings.specs.Lines.{callLine}
 use Rattle.replay.specs.declared.RanBlock.{RanBlock}
 
 -- The call in the record at the start of the bytes.

@@ -5,7 +5,8 @@ use mathlib.Core.List.{List, []}
 use lib.Dec.{eqb}
 use Rattle.plans.specs.Reading.{readFault, planRead}
 use Rattle.logs.specs.Records.{readCount, recordFault, tailFault}
-use Rattle.listings.specs.Lines.{firstLine, refusalLine}
+use Rattle.lines.specs.Lines.{refusalLine}
+use Rattle.listings.specs.Lines.{firstLine}
 
 -- Clause 9.8: the line of a number that is due, and none for 0.
 abbrev pub faultLine : ℕ → List ℕ

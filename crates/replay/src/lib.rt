@@ -1,9 +1,10 @@
 // A log to its listing, block by block: what `lockreplay` does between reading and writing. The bytes of a log come in
 // blocks of any size, and each block's lines go into a lent buffer.
-use arbiter::answer_on;
+use acting::answer_in_place;
 use arbiter::fresh_of;
+use digits::hex_pairs;
 use encoding::Outcome;
-use listings::call_line;
+use listings::call_line_by;
 use listings::first_line;
 use listings::refusal_line;
 use logs::CountAnswer;
@@ -14,8 +15,10 @@ use logs::read_count;
 use logs::read_record;
 use plans::ENTRIES;
 use plans::Plan;
+use plans::SLOTS;
 use refusals::Verdict;
 use states::Board;
+use states::Moment;
 use states::State;
 use states::Terms;
 ghost use mathlib.Core.Path.{_≡_};
@@ -25,12 +28,13 @@ ghost use Rattle.refusals.specs.Number.{verdictNumber};
 ghost use Rattle.encoding.specs.Buffers.{overwritten, outcomeSays};
 ghost use Rattle.plans.specs.Reading.{readSays, planRead};
 ghost use Rattle.arbiter.specs.Fresh.{freshBoard, freshState};
-ghost use Rattle.acting.specs.InPlace.{boardBy};
+ghost use Rattle.acting.specs.InPlace.{boardBy, stateBy};
 ghost use Rattle.logs.specs.Records.{recordSize, countSays, readCount};
-ghost use Rattle.listings.specs.Lines.{lineSays, lineBuffer};
+ghost use Rattle.digits.specs.Digits.{hexPairs};
+ghost use Rattle.lines.specs.Lines.{lineSays, lineBuffer};
 ghost use Rattle.replay.specs.Blocks.{lineRoom, ran, budget, ranBlock};
 ghost use Rattle.replay.specs.Ends.{faultLine, openingLine, countLine, endFault, endLine};
-ghost use Rattle.replay.specs.inner.Parts.{openingBy, carried};
+ghost use Rattle.replay.specs.inner.Parts.{openingBy, carried, carriedBy};
 
 // The room that a line needs: the longest of a call or a refusal, rounded up.
 const LINE_ROOM: usize = 80;
@@ -49,9 +53,10 @@ pub struct CallCount {
     pub line: Outcome,
 }
 
-// What one record did: the state after it, how many bytes its line took, and whether it ended the replay.
+// What one record did beside the arrays of the state: the moment after it, how many bytes its line took, and whether it
+// ended the replay.
 struct Carried {
-    state: State,
+    moment: Moment,
     written: usize,
     ended: bool,
 }
@@ -161,36 +166,53 @@ pub fn line_size(line: Outcome) -> usize
     }
 }
 
-// One record: its call is carried out and has its line, or its refusal is a line of its own and ends the replay.
+// One record: its call is carried out and has its line, or its refusal is a line of its own and ends the replay. The
+// arrays of the board and of the state are lent, and so are the digits of every byte.
 fn replay_record(
     terms: Terms,
     rows: &[u64; ENTRIES],
     lengths: &[u16; ENTRIES],
-    state: State,
+    pairs: &[u16],
+    moment: Moment,
+    entries: &mut [u8; SLOTS],
+    since: &mut [u64; SLOTS],
+    earlier: &mut [u32; SLOTS],
     bytes: &[u8],
     out: &mut [u8],
     at: usize,
 ) -> Carried
-    requires { ⌜ at + lineRoom ≤ length (now out) ⌝ }
+    requires { ⌜ (now pairs ≡ hexPairs) × (at + lineRoom ≤ length (now out)) ⌝ }
     ensures result { λ r. ⌜
-        r
-        ≡ carried (ran (boardBy terms (now (rows .entry)) (now (lengths .entry))) state 1 (now (bytes .entry)))
+        carriedBy r (now (entries .exit)) (now (since .exit)) (now (earlier .exit))
+        ≡ carried
+        (ran (boardBy terms (now (rows .entry)) (now (lengths .entry)))
+        (stateBy moment (now (entries .entry)) (now (since .entry)) (now (earlier .entry))) 1 (now (bytes .entry)))
         ⌝ }
     ensures written { λ _. ⌜
         now (out .exit)
         ≡ overwritten (now (out .entry)) at
-        (ran (boardBy terms (now (rows .entry)) (now (lengths .entry))) state 1 (now (bytes .entry)) .lines)
+        (ran (boardBy terms (now (rows .entry)) (now (lengths .entry)))
+        (stateBy moment (now (entries .entry)) (now (since .entry)) (now (earlier .entry))) 1 (now (bytes .entry)) .lines)
         ⌝ }
 {
     let found = read_record(bytes);
     match found {
         RecordAnswer::Is(call) => {
-            let answered = answer_on(terms, rows, lengths, state, call);
-            let reply = answered.reply;
-            let after = answered.state;
-            let size = line_size(call_line(call, reply, out, at));
+            let changed = answer_in_place(
+                terms,
+                rows,
+                lengths,
+                moment,
+                entries,
+                since,
+                earlier,
+                call,
+            );
+            let reply = changed.reply;
+            let after = changed.moment;
+            let size = line_size(call_line_by(pairs, call, reply, out, at));
             Carried {
-                state: after,
+                moment: after,
                 written: size,
                 ended: false,
             }
@@ -198,11 +220,30 @@ fn replay_record(
         RecordAnswer::Refused(refusal) => {
             let written = line_size(refusal_line(refusal, out, at));
             Carried {
-                state: state,
+                moment: moment,
                 written: written,
                 ended: true,
             }
         }
+    }
+}
+
+// The state of a moment and the three arrays.
+fn state_of(
+    moment: Moment,
+    entries: [u8; SLOTS],
+    since: [u64; SLOTS],
+    earlier: [u32; SLOTS],
+) -> State
+    ensures { λ r. ⌜ r ≡ stateBy moment entries since earlier ⌝ }
+{
+    let phases = moment.phases;
+    State {
+        last: moment.last,
+        phases: phases,
+        since: since,
+        earlier: earlier,
+        entry: entries,
     }
 }
 
@@ -221,7 +262,7 @@ fn budget_of(left: u16, size: usize, room: usize) -> u16
 }
 
 // The records of a block, one by one, up to the first that is refused. Their lines go to the start of `out`.
-// The board's arrays are lent to each call.
+// The arrays of the board and of the state are lent to each call, and the digits of every byte to each line.
 pub fn run(board: Board, state: State, left: u16, bytes: &[u8], out: &mut [u8]) -> RanBlock
     ensures result { λ r. ⌜
         r
@@ -237,19 +278,39 @@ pub fn run(board: Board, state: State, left: u16, bytes: &[u8], out: &mut [u8]) 
     let terms = board.terms;
     let rows = board.rows;
     let lengths = board.lengths;
+    let pairs = hex_pairs();
     let due = budget_of(left, bytes.len(), out.len());
-    let mut current = state;
+    let phases = state.phases;
+    let mut moment = Moment {
+        last: state.last,
+        phases: phases,
+    };
+    let mut entries = state.entry;
+    let mut since = state.since;
+    let mut earlier = state.earlier;
     let mut calls: u16 = 0;
     let mut at: usize = 0;
     while calls < due {
         let from = RECORD_BYTES * (calls as usize);
-        let carried = replay_record(terms, &rows, &lengths, current, &bytes[from..], out, at);
-        let next = carried.state;
-        current = next;
+        let carried = replay_record(
+            terms,
+            &rows,
+            &lengths,
+            &pairs,
+            moment,
+            &mut entries,
+            &mut since,
+            &mut earlier,
+            &bytes[from..],
+            out,
+            at,
+        );
+        let after = carried.moment;
+        moment = after;
         at += carried.written;
         if carried.ended {
             return RanBlock {
-                state: current,
+                state: state_of(moment, entries, since, earlier),
                 calls: calls,
                 written: at,
                 ended: true,
@@ -258,7 +319,7 @@ pub fn run(board: Board, state: State, left: u16, bytes: &[u8], out: &mut [u8]) 
         calls += 1;
     }
     RanBlock {
-        state: current,
+        state: state_of(moment, entries, since, earlier),
         calls: calls,
         written: at,
         ended: false,

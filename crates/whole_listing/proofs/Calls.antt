@@ -14,7 +14,7 @@ use Rattle.masks.proofs.Truth.{or-right}
 use Rattle.states.specs.declared.Board.{Board}
 use Rattle.states.specs.declared.State.{State}
 use Rattle.logs.specs.Records.{recordSize, fieldsIn, recordFault, tailFault}
-use Rattle.listings.specs.Lines.{refusalLine}
+use Rattle.lines.specs.Lines.{refusalLine}
 use Rattle.log_input.specs.Stages.{dueSize}
 use Rattle.replay.specs.Blocks.{Ran, oneMore, ran, goingOn}
 use Rattle.replay.specs.Ends.{faultLine, endFault, endLine}

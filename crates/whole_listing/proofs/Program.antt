@@ -19,7 +19,8 @@ use Rattle.states.specs.declared.Board.{Board}
 use Rattle.states.specs.declared.State.{State}
 use Rattle.arbiter.specs.Fresh.{boardOf, freshBoard, freshState}
 use Rattle.logs.specs.Records.{countSize, readCount}
-use Rattle.listings.specs.Lines.{firstLine, refusalLine}
+use Rattle.lines.specs.Lines.{refusalLine}
+use Rattle.listings.specs.Lines.{firstLine}
 use Rattle.log_input.specs.Stages.{isShort}
 use Rattle.whole_listing.specs.Rooms.{planRoom, blockRoom}
 use Rattle.whole_listing.specs.Listing.{listingOf}

@@ -18,7 +18,7 @@ use Rattle.plans.proofs.RoundTrip.{read-inside}
 use Rattle.states.specs.declared.Board.{Board}
 use Rattle.states.specs.declared.State.{State}
 use Rattle.logs.specs.Records.{recordSize}
-use Rattle.listings.specs.Lines.{lineSays}
+use Rattle.lines.specs.Lines.{lineSays}
 use Rattle.replay.specs.declared.RanBlock.{RanBlock}
 use Rattle.replay.specs.Blocks.{ran, budget, ranBlock}
 use Rattle.replay.proofs.Records.{Found, found, stateIn, ran-call, ran-refused}

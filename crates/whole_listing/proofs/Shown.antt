@@ -11,7 +11,7 @@ use Rattle.encoding.specs.Buffers.{overwritten}
 use Rattle.encoding.proofs.Room.{fits-room}
 use Rattle.plans.specs.Reading.{readFault, planRead}
 use Rattle.logs.specs.Records.{readCount}
-use Rattle.listings.specs.Lines.{refusalLine, lineSays, lineBuffer}
+use Rattle.lines.specs.Lines.{refusalLine, lineSays, lineBuffer}
 use Rattle.listings.proofs.LongestFirst.{any-first}
 use Rattle.listings.proofs.LongestCall.{any-refusal}
 use Rattle.replay.specs.Blocks.{Ran, ranBlock}

@@ -11,7 +11,8 @@ use Rattle.states.specs.declared.Board.{Board}
 use Rattle.states.specs.declared.State.{State}
 use Rattle.arbiter.specs.Fresh.{boardOf, freshState}
 use Rattle.logs.specs.Records.{countSize, readCount}
-use Rattle.listings.specs.Lines.{firstLine, refusalLine}
+use Rattle.lines.specs.Lines.{refusalLine}
+use Rattle.listings.specs.Lines.{firstLine}
 use Rattle.log_input.specs.Stages.{isShort}
 use Rattle.whole_listing.specs.Listing.{countedListing, listingOf}
 use Rattle.whole_listing.specs.SoFar.{countedSoFar, listingSoFar}

@@ -1,0 +1,41 @@
+-- How numbers stand in a listing, in bytes of ASCII: 48 is `0`, 97 is `a`. Specification, clause 9.9.
+use Prim.Native.Nat.{ℕ, zero, suc, _+_, _/_, _%_}
+use mathlib.Core.Bool.{cond}
+use mathlib.Core.List.{List, [], _∷_, _++_}
+use lib.Dec.{ltb}
+use lib.ListN.{getD}
+use Rattle.encoding.specs.Numbers.{number, bytesOf}
+
+-- The last k digits of a number, without leading zeros.
+unfoldable pub digits : ℕ → ℕ → List ℕ
+digits zero n = []
+digits (suc k) n = cond (ltb n 10) ((48 + n) ∷ []) (digits k (n / 10) ++ ((48 + n % 10) ∷ []))
+
+-- Clause 9.9: a decimal number. None in a listing has more than 20 digits.
+abbrev pub decimal : ℕ → List ℕ
+decimal n = digits 20 n
+
+-- Clause 9.9: a hexadecimal digit, `a` to `f` in lower case.
+abbrev pub hexDigit : ℕ → ℕ
+hexDigit d = cond (ltb d 10) (48 + d) (87 + d)
+
+-- Clause 9.9: a mask in four hexadecimal digits.
+unfoldable pub hex4 : ℕ → List ℕ
+hex4 mask =
+    hexDigit (mask / 4096 % 16) ∷ hexDigit (mask / 256 % 16) ∷ hexDigit (mask / 16 % 16) ∷ hexDigit (mask % 16) ∷ []
+
+-- Clause 9.9: a byte in two hexadecimal digits, higher first.
+abbrev pub hexPair : ℕ → List ℕ
+hexPair byte = hexDigit (byte / 16) ∷ hexDigit (byte % 16) ∷ []
+
+-- The pairs of n bytes from b on, each as a number of two bytes (clause 2.1); and the table, that of all 256 bytes.
+unfoldable pub pairsFrom : ℕ → ℕ → List ℕ
+pairsFrom b zero = []
+pairsFrom b (suc n) = number (hexPair b) ∷ pairsFrom (suc b) n
+
+unfoldable pub hexPairs : List ℕ
+hexPairs = pairsFrom 0 256
+
+-- A mask in four digits that a table of pairs has for its two bytes.
+unfoldable pub maskBy : List ℕ → ℕ → List ℕ
+maskBy pairs mask = bytesOf 2 (getD pairs (mask / 256 % 256) 0) ++ bytesOf 2 (getD pairs (mask % 256) 0)

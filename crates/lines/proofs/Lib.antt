@@ -1,0 +1,4 @@
+pub mod Stores
+pub mod Backwards
+pub mod Lengths
+pub mod Room

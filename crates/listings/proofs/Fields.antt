@@ -1,0 +1,28 @@
+-- What a reply has in its line, and a call's line by the table of all bytes. Assumes nothing.
+use Prim.Native.Nat.{ℕ}
+use mathlib.Core.Path.{_≡_, refl}
+use mathlib.Core.List.{List}
+use Rattle.refusals.specs.declared.Refusal.{Refusal}
+use Rattle.refusals.specs.Number.{numberOf}
+use Rattle.refusals.proofs.Numbers.{number-not-zero}
+use Rattle.calls.specs.declared.Reply.{Reply}
+use Rattle.calls.specs.declared.Call.{Call}
+use Rattle.calls.specs.Replies.{Response, replySays}
+use Rattle.digits.specs.Digits.{hexPairs}
+use Rattle.digits.proofs.Table.{mask-digits}
+use Rattle.lines.specs.Lines.{doneFields, refusedFields}
+use Rattle.listings.specs.Lines.{replyFields, callLine, callLineBy}
+
+-- What a reply has behind the processor.
+module _ (mask : ℕ → List ℕ) (reply : Reply) where
+  pub done-fields : (granted entitled late : ℕ) → reply ≡ Reply.Done granted entitled late
+      → replyFields mask (replySays reply) ≡ doneFields mask granted entitled late
+  done-fields granted entitled late e = rw e refl
+
+  pub refused-fields : (r : Refusal) → reply ≡ Reply.Refused r → replyFields mask (replySays reply) ≡ refusedFields (numberOf r)
+  refused-fields r e = rw (e, number-not-zero r)
+
+-- By the table of all bytes a call's line is the call's line.
+pub line-by-table : (c : Call) (reply : Response) → callLineBy hexPairs c reply ≡ callLine c reply
+unfolding callLineBy callLine
+line-by-table c reply = rw (mask-digits (reply .granted), mask-digits (reply .entitled)) refl
