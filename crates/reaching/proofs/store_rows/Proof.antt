@@ -27,7 +27,7 @@ loop-again : tie.Need-loop-again Inv-loop μ-loop
 loop-again c =
     let written = c .before .before in
     let loop = written .before .before .before .loop in
-    let low : loop .i < slots = written .before .before .loop-test .taken in
+    let low : loop .i < slots = omega arith in
     let start = written .before .before .before .before .before in
     let next = word-stored maskSize _ slots (loop .i) _ _ _ low (start .pre) (loop .inv .1) (loop .inv .2) (written .write-number .ensures .1) in
     (omega arith, next .0, next .1)

@@ -1,6 +1,7 @@
 -- `write_rows` meets its contract: with room the rows are stored, without it nothing is. Assumes nothing.
 use mathlib.Core.Path.{sym, _∙_}
 use Prim.Native.Nat.{ℕ}
+use native.Mathlib.Omega.{arith}
 use lib.ListN.{getD}
 use Rattle.encoding.proofs.Room.{with-room, without-room}
 use Rattle.plans.specs.Entries.{slots}
@@ -12,7 +13,7 @@ use Rattle.reaching.proofs.write_rows.Statement.{statement}
 use Rattle.reaching.proofs.write_rows.Tie as tie
 
 store-rows-requires : tie.Need-store-rows-requires
-store-rows-requires c κs = c .before .before .has-room .ensures .1 (c .before .if1 .taken)
+store-rows-requires c κs = omega (arith, c .before .before .has-room .ensures .1 (c .before .if1 .taken))
 
 returns : tie.Need-returns
 returns c =
