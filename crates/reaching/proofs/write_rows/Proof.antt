@@ -21,7 +21,8 @@ returns c =
     let a = looked .before .before .args in
     let f : ℕ → ℕ = λ p. getD (a .rows) p 0 in
     with-room (wordsSize maskSize) 0 (a .scratch .now) (wordsOf maskSize slots f) (length-words maskSize f slots)
-    (sym (looked .has-room .ensures .0) ∙ c .before .before .before .before .if1 .taken) _ (c .before .before .store-rows .ensures)
+    (sym (looked .has-room .ensures .0) ∙ c .before .before .before .before .if1 .taken) _
+    (c .before .before .store-rows .ensures)
 
 returns-2 : tie.Need-returns-2
 returns-2 c =
