@@ -8,6 +8,7 @@ fn in_row(state: &State, among: u32, row: u64) -> u32 {
 }
 
 /// The phases of the requests that count: waiting, entitled, holding; and the direct waits of every processor.
+#[inline(always)]
 pub fn phases_and_waits(board: &Board, state: &State) -> ([u32; 3], [u32; 16]) {
     let (mut counted, mut known) = (0u32, 0u32);
     for p in 0..16u8 {

@@ -1,5 +1,5 @@
-//! Reach as the library works it out: on any state value, rows of masks, one pass for each processor that a chain may lead
-//! through, and all rows as words in the scratch.
+//! Reach as the library works it out: on any state value, rows of masks, one pass for each processor that a chain may
+//! lead through, and all rows as words in the scratch.
 use crate::arbiter::{board_of, Board, Entry, State, PLAIN};
 use crate::list::phases_and_waits;
 

@@ -1,5 +1,6 @@
 // What a viewer asks of a board with 16 busy processors. Prints a checksum, which the Rust program prints too for the
-// list and for reach. A program of its own: with it in `bench_library` the calls there were compiled to more instructions.
+// list and for reach. A program of its own: with it in `bench_library` the calls there were compiled to more
+// instructions.
 //   bench_queries none TURNS       turns of two calls alone
 //   bench_queries list TURNS       the list of the whole board after each turn
 //   bench_queries queries TURNS    the state and the direct waits of each processor, by single queries, after each turn

@@ -1,4 +1,5 @@
--- The rows through all processors are the reach of each, and as words they are the bytes of the scratch. Assumes nothing.
+-- The rows through all processors are the reach of each, and as words they are the bytes of the scratch.
+-- Assumes nothing.
 use Prim.Native.Nat.{ℕ, _≤_, _<_}
 use mathlib.Core.Path.{_≡_, refl, sym, ap, _∙_}
 use mathlib.Core.Bool.{Bool, true, false}
@@ -40,10 +41,12 @@ module _ (b : Board) (s : State) where
 
   via-reaches : (p q : ℕ) → via (waitsFor b s) slots p q ≡ reaches b s p q
   via-reaches p q =
-      same-truth _ _ (λ e. chain-reaches b s p q (via-gives (waitsFor b s) (Chain b s) (λ x y. direct) chain-join slots p q e))
+      same-truth _ _
+      (λ e. chain-reaches b s p q (via-gives (waitsFor b s) (Chain b s) (λ x y. direct) chain-join slots p q e))
       (λ e. path-via (waitsFor b s) slots p q (chain-path p q (reaches-chain b s p q e)))
 
-  pub rows-reached : (given rows : List ℕ) → given ≡ directRows b s → rows ≡ rowsThrough slots given → rows ≡ reachedRows b s
+  pub rows-reached : (given rows : List ℕ) → given ≡ directRows b s → rows ≡ rowsThrough slots given
+      → rows ≡ reachedRows b s
   rows-reached given rows are e =
       e
       ∙ ap (rowsThrough slots) are
@@ -53,12 +56,15 @@ module _ (b : Board) (s : State) where
 
   module _ (rows : List ℕ) (are : rows ≡ reachedRows b s) where
     pub row-asked : (p : ℕ) → p < slots → getD rows p 0 ≡ maskOf slots (reaches b s p)
-    row-asked p l = ap (λ (xs : List ℕ). getD xs p 0) are ∙ getD-tabulate slots (λ q. maskOf slots (reaches b s q)) p 0 l
+    row-asked p l =
+        ap (λ (xs : List ℕ). getD xs p 0) are ∙ getD-tabulate slots (λ q. maskOf slots (reaches b s q)) p 0 l
 
     -- What `write_rows` leaves in a scratch with room.
-    pub words-stored : (scratch after : List ℕ) → scratchSize ≤ length scratch → after ≡ wordsScratch maskSize rows scratch
+    pub words-stored : (scratch after : List ℕ) → scratchSize ≤ length scratch
+        → after ≡ wordsScratch maskSize rows scratch
         → after ≡ overwritten scratch 0 (reachBytes b s)
     unfolding reachBytes
     words-stored scratch after room stored =
         let words = words-agree maskSize slots (λ p. getD rows p 0) (λ p. maskOf slots (reaches b s p)) row-asked in
-        rw (fits-room scratchSize (length scratch) 0 room) at stored ∙ ap (λ (bytes : List ℕ). overwritten scratch 0 bytes) words
+        rw (fits-room scratchSize (length scratch) 0 room) at stored
+        ∙ ap (λ (bytes : List ℕ). overwritten scratch 0 bytes) words

@@ -67,8 +67,8 @@ chained b s (suc n) p q = waitsFor b s p q || some slots (λ r. waitsFor b s p r
 unfoldable pub reaches : Board → State → ℕ → ℕ → Bool
 reaches b s p q = chained b s slots p q
 
--- Clause 7.4: the scratch has a word for each processor, of as many bytes as a mask takes: in word p bit q is set where p
--- reaches q, else clear.
+-- Clause 7.4: the scratch has a word for each processor, of as many bytes as a mask takes: in word p bit q is set where
+-- p reaches q, else clear.
 abbrev pub scratchSize : ℕ
 scratchSize = wordsSize maskSize
 

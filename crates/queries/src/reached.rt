@@ -45,8 +45,8 @@ fn reach_from(terms: Terms, direct: [u32; SLOTS], processor: u8, scratch: &mut [
     }
 }
 
-// Clause 7.3: all that a processor reaches, a mask. The scratch is left with a word for each processor, and bytes behind
-// those stay. Refuses by 11, then by 16; a refusal writes nothing.
+// Clause 7.3: all that a processor reaches, a mask. The scratch is left with a word for each processor, and bytes
+// behind those stay. Refuses by 11, then by 16; a refusal writes nothing.
 pub fn reach(board: Board, state: State, processor: u8, scratch: &mut [u8]) -> MaskAnswer
     ensures mask { λ r. ⌜ maskSays r ≡ reachQuery board state processor (now (scratch .entry)) ⌝ }
     ensures stored { λ _. ⌜ now (scratch .exit) ≡ reachScratch board state processor (now (scratch .entry)) ⌝ }

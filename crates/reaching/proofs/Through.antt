@@ -37,10 +37,13 @@ module _ (W : ℕ → ℕ → Bool) where
   row-joined : (k p : ℕ) → k < slots → p < slots → joinedRow (viaRows k) k p ≡ maskOf slots (via (suc k) p)
   unfolding joinedRow via
   row-joined k p l m =
-      let mine : getD (viaRows k) p 0 ≡ maskOf slots (via k p) = getD-tabulate slots (λ r. maskOf slots (via k r)) p 0 m in
-      let other : getD (viaRows k) k 0 ≡ maskOf slots (via k k) = getD-tabulate slots (λ r. maskOf slots (via k r)) k 0 l in
+      let mine : getD (viaRows k) p 0 ≡ maskOf slots (via k p) =
+      getD-tabulate slots (λ r. maskOf slots (via k r)) p 0 m in
+      let other : getD (viaRows k) k 0 ≡ maskOf slots (via k k) =
+      getD-tabulate slots (λ r. maskOf slots (via k r)) k 0 l in
       ap₂ (λ (x y : ℕ). cond (bit x k) (bitOr x y) x) mine other
-      ∙ ap (λ t. cond t (bitOr (maskOf slots (via k p)) (maskOf slots (via k k))) (maskOf slots (via k p))) (bit-mask-at slots (via k p) k l)
+      ∙ ap (λ t. cond t (bitOr (maskOf slots (via k p)) (maskOf slots (via k k))) (maskOf slots (via k p)))
+      (bit-mask-at slots (via k p) k l)
       ∙ sym (join-if slots (via k p) (via k k) (via k p k))
 
   pub rows-via : (k : ℕ) → k ≤ slots → rowsThrough k (tabulate slots (λ p. maskOf slots (W p))) ≡ viaRows k
@@ -86,5 +89,6 @@ module _ (W : ℕ → ℕ → Bool) where
   via-gives C base join (suc k) p q e =
       ⊎-elim (via-gives C base join k p q)
       (λ f.
-      join p k q (via-gives C base join k p k (and-left (via k p k) _ f)) (via-gives C base join k k q (and-right (via k p k) _ f)))
+      join p k q (via-gives C base join k p k (and-left (via k p k) _ f))
+      (via-gives C base join k k q (and-right (via k p k) _ f)))
       (or-cases (via k p q) (via k p k && via k k q) e)

@@ -115,7 +115,7 @@ fn print_bytes(scratch: &[u8]) {
     io::write_all(STDOUT_FILENO, b"\n");
 }
 
-// Clauses 7.4 and 7.5: a scratch of 31 is refused and stays, 11 comes before 16, 32 are taken, the byte behind them stays.
+// Clauses 7.4 and 7.5: a scratch of 31 is refused and stays, 11 comes before 16, 32 are taken, the byte behind stays.
 fn print_scratches(board: Board, state: State) {
     let mut short = [7u8; 31];
     print_mask(queries::reach(board, state, 2, &mut short));

@@ -12,7 +12,8 @@ use Rattle.reaching.proofs.join_through.Statement.{statement}
 use Rattle.reaching.proofs.join_through.Tie as tie
 
 abbrev Inv-loop : tie.InvT-loop
-Inv-loop k rows row next₀ p₀ next p = (p ≤ slots) × (length next ≡ slots) × (take p next ≡ tabulate p (joinedRow rows k))
+Inv-loop k rows row next₀ p₀ next p =
+    (p ≤ slots) × (length next ≡ slots) × (take p next ≡ tabulate p (joinedRow rows k))
 
 abbrev μ-loop : tie.MeasureT-loop
 μ-loop k rows row next₀ p₀ next p = slots - p
@@ -25,8 +26,11 @@ loop-again : tie.Need-loop-again Inv-loop μ-loop
 unfolding joinedRow
 loop-again c =
     let loop = c .before .before .before .loop in
-    let low : loop .p < length (loop .next) = omega arith in
-    (omega arith, simp length-set (loop .inv .1), fill-more _ _ _ _ low (loop .inv .2) (rw (← c .before .has32 .ensures) (c .join-if .ensures)))
+    let low : loop .p < length (loop .next) = omega arith in (
+      omega arith,
+      simp length-set (loop .inv .1),
+      fill-more _ _ _ _ low (loop .inv .2) (rw (← c .before .has32 .ensures) (c .join-if .ensures)),
+    )
 
 returns : tie.Need-returns Inv-loop μ-loop
 returns c =

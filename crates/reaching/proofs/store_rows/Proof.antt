@@ -14,7 +14,8 @@ use Rattle.reaching.proofs.store_rows.Tie as tie
 
 abbrev Inv-loop : tie.InvT-loop
 Inv-loop scratch₀ rows i₀ scratch i =
-    (i ≤ slots) × (length scratch ≡ length scratch₀) × (scratch ≡ sets scratch₀ 0 (wordsOf maskSize i (λ q. getD rows q 0)))
+    (i ≤ slots) × (length scratch ≡ length scratch₀)
+    × (scratch ≡ sets scratch₀ 0 (wordsOf maskSize i (λ q. getD rows q 0)))
 
 abbrev μ-loop : tie.MeasureT-loop
 μ-loop scratch₀ rows i₀ scratch i = slots - i
@@ -27,9 +28,10 @@ loop-again : tie.Need-loop-again Inv-loop μ-loop
 loop-again c =
     let written = c .before .before in
     let loop = written .before .before .before .loop in
-    let low : loop .i < slots = written .before .before .loop-test .taken in
+    let low : loop .i < slots = omega arith in
     let start = written .before .before .before .before .before in
-    let next = word-stored maskSize _ slots (loop .i) _ _ _ low (start .pre) (loop .inv .1) (loop .inv .2) (written .write-number .ensures .1) in
+    let next = word-stored maskSize _ slots (loop .i) _ _ _ low (start .pre) (loop .inv .1) (loop .inv .2)
+    (written .write-number .ensures .1) in
     (omega arith, next .0, next .1)
 
 same-length : tie.Need-same-length Inv-loop μ-loop
