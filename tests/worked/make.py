@@ -25,8 +25,9 @@ UNFOLDED = {
     "acting.specs.Calls": "putState takenState done settledDone issued left completed withdrawn",
     "arbiter.specs.Fresh": "boardOf",
     "logs.specs.Records": "fieldsIn recordFault",
-    "listings.specs.Digits": "digits hex4",
-    "listings.specs.Lines": "furtherFields firstLine refusalLine callLine",
+    "digits.specs.Digits": "digits hex4",
+    "lines.specs.Lines": "furtherFields refusalLine",
+    "listings.specs.Lines": "firstLine callLine",
     "whole_listing.specs.Listing": "callsListing listingOf",
 }
 
