@@ -29,9 +29,9 @@ use Rattle.states.specs.declared.Board.{Board}
 use Rattle.states.specs.declared.State.{State}
 use Rattle.states.specs.Requests.{hasProcessor}
 use Rattle.states.specs.Faults.{tickFault, processorFault, issueFault, completeFault, withdrawFault}
-use Rattle.acting.specs.Acts.{putIn, putLast, takenOut, began, stamped}
-use Rattle.acting.specs.Calls.{Answer, phasesOf, putState, takenState, done, ruled, settledDone, issued, lateMark, left, completed, withdrawn, answered}
-use Rattle.acting.specs.InPlace.{boardBy, stateBy}
+use Rattle.rules.specs.Acts.{putIn, putLast, takenOut, began, stamped}
+use Rattle.rules.specs.Calls.{Answer, phasesOf, putState, takenState, done, ruled, settledDone, issued, lateMark, left, completed, withdrawn, answered}
+use Rattle.rules.specs.InPlace.{boardBy, stateBy}
 use Rattle.states.specs.inner.Small.{Small}
 
 -- ---- an accepted call

@@ -22,7 +22,7 @@ use Rattle.settling.specs.Requests.{Facts, active}
 use Rattle.settling.specs.Settling.{settled}
 use Rattle.settling.proofs.Quiet.{quiet}
 use Rattle.settling.proofs.Idle.{alone-holds}
-use Rattle.acting.specs.Acts.{putIn, putLast, takenOut}
+use Rattle.rules.specs.Acts.{putIn, putLast, takenOut}
 use Rattle.states.specs.inner.Small.{Small}
 
 -- A list with these elements.

@@ -17,7 +17,7 @@ ghost use Rattle.plans.specs.Entries.{slots};
 ghost use Rattle.conflicts.specs.Conflict.{tabulate};
 ghost use Rattle.settling.specs.Requests.{factsBy, active};
 ghost use Rattle.settling.specs.Settling.{settled};
-ghost use Rattle.acting.specs.Acts.{putIn, putLast, takenOut};
+ghost use Rattle.rules.specs.Acts.{putIn, putLast, takenOut};
 ghost use Rattle.states.specs.inner.Small.{Small};
 
 // What the types of two lent arrays say, for the proofs. Compiled, there is nothing left of them.

@@ -1,5 +1,4 @@
 // Calls on the arrays of a state, in place. Specification, clauses 4.4 to 4.10.
-use crate::Changed;
 use crate::acts::put_last;
 use crate::acts::settle_new;
 use crate::acts::stamp;
@@ -10,6 +9,7 @@ use masks::without32;
 use plans::ENTRIES;
 use plans::SLOTS;
 use refusals::Verdict;
+use rules::Changed;
 use settling::Phases;
 use settling::settle;
 use states::Moment;
@@ -26,9 +26,9 @@ ghost use lib.Dec.{ltb};
 ghost use lib.ListN.{getD};
 ghost use Rattle.settling.specs.Requests.{factsBy};
 ghost use Rattle.settling.specs.Settling.{settled};
-ghost use Rattle.acting.specs.Acts.{takenOut};
-ghost use Rattle.acting.specs.Calls.{done, issued, completed, withdrawn, answered};
-ghost use Rattle.acting.specs.InPlace.{boardBy, stateBy, answerBy};
+ghost use Rattle.rules.specs.Acts.{takenOut};
+ghost use Rattle.rules.specs.Calls.{done, issued, completed, withdrawn, answered};
+ghost use Rattle.rules.specs.InPlace.{boardBy, stateBy, answerBy};
 ghost use Rattle.states.specs.inner.Small.{Small};
 
 // The ticks from one to the other. Clause 4.10: none where the time would run backwards.

@@ -3,15 +3,7 @@
 mod acts;
 mod in_place;
 
-use calls::Reply;
 pub use in_place::answer_in_place;
 pub use in_place::complete_in_place;
 pub use in_place::issue_in_place;
 pub use in_place::withdraw_in_place;
-use states::Moment;
-
-// What a call in place returns: the reply, and the moment after it.
-pub struct Changed {
-    pub reply: Reply,
-    pub moment: Moment,
-}

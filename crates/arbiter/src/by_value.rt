@@ -10,8 +10,8 @@ use states::State;
 use states::Terms;
 use states::clean;
 ghost use mathlib.Core.Path.{_≡_};
-ghost use Rattle.acting.specs.Calls.{phasesOf, issued, completed, withdrawn, answered};
-ghost use Rattle.acting.specs.InPlace.{boardBy};
+ghost use Rattle.rules.specs.Calls.{phasesOf, issued, completed, withdrawn, answered};
+ghost use Rattle.rules.specs.InPlace.{boardBy};
 ghost use Rattle.arbiter.specs.Answers.{answerOf};
 
 // The phases of the requests that count: who waits, who is entitled and who holds.

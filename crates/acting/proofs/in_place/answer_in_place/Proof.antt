@@ -1,7 +1,7 @@
 -- `answer_in_place` meets its contract: a call is of one kind, and only a completion reads a length. Assumes nothing.
 use mathlib.Core.Path.{sym, ap, _∙_}
 use borrow.Author.Needs.{needs}
-use Rattle.acting.specs.Calls.{putState, takenState, settledDone, left, issued, withdrawn, answered}
+use Rattle.rules.specs.Calls.{putState, takenState, settledDone, left, issued, withdrawn, answered}
 use Rattle.acting.proofs.in_place.answer_in_place.Statement.{statement}
 use Rattle.acting.proofs.in_place.answer_in_place.Tie as tie
 

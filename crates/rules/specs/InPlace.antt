@@ -6,8 +6,8 @@ use Rattle.states.specs.declared.Terms.{Terms}
 use Rattle.states.specs.declared.Board.{Board}
 use Rattle.states.specs.declared.State.{State}
 use Rattle.states.specs.declared.Moment.{Moment}
-use Rattle.acting.specs.declared.Changed.{Changed}
-use Rattle.acting.specs.Calls.{Answer}
+use Rattle.rules.specs.declared.Changed.{Changed}
+use Rattle.rules.specs.Calls.{Answer}
 
 -- The board of these terms, conflict rows and lengths. No call reads names or a widened set.
 abbrev pub boardBy : Terms → List ℕ → List ℕ → Board

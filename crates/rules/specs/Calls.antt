@@ -1,9 +1,9 @@
--- Issue, complete and withdraw on whole states. Specification, section 4.
+-- Issue, complete, withdraw and hand over on whole states. Specification, section 4.
 use Prim.Native.Nat.{ℕ, _-_}
-use mathlib.Core.Bool.{cond}
+use mathlib.Core.Bool.{cond, _&&_, _||_}
 use lib.Dec.{eqb, ltb}
 use lib.ListN.{getD, set}
-use Rattle.masks.specs.Sets.{maskOf}
+use Rattle.masks.specs.Sets.{bit, maskOf}
 use Rattle.plans.specs.Entries.{slots}
 use Rattle.calls.specs.declared.Call.{Call}
 use Rattle.calls.specs.Replies.{Response, refusedWith}
@@ -13,8 +13,8 @@ use Rattle.settling.specs.Settling.{settled}
 use Rattle.states.specs.declared.Board.{Board}
 use Rattle.states.specs.declared.State.{State}
 use Rattle.states.specs.Requests.{cleaned}
-use Rattle.states.specs.Faults.{issueFault, completeFault, withdrawFault}
-use Rattle.acting.specs.Acts.{putIn, putLast, takenOut, began, became, stamped}
+use Rattle.states.specs.Faults.{issueFault, completeFault, withdrawFault, handoverFault}
+use Rattle.rules.specs.Acts.{putIn, putLast, takenOut, began, became, stamped}
 
 -- What settling goes by, of a board and a state.
 abbrev pub factsOf : Board → State → Facts
@@ -102,6 +102,32 @@ completed b s p t = left b s p t (completeFault (b .terms) (s .last) (phasesOf b
 -- Clauses 4.4 and 4.8: withdraw: processor p leaves the line at tick t. It held nothing, so it is never late.
 unfoldable pub withdrawn : Board → State → ℕ → ℕ → Answer
 withdrawn b s p t = left b s p t (withdrawFault (b .terms) (s .last) (phasesOf b s) p t) 0
+
+-- Clause 4.7: the answer of a handover's two halves, the completion first: who began to hold by either; who became
+-- entitled by either and still is after both; the completion's late; and the state after both.
+unfoldable pub both : Answer → Answer → Answer
+both first second =
+    record {
+      reply =
+          record {
+            number = 0;
+            granted = maskOf slots (λ q. bit (first .reply .granted) q || bit (second .reply .granted) q);
+            entitled =
+                maskOf slots
+                (λ q.
+                (bit (first .reply .entitled) q || bit (second .reply .entitled) q)
+                && bit (second .state .phases .entitled) q);
+            late = first .reply .late;
+          };
+      state = second .state;
+    }
+
+-- Clause 4.4: hand over: processor p gives its request back and asks for entry e, at one tick t, as a completion and then
+-- an issue would. All requests are settled after each.
+unfoldable pub handedOver : Board → State → ℕ → ℕ → ℕ → Answer
+handedOver b s p e t =
+    ruled (handoverFault (b .terms) (s .last) (phasesOf b s) p e t) s
+    (both (completed b s p t) (issued b (completed b s p t .state) p e t))
 
 -- The answer to any call.
 abbrev pub answered : Board → State → Call → Answer
