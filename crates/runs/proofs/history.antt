@@ -4,6 +4,7 @@ pub mod Frame
 pub mod Spans
 pub mod Tied
 pub mod Related
+pub mod Together
 pub mod Keeps
 pub mod Arbiter
 pub mod Runs

@@ -64,6 +64,9 @@ stateAfter b s t a = settledFrom (startOf s t a) (phasesAfter b s t a)
 abbrev pub grantsOf : State → Phases → ℕ
 grantsOf x ph = maskOf slots (began (x .phases) ph)
 
+abbrev pub grantsIn : Board → State → ℕ → Act → ℕ
+grantsIn b s t a = grantsOf (startOf s t a) (phasesAfter b s t a)
+
 -- ---- which acts are taken
 
 pub record MayPut (b : Board) (s : State) (p e : ℕ) : Type 0 where
@@ -274,7 +277,7 @@ pub record ActDone (b : Board) (s : State) (t : ℕ) (a : Act) (s′ : State) (g
   pub clean : Clean b s′
 
 pub act-done : (b : Board) (s : State) (t : ℕ) (a : Act) → Clean b s → Allowed b s t a
-    → ActDone b s t a (stateAfter b s t a) (grantsOf (startOf s t a) (phasesAfter b s t a))
+    → ActDone b s t a (stateAfter b s t a) (grantsIn b s t a)
 act-done b s t a c k =
     let x = startOf s t a in
     let ph = phasesAfter b s t a in
