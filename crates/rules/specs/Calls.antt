@@ -134,3 +134,4 @@ abbrev pub answered : Board → State → Call → Answer
 answered b s (Call.Issue p e t) = issued b s p e t
 answered b s (Call.Complete p t) = completed b s p t
 answered b s (Call.Withdraw p t) = withdrawn b s p t
+answered b s (Call.Handover p e t) = handedOver b s p e t
