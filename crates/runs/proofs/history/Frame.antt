@@ -19,6 +19,7 @@ use Rattle.states.specs.declared.State.{State}
 use Rattle.states.specs.Faults.{issueFault, takeFault, completeFault, withdrawFault, handoverFault}
 use Rattle.rules.specs.Acts.{became}
 use Rattle.rules.specs.Calls.{phasesOf, putState, takenState, Answer, done, ruled, settledDone, issued, lateMark, left, completed, withdrawn, both, handedOver, answered}
+use Rattle.rules.proofs.Halves.{halves-accepted}
 use Rattle.runs.specs.History.{Act, puts, takes, actsOf}
 use Rattle.runs.proofs.history.Verdicts.{issue-taken, leave-taken}
 use Rattle.runs.proofs.refinement.State.{active-not-idle, inactive-idle}
@@ -28,7 +29,7 @@ use Rattle.runs.proofs.refinement.Acts.{startFrom, startOf, grantsIn, s
 -- ---- by the number that is due
 
 module _ (number : ℕ) (s : State) (accepted : Answer) where
-  ruled-accepted : number ≡ 0 → ruled number s accepted ≡ accepted
+  pub ruled-accepted : number ≡ 0 → ruled number s accepted ≡ accepted
   ruled-accepted ok = ap (λ (n : ℕ). cond (eqb n 0) accepted (record { reply = refusedWith number; state = s })) ok
 
   ruled-refused : (number ≡ 0 → ⊥) → ruled number s accepted ≡ record { reply = refusedWith number; state = s }
@@ -36,17 +37,15 @@ module _ (number : ℕ) (s : State) (accepted : Answer) where
 
 -- ---- of a clean state
 
+-- Those that become entitled by the act a, and are so once all is settled.
+abbrev pub entitlesIn : Board → State → ℕ → Act → ℕ
+entitlesIn b s t a = maskOf slots (became (startOf s t a .phases) (phasesAfter b s t a))
+
 -- The answer to an accepted call that carries out the act a.
 abbrev pub actAnswer : Board → State → ℕ → Act → ℕ → Answer
 actAnswer b s t a late =
     record {
-      reply =
-          record {
-            number = 0;
-            granted = grantsIn b s t a;
-            entitled = maskOf slots (became (startOf s t a .phases) (phasesAfter b s t a));
-            late = late;
-          };
+      reply = record { number = 0; granted = grantsIn b s t a; entitled = entitlesIn b s t a; late = late };
       state = stateAfter b s t a;
     }
 
@@ -112,18 +111,12 @@ module _ (b : Board) (s : State) (p t : ℕ) (c : Clean b s) where
       let act = issue-act b s p t c e ok in
       (act .0, ruled-accepted _ s (settledDone b (putState b s p e t) 0) ok ∙ act .1)
 
-abbrev HalvesAccepted : Type 0
-HalvesAccepted =
-    (b : Board) (s : State) (p e t : ℕ) → handoverFault (b .terms) (s .last) (phasesOf b s) p e t ≡ 0
-    → (completeFault (b .terms) (s .last) (phasesOf b s) p t ≡ 0)
-    × (issueFault (b .terms) (completed b s p t .state .last) (phasesOf b (completed b s p t .state)) p e t ≡ 0)
-
 -- Both halves of an accepted handover are accepted, and are the two acts.
-pub handover-acts : (halves-accepted : HalvesAccepted) (b : Board) (s : State) (p e t : ℕ) → Clean b s
+pub handover-acts : (b : Board) (s : State) (p e t : ℕ) → Clean b s
     → handoverFault (b .terms) (s .last) (phasesOf b s) p e t ≡ 0
     → BothAllowed b s t p e
     × (both (completed b s p t) (issued b (completed b s p t .state) p e t) ≡ bothAnswer b s t p e (lateMark b s p t))
-handover-acts halves-accepted b s p e t c ok =
+handover-acts b s p e t c ok =
     let (complete-ok, issue-ok) = halves-accepted b s p e t ok in
     let (first, is-first) = complete-act b s p t c complete-ok in
     let s₁ : State = stateAfter b s t (takes p) in
@@ -172,7 +165,7 @@ two-acts b s c p e number late carried two is accepted =
     by-number b s c number carried is (λ ok same. replaces p e late two (accepted ok .0) (same ∙ accepted ok .1))
 
 pub answers : (b : Board) (s : State) → Clean b s → (c : Call) → Answers b s c
-unfolding issued left completed withdrawn completeFault withdrawFault
+unfolding issued left completed withdrawn handedOver completeFault withdrawFault
 answers b s clean (Call.Issue p e t) =
     one-act b s (Call.Issue p e t) (puts p e) _ 0 (settledDone b (putState b s p e t) 0) refl refl (issue-act b s p t clean e)
 answers b s clean (Call.Complete p t) =
@@ -182,3 +175,6 @@ answers b s clean (Call.Complete p t) =
 answers b s clean (Call.Withdraw p t) =
     one-act b s (Call.Withdraw p t) (takes p) _ 0 (settledDone b (takenState b s p t) 0) refl refl
     (leave-act b s p t clean (due (not (bit (phasesOf b s .holding) p)) 17) 0)
+answers b s clean (Call.Handover p e t) =
+    two-acts b s (Call.Handover p e t) p e _ (lateMark b s p t)
+    (both (completed b s p t) (issued b (completed b s p t .state) p e t)) refl refl (handover-acts b s p e t clean)

@@ -3,7 +3,7 @@
 use Prim.Native.Nat.{ℕ, _≤_, _<_}
 use mathlib.Core.Path.{_≡_, refl, sym, ap, ap₂, subst, subst₂, _∙_}
 use mathlib.Core.Bool.{Bool, true, false}
-use mathlib.Core.List.{List, [], _∷_, map}
+use mathlib.Core.List.{List, [], _∷_}
 use native.Mathlib.Omega.{arith}
 use lib.ListN.{length, getD}
 use borrow.Author.Tests.{ne-eqb}
@@ -15,7 +15,7 @@ use Rattle.states.specs.declared.State.{State}
 use Rattle.rules.specs.Calls.{both, answered}
 use Rattle.arbiter.specs.Fresh.{freshState}
 use Rattle.runs.specs.Events.{events}
-use Rattle.runs.specs.History.{History, Act, puts, takes, allActing, granting, counting, countedIn, nothing, holds}
+use Rattle.runs.specs.History.{History, Act, puts, takes, allActing, counting, countedIn, nothing, holds}
 use Rattle.runs.specs.Claim.{request}
 use Rattle.runs.proofs.history.Frame.{BothAllowed, Answers, refused, acts, replaces, answers}
 use Rattle.runs.proofs.history.Tied.{holder-of}

@@ -215,7 +215,7 @@ module _ (f : Facts) (y : Phases) (tidy : Tidy y) where
   unfolding settled
   settled-tidy = step4-tidy f _ (step3-tidy f _ (step2-tidy f _ (step1-tidy f y tidy)))
 
-settled-rises : (f : Facts) (G : ℕ → Bool) (x : Phases) → Tidy x → (q : ℕ) → q < slots
+pub settled-rises : (f : Facts) (G : ℕ → Bool) (x : Phases) → Tidy x → (q : ℕ) → q < slots
     → Rises (phaseOf x q) (phaseOf (settled f x) q)
 unfolding settled
 settled-rises f G x tidy q l =
