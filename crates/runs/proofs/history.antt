@@ -1,6 +1,7 @@
 pub mod Cases
 pub mod Verdicts
 pub mod Frame
+pub mod Compared
 pub mod Spans
 pub mod Tied
 pub mod Related
