@@ -28,13 +28,15 @@ handover plan calls p e t = answered (boardOf plan) (reachedBy plan calls) (Call
 -- What is due for it.
 abbrev pub dueFor : Plan → List Call → ℕ → ℕ → ℕ → ℕ
 dueFor plan calls p e t =
-    handoverFault (boardOf plan .terms) (reachedBy plan calls .last) (phasesOf (boardOf plan) (reachedBy plan calls)) p e t
+    handoverFault (boardOf plan .terms) (reachedBy plan calls .last)
+    (phasesOf (boardOf plan) (reachedBy plan calls)) p e t
 
-module _ (plan : Plan) (taken : planFault plan ≡ 0) (calls : List Call) (p e t : ℕ) (ok : dueFor plan calls p e t ≡ 0) (q : ℕ)
-    (l : q < slots) where
+module _ (plan : Plan) (taken : planFault plan ≡ 0) (calls : List Call) (p e t : ℕ)
+    (ok : dueFor plan calls p e t ≡ 0) (q : ℕ) (l : q < slots) where
   -- Granted are those that hold after it and did not before, and the caller if its new request holds.
   pub handover-grants : bit (handover plan calls p e t .reply .granted) q
-      ≡ (bit (handover plan calls p e t .state .phases .holding) q && (not (bit (before plan calls .holding) q) || eqb q p))
+      ≡ (bit (handover plan calls p e t .state .phases .holding) q
+      && (not (bit (before plan calls .holding) q) || eqb q p))
   handover-grants =
       grants-exactly (boardOf plan) (reachedBy plan calls) p e t (reached plan taken calls .clean) ok q l
 

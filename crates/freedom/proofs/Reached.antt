@@ -53,7 +53,8 @@ module _ (p : Plan) (taken : planFault p ≡ 0) where
       go (replaces q e late two k same) =
           let t : ℕ = tickOf c in
           subst (λ x. Reached b (x .state)) (sym same)
-          (act-reached (Acts.stateAfter b s t (takes q)) t (puts q e) (act-reached s t (takes q) r (k .first)) (k .second))
+          (act-reached (Acts.stateAfter b s t (takes q)) t (puts q e) (act-reached s t (takes q) r (k .first))
+          (k .second))
 
   after-reached : (calls : List Call) (s : State) → Reached b s → Reached b (stateAfter b s calls)
   unfolding stateAfter

@@ -51,13 +51,16 @@ module _ (b : Board) (s : State) (p e t : ℕ) (ok : handoverFault (b .terms) (s
   -- Who became entitled by either half and is so at the end.
   pub entitlements-of-both : (q : ℕ) → q < slots
       → bit (handedOver b s p e t .reply .entitled) q
-      ≡ ((bit (completed b s p t .reply .entitled) q || bit (issued b (completed b s p t .state) p e t .reply .entitled) q)
+      ≡ ((bit (completed b s p t .reply .entitled) q
+      || bit (issued b (completed b s p t .state) p e t .reply .entitled) q)
       && bit (handedOver b s p e t .state .phases .entitled) q)
   unfolding both
   entitlements-of-both q l =
       ap (λ x. bit (x .reply .entitled) q) is-both-halves
       ∙ bit-mask-at slots
-      (λ q. (bit (first .reply .entitled) q || bit (second .reply .entitled) q) && bit (second .state .phases .entitled) q) q l
+      (λ q.
+      (bit (first .reply .entitled) q || bit (second .reply .entitled) q) && bit (second .state .phases .entitled) q)
+      q l
       ∙ ap
       (λ x. (bit (first .reply .entitled) q || bit (second .reply .entitled) q) && bit (x .phases .entitled) q)
       (sym leaves-what-both-leave)

@@ -1,5 +1,5 @@
--- The masks of an act, and of one request taken out and another of its processor put in, by the states before and after.
--- Assumes nothing.
+-- The masks of an act, and of one request taken out and another of its processor put in, by the states before and
+-- after. Assumes nothing.
 use Prim.Native.Nat.{ℕ, _<_}
 use mathlib.Core.Path.{_≡_, refl, sym, ap, ap₂, subst, _∙_}
 use mathlib.Core.Bool.{Bool, true, false, not, _&&_, _||_, and-true, or-false, false≢true}
@@ -115,7 +115,8 @@ module _ (b : Board) (s : State) (t p e late : ℕ) (c : Clean b s) (k : BothAll
     rises₁ : Rises (phaseIn s q) (phaseIn (stateAfter b s t (takes p)) q)
     rises₁ = other-rises b s t (takes p) c (k .first) q l other
 
-    rises₂ : Rises (phaseIn (stateAfter b s t (takes p)) q) (phaseIn (stateAfter b (stateAfter b s t (takes p)) t (puts p e)) q)
+    rises₂ : Rises (phaseIn (stateAfter b s t (takes p)) q)
+        (phaseIn (stateAfter b (stateAfter b s t (takes p)) t (puts p e)) q)
     rises₂ = other-rises b s₁ t (puts p e) clean₁ (k .second) q l other
 
     entitled-between : entitledAt s q ≡ true → entitledAt s₂ q ≡ true → entitledAt s₁ q ≡ true
@@ -131,7 +132,8 @@ module _ (b : Board) (s : State) (t p e late : ℕ) (c : Clean b s) (k : BothAll
     unfolding both
     granted-other =
         bit-mask-at slots _ q l
-        ∙ ap₂ _||_ (other-granted b s t (takes p) c (k .first) q l other) (other-granted b s₁ t (puts p e) clean₁ (k .second) q l other)
+        ∙ ap₂ _||_ (other-granted b s t (takes p) c (k .first) q l other)
+        (other-granted b s₁ t (puts p e) clean₁ (k .second) q l other)
         ∙ set-by-either (holdsAt s q) (holdsAt s₁ q) (holdsAt s₂ q)
         (λ h. held-bit (s₁ .phases) q (holding-stays rises₁ (held-phase (s .phases) q h)))
         (λ h. held-bit (s₂ .phases) q (holding-stays rises₂ (held-phase (s₁ .phases) q h)))
@@ -149,11 +151,13 @@ module _ (b : Board) (s : State) (t p e late : ℕ) (c : Clean b s) (k : BothAll
   idle-between : bitsAt (stateAfter b s t (takes p) .phases) p ≡ bitsOf idle
   idle-between =
       bits-in (s₁ .phases) p (clean₁ .tidy) (k .first .below) idle
-      (idle-stays (own-rises b s t (takes p) c (k .first) p (k .first .below)) (begun b s t c (takes p) (k .first) .own .now-idle))
+      (idle-stays (own-rises b s t (takes p) c (k .first) p (k .first .below))
+      (begun b s t c (takes p) (k .first) .own .now-idle))
 
   waiting-then : bitsAt (startOf (stateAfter b s t (takes p)) t (puts p e) .phases) p ≡ bitsOf waiting
   waiting-then =
-      bits-in (startOf s₁ t (puts p e) .phases) p (start-tidy b s₁ t clean₁ (puts p e) (k .second)) (k .second .below) waiting
+      bits-in (startOf s₁ t (puts p e) .phases) p (start-tidy b s₁ t clean₁ (puts p e) (k .second)) (k .second .below)
+      waiting
       (begun b s₁ t clean₁ (puts p e) (k .second) .own .now-waiting)
 
   granted-own : bit (bothAnswer b s t p e late .reply .granted) p ≡ holdsAt s₂ p
@@ -189,19 +193,22 @@ module _ (b : Board) (s : State) (t p e late : ℕ) (c : Clean b s) (k : BothAll
       (λ same.
       ap (λ (r : ℕ). bit (bothAnswer b s t p e late .reply .granted) r) same ∙ granted-own ∙ ap (holdsAt s₂) (sym same)
       ∙ sym (and-true (holdsAt s₂ q))
-      ∙ ap (λ x. holdsAt s₂ q && x) (sym (ap (λ x. not (holdsAt s q) || x) (eq-eqb q p same) ∙ or-true (not (holdsAt s q)))))
+      ∙ ap (λ x. holdsAt s₂ q && x)
+      (sym (ap (λ x. not (holdsAt s q) || x) (eq-eqb q p same) ∙ or-true (not (holdsAt s q)))))
       (λ other.
       granted-other q l other
       ∙ ap (λ x. holdsAt s₂ q && x)
       (sym (ap (λ x. not (holdsAt s q) || x) (ne-eqb q p other) ∙ or-false (not (holdsAt s q)))))
 
   pub entitled-by-both : entitledAt s p ≡ false → (q : ℕ) → q < slots
-      → bit (bothAnswer b s t p e late .reply .entitled) q ≡ (entitledAt (bothAnswer b s t p e late .state) q && not (entitledAt s q))
+      → bit (bothAnswer b s t p e late .reply .entitled) q
+      ≡ (entitledAt (bothAnswer b s t p e late .state) q && not (entitledAt s q))
   unfolding both
   entitled-by-both held q l =
       by-processor q p
       (λ same.
-      ap (λ (r : ℕ). bit (bothAnswer b s t p e late .reply .entitled) r) same ∙ entitled-own ∙ ap (entitledAt s₂) (sym same)
+      ap (λ (r : ℕ). bit (bothAnswer b s t p e late .reply .entitled) r) same ∙ entitled-own
+      ∙ ap (entitledAt s₂) (sym same)
       ∙ sym (and-true (entitledAt s₂ q))
       ∙ ap (λ x. entitledAt s₂ q && not x) (sym (ap (entitledAt s) same ∙ held)))
       (λ other. entitled-other q l other)

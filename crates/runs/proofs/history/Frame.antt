@@ -167,7 +167,8 @@ two-acts b s c p e number late carried two is accepted =
 pub answers : (b : Board) (s : State) → Clean b s → (c : Call) → Answers b s c
 unfolding issued left completed withdrawn handedOver completeFault withdrawFault
 answers b s clean (Call.Issue p e t) =
-    one-act b s (Call.Issue p e t) (puts p e) _ 0 (settledDone b (putState b s p e t) 0) refl refl (issue-act b s p t clean e)
+    one-act b s (Call.Issue p e t) (puts p e) _ 0 (settledDone b (putState b s p e t) 0) refl refl
+    (issue-act b s p t clean e)
 answers b s clean (Call.Complete p t) =
     let late = lateMark b s p t in
     one-act b s (Call.Complete p t) (takes p) _ late (settledDone b (takenState b s p t) late) refl refl
