@@ -162,7 +162,7 @@ def handovers():
     yield "handover_at_the_last_tick", log(PAIR, [issue(0, 0, LAST), handover(0, 1, LAST), handover(0, 0, LAST - 1), handover(0, 0, LAST)])
     rng = random.Random(6)
     entries = [write([i % 5], i + 1) if i % 3 == 0 else read([i % 5, (i + 1) % 5], i + 1) for i in range(12)]
-    calls = [call if rng.random() < 0.6 else bytes([HANDOVER, call[1], rng.randrange(12)]) + call[3:] for call in busy(rng, 6, entries, 200)]
+    calls = [call if rng.random() < 0.6 else bytes([HANDOVER, call[1], rng.randrange(13)]) + call[3:] for call in busy(rng, 6, entries, 200)]
     yield "busy_board_handing_over", log(plan(6, 5, entries), calls)
 
 
