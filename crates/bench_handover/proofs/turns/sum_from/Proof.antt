@@ -15,13 +15,13 @@ abbrev μ-loop : tie.MeasureT-loop
 
 loop-less : tie.Need-loop-less Inv-loop μ-loop
 loop-less c =
-    let completes = c .before .before .before .before .before .before .before .before .before in
-    omega (arith, completes .before .before .before .before .before .before .before .before .loop-test .taken)
+    let hands = c .before .before .before .before .before .before .before .before in
+    omega (arith, hands .before .before .loop-test .taken)
 
 loop-again : tie.Need-loop-again Inv-loop μ-loop
 loop-again c =
-    let completes = c .before .before .before .before .before .before .before .before .before in
-    omega (arith, completes .before .before .before .before .before .before .before .before .loop-test .taken)
+    let hands = c .before .before .before .before .before .before .before .before in
+    omega (arith, hands .before .before .loop-test .taken)
 
 pub sum-from-spec : {M : Type 1} → statement M
 sum-from-spec =
@@ -37,8 +37,6 @@ sum-from-spec =
     (λ c κs. search needs)
     (λ c. search needs)
     (λ c. search needs)
-    (λ c κs. search needs)
-    (λ c κs. search needs)
     (λ c κs. search needs)
     (λ c κs. search needs)
     loop-less
