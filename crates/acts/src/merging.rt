@@ -13,10 +13,14 @@ pub fn merge(first: Carried, second: Carried) -> Carried
         → carriedSays r tick entry₂ since₂ earlier₂
         ≡ both (carriedSays first tick entry since earlier) (carriedSays second tick entry₂ since₂ earlier₂)) ⌝ }
 {
+    let granted = first.granted;
+    let granted_later = second.granted;
+    let entitled = first.entitled;
+    let entitled_later = second.entitled;
     let after = second.phases;
     Carried {
-        granted: (first.granted | second.granted) & ALL,
-        entitled: (first.entitled | second.entitled) & (after.entitled & ALL),
+        granted: (granted | granted_later) & ALL,
+        entitled: (entitled | entitled_later) & (after.entitled & ALL),
         late: first.late,
         phases: after,
     }

@@ -6,7 +6,7 @@ use Rattle.acts.proofs.merging.merge.Tie as tie
 
 returns : tie.Need-returns
 returns c =
-    let a = c .before .before .before .before .before .before .args in
+    let a = c .before .before .args in
     merged-both (a .first) (a .second)
 
 pub merge-spec : {M : Type 1} → statement M

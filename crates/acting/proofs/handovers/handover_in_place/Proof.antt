@@ -5,12 +5,18 @@ use Prim.Native.Nat.{_<_}
 use borrow.Author.Needs.{needs}
 use Rattle.plans.specs.Entries.{slots}
 use Rattle.acting.proofs.Verdicts.{handover-refused, handover-counted, handover-done}
-use Rattle.acting.proofs.in_place.handover_in_place.Statement.{statement}
-use Rattle.acting.proofs.in_place.handover_in_place.Tie as tie
+use Rattle.acting.proofs.handovers.handover_in_place.Statement.{statement}
+use Rattle.acting.proofs.handovers.handover_in_place.Tie as tie
 
 -- An accepted handover's processor is one of those that a state holds.
 counted : (c : tie.After-enum-told) → c .before .before .before .before .before .before .args .processor < slots
 counted c = handover-counted _ _ _ _ _ _ (c .enum-told .given .1) _ (c .before .before .check-handover .ensures)
+
+refused-requires : tie.Need-refused-requires
+refused-requires c κs = search needs
+
+leave-requires : tie.Need-leave-requires
+leave-requires c κs = search needs
 
 returns : tie.Need-returns
 returns c =
@@ -41,14 +47,14 @@ handover-in-place-spec =
     (λ c κs. search needs)
     (λ c. search needs)
     (λ c. search needs)
-    (λ c κs. search needs)
+    refused-requires
     returns
     (λ c. counted (c .before))
     (λ c κs. search needs)
     (λ c. search needs)
     (λ c. counted (c .before .before .before))
     (λ c κs. search needs)
-    (λ c κs. search needs)
+    leave-requires
     (λ c κs. search needs)
     (λ c κs. search needs)
     (λ c κs. search needs)
