@@ -6,6 +6,7 @@ use acts::late_mark;
 use acts::leave;
 use acts::length_at;
 use acts::merge;
+use placing::put_last;
 use plans::ENTRIES;
 use plans::SLOTS;
 use refusals::Verdict;
@@ -47,6 +48,7 @@ pub fn issue_in_place(
             return refused(refusal, moment);
         }
     }
+    put_last(earlier, before, processor);
     let writes = terms.writes;
     let carried = enter(
         rows,
@@ -186,6 +188,7 @@ pub fn handover_in_place(
     );
     let left = first.phases;
     let ready = clean(terms, *entries, left);
+    put_last(earlier, ready, processor);
     let second = enter(
         rows,
         writes,

@@ -22,7 +22,8 @@ returns-2 : tie.Need-returns-2
 returns-2 c =
     let merged = c .before in
     let entered = merged .before in
-    let cleaned = entered .before .before .before .before in
+    let put = entered .before .before .before .before in
+    let cleaned = put .before .before in
     let gone = cleaned .before .before .before in
     let marked = gone .before .before .before .before in
     let told = marked .before .before .before .before .before in
@@ -30,7 +31,7 @@ returns-2 c =
     c .accepted .ensures _ _ _
     ∙ handover-done _ _ _ (found .before .clean .ensures) _ _ _ _ (found .check-handover .ensures) (told .enum-told .given .1) _ _
     (marked .before .before .length-at .ensures) (marked .late-mark .ensures) _ (gone .leave .ensures) _ (cleaned .clean2 .ensures) _
-    (entered .enter .ensures) _ (merged .merge .ensures _ _ _ _ _ _ _)
+    (put .put-last .ensures) _ (entered .enter .ensures) _ (merged .merge .ensures _ _ _ _ _ _ _)
 
 pub handover-in-place-spec : {M : Type 1} → statement M
 handover-in-place-spec =
@@ -46,6 +47,7 @@ handover-in-place-spec =
     (λ c κs. search needs)
     (λ c. search needs)
     (λ c. counted (c .before .before .before))
+    (λ c κs. search needs)
     (λ c κs. search needs)
     (λ c κs. search needs)
     (λ c κs. search needs)
