@@ -168,7 +168,7 @@ accepted-record-is-read s ok = rw ok
 --
 -- The rules are `settled` and its four steps (settling), `putIn`, `takenOut`, `stamped` and `done` (acting); plan F's twelve
 -- calls are computed by them in runs/proofs/PlanF.antt. The functions promise: settling::settle ≡ settled,
--- conflicts::conflicts_of ≡ conflictsOf, plans::figures_of ≡ figuresOf; and the calls as above.
+-- conflicts::conflicts_of ≡ conflictsOf, figures::figures_of ≡ figuresOf; and the calls as above.
 
 -- The round trips are written-in-buffer (a plan written into a buffer reads back as the same plan, and takes as many bytes as
 -- were written) and written-back (a plan that was read is written as the bytes that it was read from), above.
