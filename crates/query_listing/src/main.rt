@@ -5,10 +5,10 @@ mod board_line;
 mod scratch_line;
 
 use encoding::Outcome;
+use fronts::bring_to_front;
+use fronts::copy_in;
 use libc::STDIN_FILENO;
 use libc::STDOUT_FILENO;
-use log_input::bring_to_front;
-use log_input::copy_in;
 use log_input::due_size;
 use log_input::fill_plan;
 use log_input::fill_to;

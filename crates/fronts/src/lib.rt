@@ -2,7 +2,7 @@
 ghost use mathlib.Core.Path.{_≡_};
 ghost use Prim.Native.Nat.{_-_, min};
 ghost use lib.ListN.{length};
-ghost use Rattle.log_input.specs.Fronts.{copiedIn, broughtFront};
+ghost use Rattle.fronts.specs.Fronts.{copiedIn, broughtFront};
 
 // Copies bytes to the front of the buffer, as many as it holds, and gives how many.
 pub fn copy_in(bytes: &[u8], buffer: &mut [u8]) -> usize

@@ -1,12 +1,12 @@
--- `log_input::bring_to_front` meets its contract. The invariant: the first i bytes are moved. Assumes nothing.
+-- `fronts::bring_to_front` meets its contract. The invariant: the first i bytes are moved. Assumes nothing.
 use Prim.Native.Nat.{_≤_, _<_, _-_, min}
 use mathlib.Core.Path.{_≡_, refl}
 use native.Mathlib.Omega.{arith}
 use lib.ListN.{length, drop, length-drop, length-set}
 use lib.Seq.{paste, paste-zero}
-use Rattle.log_input.proofs.Copies.{copy-turn, copy-done, read-ahead}
-use Rattle.log_input.proofs.fronts.bring_to_front.Statement.{statement}
-use Rattle.log_input.proofs.fronts.bring_to_front.Tie as tie
+use Rattle.fronts.proofs.Copies.{copy-turn, copy-done, read-ahead}
+use Rattle.fronts.proofs.bring_to_front.Statement.{statement}
+use Rattle.fronts.proofs.bring_to_front.Tie as tie
 
 abbrev Inv-loop : tie.InvT-loop
 Inv-loop buffer₀ from have rest i₀ buffer i =

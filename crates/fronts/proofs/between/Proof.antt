@@ -1,9 +1,9 @@
--- `log_input::between` meets its contract. Assumes nothing.
+-- `fronts::between` meets its contract. Assumes nothing.
 use mathlib.Core.Logic.{⊎-elim}
 use native.Mathlib.Omega.{arith}
 use borrow.Author.Needs.{needs}
-use Rattle.log_input.proofs.fronts.between.Statement.{statement}
-use Rattle.log_input.proofs.fronts.between.Tie as tie
+use Rattle.fronts.proofs.between.Statement.{statement}
+use Rattle.fronts.proofs.between.Tie as tie
 
 returns : tie.Need-returns
 returns c = ⊎-elim (λ w. omega arith) (λ w. omega arith) (c .before .before .if1 .came)

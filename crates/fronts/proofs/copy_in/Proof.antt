@@ -1,13 +1,13 @@
--- `log_input::copy_in` meets its contract. The invariant: the first i bytes are copied. Assumes nothing.
+-- `fronts::copy_in` meets its contract. The invariant: the first i bytes are copied. Assumes nothing.
 use Prim.Native.Nat.{_≤_, _-_, min}
 use mathlib.Core.Path.{_≡_, refl}
 use mathlib.Core.Logic.{⊎-elim}
 use native.Mathlib.Omega.{arith}
 use lib.ListN.{length, length-set}
 use lib.Seq.{paste, paste-zero}
-use Rattle.log_input.proofs.Copies.{copy-turn, copy-done}
-use Rattle.log_input.proofs.fronts.copy_in.Statement.{statement}
-use Rattle.log_input.proofs.fronts.copy_in.Tie as tie
+use Rattle.fronts.proofs.Copies.{copy-turn, copy-done}
+use Rattle.fronts.proofs.copy_in.Statement.{statement}
+use Rattle.fronts.proofs.copy_in.Tie as tie
 
 abbrev Inv-loop : tie.InvT-loop
 Inv-loop bytes buffer₀ most i₀ buffer i =
