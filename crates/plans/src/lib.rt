@@ -9,6 +9,7 @@ mod shape;
 pub use shape::counted_of;
 pub use shape::is_read;
 pub use shape::is_write;
+pub use shape::mask_size;
 pub use shape::plan_size;
 
 // The most processors of a plan: so many requests a state holds.
