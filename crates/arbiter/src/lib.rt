@@ -1,6 +1,6 @@
 // The arbiter: a board made once from an accepted plan, and a state that goes in by value and comes back.
 // Every core's call goes through `answer`; the reply says who began to hold. `issue`, `complete` and `withdraw` are the
-// same by name. The crate `acting` has the same calls on the arrays of a state that the caller lends: no copies.
+// same by name. The crates `acting`, `handing_over` and `answering` have them on the arrays of a state that the caller lends.
 mod boards;
 mod by_value;
 
