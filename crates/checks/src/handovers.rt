@@ -1,5 +1,4 @@
 // When a handover is refused, and by which number: specification, clause 4.5. The phases are of the requests that count.
-use crate::Terms;
 use crate::faults::is_active;
 use crate::faults::is_counted;
 use crate::faults::is_in_time;
@@ -8,9 +7,10 @@ use refusals::Refusal;
 use refusals::Verdict;
 use refusals::refuse_unless;
 use settling::Phases;
+use states::Terms;
 ghost use mathlib.Core.Path.{_≡_};
 ghost use Rattle.refusals.specs.Number.{verdictNumber};
 ghost use Rattle.states.specs.Faults.{handoverFault};
 
 // Clause 4.5: 10, 11, 12, 14, 15.
 pub fn check_handover(

@@ -3,9 +3,9 @@ use mathlib.Core.Path.{refl}
 use lib.Dec.{ltb}
 use borrow.Author.Needs.{needs}
 use Rattle.plans.proofs.Flags.{passes, fails}
 use Rattle.states.specs.Faults.{handoverFault}
-use Rattle.states.proofs.handovers.check_handover.Statement.{statement}
-use Rattle.states.proofs.handovers.check_handover.Tie as tie
+use Rattle.checks.proofs.handovers.check_handover.Statement.{statement}
+use Rattle.checks.proofs.handovers.check_handover.Tie as tie
 
 returns : tie.Need-returns
 unfolding handoverFault

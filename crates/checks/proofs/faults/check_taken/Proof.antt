@@ -1,8 +1,8 @@
 -- `check_taken` meets its contract: each test decides its refusal, in the order 10, 11, 14, and then the last. Assumes nothing.
 use borrow.Author.Needs.{needs}
 use Rattle.plans.proofs.Flags.{passes, fails}
-use Rattle.states.proofs.faults.check_taken.Statement.{statement}
-use Rattle.states.proofs.faults.check_taken.Tie as tie
+use Rattle.checks.proofs.faults.check_taken.Statement.{statement}
+use Rattle.checks.proofs.faults.check_taken.Tie as tie
 
 returns : tie.Need-returns
 returns c = rw (fails _ _ (c .before .is-in-time .ensures) (c .if1 .taken))

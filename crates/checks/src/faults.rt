@@ -1,20 +1,20 @@
 // When a call is refused, and by which number: specification, clause 4.5, 10 to 15 and 17. The phases are of the requests that
 // count.
-use crate::Terms;
 use masks::has32;
 use plans::SLOTS;
 use refusals::Refusal;
 use refusals::Verdict;
 use refusals::refuse_unless;
 use settling::Phases;
+use states::Terms;
 ghost use mathlib.Core.Path.{_≡_};
 ghost use mathlib.Core.Bool.{_&&_};
 ghost use lib.Dec.{leb};
 ghost use Rattle.refusals.specs.Number.{numberOf, verdictNumber};
 ghost use Rattle.refusals.specs.Due.{due};
 ghost use Rattle.settling.specs.Requests.{unsatisfied, active};
 ghost use Rattle.states.specs.Requests.{hasProcessor};
 ghost use Rattle.states.specs.Faults.{issueFault, takeFault, completeFault, withdrawFault};
 
 // Clause 1.4: the largest tick.
 const LAST_TICK: u64 = 1099511627775;
