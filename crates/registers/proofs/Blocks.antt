@@ -6,25 +6,20 @@ use mathlib.Core.Bool.{Bool}
 use mathlib.Core.List.{List}
 use lib.Bits.{bitAnd}
 use lib.Dec.{lit<}
-use lib.ListN.{getD, set, take, drop}
+use lib.ListN.{getD, set}
 use Rattle.masks.specs.Sets.{bit, meets}
 use Rattle.masks.proofs.Meets.{meets-some}
 use Rattle.masks.proofs.Tests.{own-is, without-is}
 use Rattle.refusals.specs.Due.{Said, said}
-use Rattle.encoding.specs.Numbers.{number}
-use Rattle.encoding.proofs.Numbers.{part-number}
 use Rattle.registers.specs.declared.Register.{Register}
 use Rattle.registers.specs.declared.Block.{Block}
-use Rattle.registers.specs.Registers.{registerAt, raised, withLine, readFault, shownAt, registerRead, cleared, newByte, stored}
+use Rattle.registers.specs.Registers.{registerAt, pendingIn, enabledIn, raised, withLine, readFault, shownAt, registerRead, cleared, newByte, stored}
 
 -- The line is raised where the two numbers share a bit.
-pub raised-meets : (bytes : List ℕ) (pending enabled : ℕ) → pending ≡ number (take 8 (take 4 (drop 20 bytes)))
-    → enabled ≡ number (take 8 (take 4 (drop 24 bytes))) → pending < 256 ^ 4 → meets pending enabled ≡ raised bytes
+pub raised-meets : (bytes : List ℕ) (pending enabled : ℕ) → pending ≡ pendingIn bytes → enabled ≡ enabledIn bytes → pending < 2 ^ 32
+    → meets pending enabled ≡ raised bytes
 unfolding raised
-raised-meets bytes pending enabled p e small =
-    ap₂ meets p e
-    ∙ ap₂ meets (part-number 20 4 bytes (lit< tt)) (part-number 24 4 bytes (lit< tt))
-    ∙ meets-some 32 _ _ (rw (p ∙ part-number 20 4 bytes (lit< tt)) at small)
+raised-meets bytes pending enabled p e small = ap₂ meets p e ∙ meets-some 32 _ _ (rw p at small)
 
 -- A byte without the bits of another.
 pub without-cleared : (old value : ℕ) → old < 2 ^ 8 → value < 2 ^ 8 → bitAnd old (255 - value) ≡ cleared old value

@@ -5,8 +5,21 @@ use encoding::read_number;
 use masks::meet64;
 use refusals::Refusal;
 ghost use mathlib.Core.Path.{_≡_};
+ghost use Prim.Native.Nat.{_^_, _<_};
 ghost use lib.ListN.{set};
-ghost use Rattle.registers.specs.Registers.{registerAt, lineOf, withLine, cleared, newByte, stored, registerRead, readSays};
+ghost use Rattle.registers.specs.Registers.{
+  registerAt,
+  tickIn,
+  pendingIn,
+  enabledIn,
+  lineOf,
+  withLine,
+  cleared,
+  newByte,
+  stored,
+  registerRead,
+  readSays,
+};
 
 // How many bytes a block has.
 pub const BLOCK: usize = 32;
@@ -65,13 +78,37 @@ pub fn register_at(offset: u8) -> Register
     Register::Unlisted
 }
 
+// The tick of the next command.
+pub fn tick_in(bytes: [u8; BLOCK]) -> u64
+    ensures { λ r. ⌜ r ≡ tickIn bytes ⌝ }
+{
+    read_number(&bytes[4..9])
+}
+
+// The processors that are pending.
+pub fn pending_in(bytes: [u8; BLOCK]) -> u64
+    ensures value { λ r. ⌜ r ≡ pendingIn bytes ⌝ }
+    ensures bound { λ r. ⌜ r < 2 ^ 32 ⌝ }
+{
+    read_number(&bytes[20..24])
+}
+
+// The processors for which the line is raised.
+fn enabled_in(bytes: [u8; BLOCK]) -> u64
+    ensures { λ r. ⌜ r ≡ enabledIn bytes ⌝ }
+{
+    read_number(&bytes[24..28])
+}
+
 // Clause 10.3: 1 where some bit is both pending and enabled.
 fn line_of(bytes: [u8; BLOCK]) -> u8
     ensures { λ r. ⌜ r ≡ lineOf bytes ⌝ }
 {
-    let pending = read_number(&bytes[20..24]);
-    let enabled = read_number(&bytes[24..28]);
-    if meet64(pending, enabled) { 1 } else { 0 }
+    if meet64(pending_in(bytes), enabled_in(bytes)) {
+        1
+    } else {
+        0
+    }
 }
 
 // The block of these bytes with its line.
