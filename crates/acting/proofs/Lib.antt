@@ -1,2 +1,1 @@
-pub mod PutIn
-pub mod Answers
+pub mod Verdicts

@@ -1,17 +1,11 @@
-// The calls, carried out on the arrays of a state that the caller lends: no copies. A call puts a request in or takes
-// one out, settles all requests, and answers who began to hold and who became entitled.
-mod acts;
+// The calls, carried out on the arrays of a state that the caller lends: no copies. A call is checked; then its request is
+// put in, or taken out, or both, and the answer has who began to hold and who became entitled.
+mod answers;
+mod any_call;
 mod in_place;
 
-use calls::Reply;
-pub use in_place::answer_in_place;
+pub use any_call::answer_in_place;
 pub use in_place::complete_in_place;
+pub use in_place::handover_in_place;
 pub use in_place::issue_in_place;
 pub use in_place::withdraw_in_place;
-use states::Moment;
-
-// What a call in place returns: the reply, and the moment after it.
-pub struct Changed {
-    pub reply: Reply,
-    pub moment: Moment,
-}

@@ -1,6 +1,6 @@
 -- What the arbiter answered by value, in numbers. Specification, section 4.
 use Rattle.calls.specs.Replies.{replySays}
-use Rattle.acting.specs.Calls.{Answer}
+use Rattle.rules.specs.Calls.{Answer}
 use Rattle.arbiter.specs.declared.Answered.{Answered}
 
 -- Clauses 4.7 and 4.9: the reply in numbers, and the state after it.

@@ -10,8 +10,8 @@ use states::State;
 use states::Terms;
 use states::clean;
 ghost use mathlib.Core.Path.{_≡_};
-ghost use Rattle.acting.specs.Calls.{phasesOf, issued, completed, withdrawn, answered};
-ghost use Rattle.acting.specs.InPlace.{boardBy};
+ghost use Rattle.rules.specs.Calls.{phasesOf, issued, completed, withdrawn, handedOver, answered};
+ghost use Rattle.rules.specs.InPlace.{boardBy};
 ghost use Rattle.arbiter.specs.Answers.{answerOf};
 
 // The phases of the requests that count: who waits, who is entitled and who holds.
@@ -104,4 +104,19 @@ pub fn withdraw(board: Board, state: State, processor: u8, tick: u64) -> Answere
     ensures { λ r. ⌜ answerOf r ≡ withdrawn board state processor tick ⌝ }
 {
     answer(board, state, Call::Withdraw { processor, tick })
+}
+
+// Processor gives its request back and asks for an entry, at one tick. Refused by 10, 11, 12, 14, 15, in that order.
+pub fn handover(board: Board, state: State, processor: u8, entry: u8, tick: u64) -> Answered
+    ensures { λ r. ⌜ answerOf r ≡ handedOver board state processor entry tick ⌝ }
+{
+    answer(
+        board,
+        state,
+        Call::Handover {
+            processor,
+            entry,
+            tick,
+        },
+    )
 }

@@ -8,6 +8,7 @@ pub use boards::fresh_of;
 pub use by_value::answer;
 pub use by_value::answer_on;
 pub use by_value::complete;
+pub use by_value::handover;
 pub use by_value::issue;
 pub use by_value::phases_of;
 pub use by_value::withdraw;

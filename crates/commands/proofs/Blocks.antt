@@ -16,7 +16,7 @@ use Rattle.calls.specs.declared.Call.{Call}
 use Rattle.calls.specs.Replies.{Response, replySays}
 use Rattle.states.specs.declared.Board.{Board}
 use Rattle.states.specs.declared.State.{State}
-use Rattle.acting.specs.Calls.{answered}
+use Rattle.rules.specs.Calls.{answered}
 use Rattle.arbiter.specs.declared.Answered.{Answered}
 use Rattle.arbiter.specs.Answers.{answerOf}
 use Rattle.registers.specs.declared.Block.{Block}
@@ -54,12 +54,12 @@ module _ (board : Board) (state : State) (block : Block) (command : ℕ) (change
   unfolding commanded
   command-none z e = rw (eq-eqb _ _ z) (ap changeSays e)
 
-  pub command-above : (command ≡ 0 → ⊥) → 3 < command → change ≡ changed block (Verdict.Refused Refusal.Register) state
+  pub command-above : (command ≡ 0 → ⊥) → 4 < command → change ≡ changed block (Verdict.Refused Refusal.Register) state
       → changeSays change ≡ commanded board state block command
   unfolding commanded
   command-above z above e = rw (ne-eqb _ _ z, lt-ltb _ _ above) (ap changeSays e)
 
-  pub command-answered : (call : Call) (a : Answered) (shown : Block) → (command ≡ 0 → ⊥) → command ≤ 3 → call ≡ commandCall (block .bytes) command
+  pub command-answered : (call : Call) (a : Answered) (shown : Block) → (command ≡ 0 → ⊥) → command ≤ 4 → call ≡ commandCall (block .bytes) command
       → answerOf a ≡ answered board state call → shown ≡ repliedBlock (block .bytes) (replySays (a .reply))
       → change ≡ changed shown Verdict.Accepted (a .state) → changeSays change ≡ commanded board state block command
   unfolding commanded

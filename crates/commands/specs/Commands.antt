@@ -12,20 +12,21 @@ use Rattle.calls.specs.declared.Call.{Call}
 use Rattle.calls.specs.Replies.{Response}
 use Rattle.states.specs.declared.Board.{Board}
 use Rattle.states.specs.declared.State.{State}
-use Rattle.acting.specs.Calls.{Answer, answered}
+use Rattle.rules.specs.Calls.{Answer, answered}
 use Rattle.registers.specs.declared.Block.{Block}
 use Rattle.registers.specs.declared.Register.{Register}
 use Rattle.registers.specs.Registers.{registerAt, processorIn, entryIn, tickIn, pendingIn, withLine, writeFault, stored}
 use Rattle.commands.specs.declared.Change.{Change}
 use Rattle.commands.specs.declared.Written.{Written}
 
--- Clause 10.7: the call that a command makes of the registers: 1 issues, 2 completes, 3 withdraws. A completion and a
--- withdrawal take no notice of the entry.
+-- Clause 10.7: the call that a command makes of the registers: 1 issues, 2 completes, 3 withdraws, 4 hands over. A
+-- completion and a withdrawal take no notice of the entry.
 unfoldable pub commandCall : List ℕ → ℕ → Call
 commandCall bytes command =
     cond (eqb command 1) (Call.Issue (processorIn bytes) (entryIn bytes) (tickIn bytes))
     (cond (eqb command 2) (Call.Complete (processorIn bytes) (tickIn bytes))
-    (Call.Withdraw (processorIn bytes) (tickIn bytes)))
+    (cond (eqb command 3) (Call.Withdraw (processorIn bytes) (tickIn bytes))
+    (Call.Handover (processorIn bytes) (entryIn bytes) (tickIn bytes))))
 
 -- Clause 2.1: the bytes with a mask in four of them.
 abbrev pub withMask : ℕ → ℕ → List ℕ → List ℕ
@@ -64,11 +65,11 @@ abbrev pub carriedOut : Block → Answer → WriteAnswer
 carriedOut block answer =
     record { number = 0; block = repliedBlock (block .bytes) (answer .reply); state = answer .state }
 
--- Clause 10.7: writing a command: 0 changes nothing, and one above 3 is refused by 18.
+-- Clause 10.7: writing a command: 0 changes nothing, and one above 4 is refused by 18.
 unfoldable pub commanded : Board → State → Block → ℕ → WriteAnswer
 commanded board state block command =
     cond (eqb command 0) (unmoved 0 block state)
-    (cond (ltb 3 command) (unmoved 18 block state)
+    (cond (ltb 4 command) (unmoved 18 block state)
     (carriedOut block (answered board state (commandCall (block .bytes) command))))
 
 -- Clauses 10.5 to 10.7: by the register. What is refused leaves block and state as they were.

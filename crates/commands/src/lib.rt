@@ -21,7 +21,7 @@ ghost use mathlib.Core.Path.{_≡_};
 ghost use Prim.Native.Nat.{_+_, _≤_};
 ghost use lib.ListN.{set};
 ghost use Rattle.calls.specs.Replies.{replySays};
-ghost use Rattle.acting.specs.InPlace.{boardBy};
+ghost use Rattle.rules.specs.InPlace.{boardBy};
 ghost use Rattle.commands.specs.Commands.{
   commandCall,
   withMask,
@@ -61,7 +61,14 @@ fn call_of(bytes: [u8; BLOCK], command: u8) -> Call
     if command == 2 {
         return Call::Complete { processor, tick };
     }
-    Call::Withdraw { processor, tick }
+    if command == 3 {
+        return Call::Withdraw { processor, tick };
+    }
+    Call::Handover {
+        processor,
+        entry,
+        tick,
+    }
 }
 
 // The bytes with a mask in four of them.
@@ -137,7 +144,7 @@ fn command(
     if command == 0 {
         return unmoved(Verdict::Accepted, block, state);
     }
-    if 3 < command {
+    if 4 < command {
         return unmoved(Verdict::Refused(Refusal::Register), block, state);
     }
     let bytes = block.bytes;

@@ -21,9 +21,9 @@ use Rattle.calls.specs.Replies.{refusedWith}
 use Rattle.states.specs.declared.Board.{Board}
 use Rattle.states.specs.declared.State.{State}
 use Rattle.states.specs.Faults.{processorFault, issueFault, completeFault, withdrawFault}
-use Rattle.acting.specs.Calls.{Answer, phasesOf, putState, takenState, settledDone, lateMark, ruled, issued, left, completed, withdrawn, answered}
+use Rattle.rules.specs.Calls.{Answer, phasesOf, putState, takenState, settledDone, lateMark, ruled, issued, left, completed, withdrawn, answered}
 use Rattle.arbiter.specs.Fresh.{boardOf, blankBoard, freshBoard}
-use Rattle.acting.specs.InPlace.{boardBy, stateBy}
+use Rattle.rules.specs.InPlace.{boardBy, stateBy}
 use Rattle.queries.specs.Queries.{reachFault, reachBytes, reachQuery, reachScratch}
 use Rattle.wait_listing.specs.Listing.{listFault, listBuffer}
 use Rattle.queries.specs.WholeBoard.{listed, boardBytes, boardQuery, boardBuffer}

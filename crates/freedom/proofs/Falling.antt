@@ -9,7 +9,7 @@ use Rattle.states.specs.declared.State.{State}
 use Rattle.plans.specs.Entries.{slots}
 use Rattle.settling.specs.declared.Phases.{Phases}
 use Rattle.settling.specs.Requests.{Facts, isWriter}
-use Rattle.acting.specs.Calls.{factsOf}
+use Rattle.rules.specs.Calls.{factsOf}
 use Rattle.runs.specs.Claim.{everyEntry}
 use Rattle.runs.proofs.columns.Columns.{Phase, idle, waiting, entitled, holding, Requests}
 use Rattle.runs.proofs.columns.Phases.{is-active}

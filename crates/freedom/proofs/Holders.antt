@@ -10,7 +10,7 @@ use Rattle.states.specs.declared.State.{State}
 use Rattle.plans.specs.Entries.{slots}
 use Rattle.settling.specs.declared.Phases.{Phases}
 use Rattle.settling.specs.Requests.{Facts, isWriter}
-use Rattle.acting.specs.Calls.{factsOf}
+use Rattle.rules.specs.Calls.{factsOf}
 use Rattle.runs.specs.Claim.{everyEntry}
 use Rattle.runs.proofs.columns.Columns.{waiting, entitled, holding, Settled}
 use Rattle.runs.proofs.columns.Phases.{Unsatisfied, unsatisfied-or-holding}

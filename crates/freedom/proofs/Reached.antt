@@ -8,7 +8,7 @@ use Rattle.calls.specs.declared.Call.{Call}
 use Rattle.calls.specs.Calls.{tickOf}
 use Rattle.states.specs.declared.Board.{Board}
 use Rattle.states.specs.declared.State.{State}
-use Rattle.acting.specs.Calls.{answered}
+use Rattle.rules.specs.Calls.{answered}
 use Rattle.arbiter.specs.Fresh.{boardOf, freshState}
 use Rattle.runs.specs.Claim.{Closed, everyEntry}
 use Rattle.runs.proofs.history.Frame.{Answers, refused, acts, answers}

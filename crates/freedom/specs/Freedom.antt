@@ -9,7 +9,7 @@ use Rattle.states.specs.declared.State.{State}
 use Rattle.calls.specs.declared.Call.{Call}
 use Rattle.settling.specs.Requests.{unsatisfied}
 use Rattle.states.specs.Requests.{isHolding}
-use Rattle.acting.specs.Calls.{phasesOf, answered}
+use Rattle.rules.specs.Calls.{phasesOf, answered}
 use Rattle.arbiter.specs.Fresh.{boardOf, freshState}
 use Rattle.queries.specs.Queries.{Chain}
 

@@ -22,7 +22,7 @@ use Rattle.states.specs.declared.Board.{Board}
 use Rattle.states.specs.declared.State.{State}
 use Rattle.states.specs.Requests.{hasProcessor}
 use Rattle.states.specs.Faults.{processorFault}
-use Rattle.acting.specs.Calls.{factsOf, phasesOf}
+use Rattle.rules.specs.Calls.{factsOf, phasesOf}
 use Rattle.waiting.specs.Waits.{waitsIn, waitsOf}
 use Rattle.queries.specs.Queries.{waitsFor, scratchSize}
 use Rattle.queries.specs.inner.Rows.{directRows}

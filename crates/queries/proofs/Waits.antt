@@ -14,7 +14,7 @@ use Rattle.settling.specs.Requests.{Facts, isWriter, isEarlier, conflicts, unsa
 use Rattle.states.specs.declared.Board.{Board}
 use Rattle.states.specs.declared.State.{State}
 use Rattle.states.specs.Requests.{isHolding, isEntitled, isWaiting, cleaned}
-use Rattle.acting.specs.Calls.{factsOf, phasesOf}
+use Rattle.rules.specs.Calls.{factsOf, phasesOf}
 use Rattle.waiting.specs.Waits.{waitsIn}
 use Rattle.queries.specs.Queries.{waitsFor}
 

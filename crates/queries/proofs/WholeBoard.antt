@@ -14,7 +14,7 @@ use Rattle.settling.specs.declared.Phases.{Phases}
 use Rattle.states.specs.declared.Board.{Board}
 use Rattle.states.specs.declared.State.{State}
 use Rattle.states.specs.Faults.{processorFault}
-use Rattle.acting.specs.Calls.{phasesOf}
+use Rattle.rules.specs.Calls.{phasesOf}
 use Rattle.wait_listing.specs.Listing.{entryIn, waitedIn, partBytes, partIn, partSize, listBytes, listBuffer}
 use Rattle.wait_listing.proofs.InTurn.{length-part, part-at}
 use Rattle.wait_listing.proofs.Stores.{list-agree}

@@ -12,7 +12,7 @@ use Rattle.plans.specs.Entries.{slots}
 use Rattle.states.specs.declared.Board.{Board}
 use Rattle.states.specs.declared.State.{State}
 use Rattle.states.specs.Faults.{processorFault}
-use Rattle.acting.specs.Calls.{factsOf, phasesOf}
+use Rattle.rules.specs.Calls.{factsOf, phasesOf}
 use Rattle.wait_listing.specs.Listing.{stateIn, maskSize}
 use Rattle.reaching.specs.Rows.{wordsOf, wordsSize}
 use Rattle.waiting.specs.Waits.{waitsIn}

@@ -7,7 +7,7 @@ use Rattle.refusals.specs.Due.{Said, said}
 use Rattle.plans.specs.Entries.{slots}
 use Rattle.states.specs.declared.Board.{Board}
 use Rattle.states.specs.declared.State.{State}
-use Rattle.acting.specs.Calls.{phasesOf}
+use Rattle.rules.specs.Calls.{phasesOf}
 use Rattle.wait_listing.specs.Listing.{entryIn, waitedIn, listedOf, partBytes, listBytes, listSize, listFault, listBuffer}
 use Rattle.queries.specs.Queries.{stateNumber, waitsFor}
 

@@ -12,7 +12,7 @@ use waiting::waits_of_all;
 ghost use mathlib.Core.Path.{_≡_};
 ghost use mathlib.Core.List.{[]};
 ghost use Rattle.encoding.specs.Buffers.{outcomeSays};
-ghost use Rattle.acting.specs.InPlace.{boardBy, stateBy};
+ghost use Rattle.rules.specs.InPlace.{boardBy, stateBy};
 ghost use Rattle.wait_listing.specs.Listing.{maskSize};
 ghost use Rattle.queries.specs.WholeBoard.{boardQuery, boardBuffer};
 

@@ -9,7 +9,7 @@ use registers::read;
 use states::State;
 use states::Terms;
 ghost use mathlib.Core.Path.{_≡_};
-ghost use Rattle.acting.specs.InPlace.{boardBy};
+ghost use Rattle.rules.specs.InPlace.{boardBy};
 ghost use Rattle.registers.specs.Registers.{registerRead, readSays};
 ghost use Rattle.commands.specs.Commands.{registerWrite, writeSays};
 

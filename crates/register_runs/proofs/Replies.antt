@@ -11,7 +11,7 @@ use Rattle.settling.specs.declared.Phases.{Phases}
 use Rattle.states.specs.declared.Board.{Board}
 use Rattle.states.specs.declared.State.{State}
 use Rattle.states.specs.Faults.{issueFault}
-use Rattle.acting.specs.Calls.{Answer, phasesOf, putState, takenState, done, ruled, settledDone, issued, left, completed, withdrawn, answered}
+use Rattle.rules.specs.Calls.{Answer, phasesOf, putState, takenState, done, ruled, settledDone, issued, left, completed, withdrawn, answered}
 
 -- A reply that registers can hold.
 pub record Holdable (r : Response) : Type 0 where

@@ -9,7 +9,7 @@ use Rattle.calls.specs.declared.Call.{Call}
 use Rattle.calls.specs.Replies.{Response, refusedWith}
 use Rattle.states.specs.declared.Board.{Board}
 use Rattle.states.specs.declared.State.{State}
-use Rattle.acting.specs.Calls.{answered}
+use Rattle.rules.specs.Calls.{answered}
 use Rattle.arbiter.specs.Fresh.{freshState}
 use Rattle.registers.specs.declared.Block.{Block}
 use Rattle.registers.specs.Registers.{refusalIn, lateIn, grantedIn, entitledIn}
@@ -48,7 +48,7 @@ after b d (s ∷ later) = after b (stepped b d s) later
 
 -- Clause 10.7: the write is a command that the arbiter answers.
 abbrev pub carries : ℕ → ℕ → Bool
-carries offset value = eqb offset 0 && (ltb 0 value && leb value 3)
+carries offset value = eqb offset 0 && (ltb 0 value && leb value 4)
 
 -- Clause 10.12: the step is a command that grants processor p. A refused command grants nobody.
 abbrev pub grants : Board → Device → Step → ℕ → Bool

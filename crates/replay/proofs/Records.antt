@@ -16,7 +16,7 @@ use Rattle.calls.specs.declared.Call.{Call}
 use Rattle.calls.specs.Replies.{Response}
 use Rattle.states.specs.declared.Board.{Board}
 use Rattle.states.specs.declared.State.{State}
-use Rattle.acting.specs.Calls.{answered}
+use Rattle.rules.specs.Calls.{answered}
 use Rattle.logs.specs.declared.RecordAnswer.{RecordAnswer}
 use Rattle.logs.specs.Records.{recordSize, recordFault, recordSays, readRecord}
 use Rattle.logs.proofs.Answers.{record-is, record-refused}

@@ -11,9 +11,9 @@ use lib.Seq.{length-take-le, take-at, drop-at, drop-drop}
 use Rattle.encoding.specs.Buffers.{overwritten}
 use Rattle.states.specs.declared.Board.{Board}
 use Rattle.states.specs.declared.State.{State}
-use Rattle.acting.specs.Calls.{answered}
-use Rattle.acting.specs.InPlace.{boardBy}
-use Rattle.acting.proofs.Answers.{call-reads}
+use Rattle.rules.specs.Calls.{answered}
+use Rattle.rules.specs.InPlace.{boardBy}
+use Rattle.acting.proofs.Verdicts.{call-reads}
 use Rattle.logs.specs.Records.{recordSize}
 use Rattle.replay.specs.Blocks.{callIn, Ran, ran}
 use Rattle.replay.proofs.Records.{Found, found, stopped, ran-call, ran-refused, one-call}

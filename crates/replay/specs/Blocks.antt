@@ -8,7 +8,7 @@ use Rattle.calls.specs.declared.Call.{Call}
 use Rattle.calls.specs.Calls.{callOf}
 use Rattle.states.specs.declared.Board.{Board}
 use Rattle.states.specs.declared.State.{State}
-use Rattle.acting.specs.Calls.{answered}
+use Rattle.rules.specs.Calls.{answered}
 use Rattle.logs.specs.Records.{recordSize, fieldsIn, recordFault}
 use Rattle.lines.specs.Lines.{refusalLine}
 use Rattle.listings.specs.Lines.{callLine}

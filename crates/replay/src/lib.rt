@@ -28,7 +28,7 @@ ghost use Rattle.refusals.specs.Number.{verdictNumber};
 ghost use Rattle.encoding.specs.Buffers.{overwritten, outcomeSays};
 ghost use Rattle.plans.specs.Reading.{readSays, planRead};
 ghost use Rattle.arbiter.specs.Fresh.{freshBoard, freshState};
-ghost use Rattle.acting.specs.InPlace.{boardBy, stateBy};
+ghost use Rattle.rules.specs.InPlace.{boardBy, stateBy};
 ghost use Rattle.logs.specs.Records.{recordSize, countSays, readCount};
 ghost use Rattle.digits.specs.Digits.{hexPairs};
 ghost use Rattle.lines.specs.Lines.{lineSays, lineBuffer};

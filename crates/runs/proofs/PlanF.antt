@@ -13,8 +13,8 @@ use Rattle.calls.specs.Replies.{Response, refusedWith}
 use Rattle.settling.specs.Settling.{test1, step1, test2, step2, test3, step3, test4, step4, settled}
 use Rattle.states.specs.Requests.{isHolding, isEntitled, isWaiting, cleaned}
 use Rattle.states.specs.Faults.{issueFault, completeFault}
-use Rattle.acting.specs.Acts.{putIn, putLast, takenOut, stamped}
-use Rattle.acting.specs.Calls.{putState, takenState, done, settledDone, issued, left, completed}
+use Rattle.rules.specs.Acts.{putIn, putLast, takenOut, stamped}
+use Rattle.rules.specs.Calls.{putState, takenState, done, settledDone, issued, left, completed}
 use Rattle.arbiter.specs.Fresh.{boardOf, freshState}
 use Rattle.runs.specs.Events.{Event, events}
 

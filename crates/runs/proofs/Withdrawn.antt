@@ -9,8 +9,8 @@ use Rattle.calls.specs.declared.Call.{Call}
 use Rattle.settling.specs.Settling.{test1, step1, test2, step2, test3, step3, test4, step4, settled}
 use Rattle.states.specs.Requests.{isHolding, isEntitled, isWaiting, cleaned}
 use Rattle.states.specs.Faults.{issueFault, completeFault, withdrawFault}
-use Rattle.acting.specs.Acts.{putIn, putLast, takenOut, stamped}
-use Rattle.acting.specs.Calls.{putState, takenState, done, settledDone, issued, left, completed, withdrawn}
+use Rattle.rules.specs.Acts.{putIn, putLast, takenOut, stamped}
+use Rattle.rules.specs.Calls.{putState, takenState, done, settledDone, issued, left, completed, withdrawn}
 use Rattle.arbiter.specs.Fresh.{boardOf}
 use Rattle.runs.specs.Events.{events}
 use Rattle.runs.specs.History.{When, never, at, Request, History, allActing, countedIn, waitOf}

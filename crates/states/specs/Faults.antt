@@ -37,3 +37,10 @@ completeFault terms last ph p t = takeFault terms last ph p t (due (not (unsatis
 -- Clauses 4.5 and 8.2: a withdrawal: 17 for a request that holds.
 unfoldable pub withdrawFault : Terms → ℕ → Phases → ℕ → ℕ → ℕ
 withdrawFault terms last ph p t = takeFault terms last ph p t (due (not (bit (ph .holding) p)) 17)
+
+-- Clauses 4.5 and 8.2: a handover to entry e, by 10, 11, 12, then as a completion by 14 and 15.
+unfoldable pub handoverFault : Terms → ℕ → Phases → ℕ → ℕ → ℕ → ℕ
+handoverFault terms last ph p e t =
+    firstOf (tickFault last t)
+    (firstOf (processorFault terms p)
+    (firstOf (due (ltb e (terms .count)) 12) (firstOf (due (active ph p) 14) (due (not (unsatisfied ph p)) 15))))

@@ -14,7 +14,7 @@ ghost use Rattle.refusals.specs.Number.{numberOf, verdictNumber};
 ghost use Rattle.refusals.specs.Due.{due};
 ghost use Rattle.settling.specs.Requests.{unsatisfied, active};
 ghost use Rattle.states.specs.Requests.{hasProcessor};
-ghost use Rattle.states.specs.Faults.{issueFault, takeFault, completeFault, withdrawFault};
+ghost use Rattle.states.specs.Faults.{issueFault, takeFault, completeFault, withdrawFault, handoverFault};
 
 // Clause 1.4: the largest tick.
 const LAST_TICK: u64 = 1099511627775;
@@ -114,4 +114,30 @@ pub fn check_withdraw(terms: Terms, last: u64, phases: Phases, processor: u8, ti
 {
     let unheld = !has32(phases.holding, processor as u32);
     check_taken(terms, last, phases, processor, tick, unheld, Refusal::Held)
+}
+
+// Clause 4.5: 10, 11, 12, 14, 15.
+pub fn check_handover(
+    terms: Terms,
+    last: u64,
+    phases: Phases,
+    processor: u8,
+    entry: u8,
+    tick: u64,
+) -> Verdict
+    ensures { λ r. ⌜ verdictNumber r ≡ handoverFault terms last phases processor entry tick ⌝ }
+{
+    if !is_in_time(last, tick) {
+        return Verdict::Refused(Refusal::Tick);
+    }
+    if !is_counted(terms, processor) {
+        return Verdict::Refused(Refusal::Processor);
+    }
+    if terms.count <= entry {
+        return Verdict::Refused(Refusal::Entry);
+    }
+    if !is_active(phases, processor) {
+        return Verdict::Refused(Refusal::Idle);
+    }
+    refuse_unless(!is_unsatisfied(phases, processor), Refusal::Unheld)
 }

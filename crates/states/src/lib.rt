@@ -4,6 +4,7 @@ mod faults;
 mod requests;
 
 pub use faults::check_complete;
+pub use faults::check_handover;
 pub use faults::check_issue;
 pub use faults::check_withdraw;
 use plans::ENTRIES;

@@ -14,7 +14,7 @@ use Rattle.plans.specs.Reading.{readFault, readSays, planRead}
 use Rattle.states.specs.declared.Board.{Board}
 use Rattle.states.specs.declared.State.{State}
 use Rattle.calls.specs.Calls.{Fields, callOf}
-use Rattle.acting.specs.Calls.{answered}
+use Rattle.rules.specs.Calls.{answered}
 use Rattle.arbiter.specs.Fresh.{boardOf, freshState}
 use Rattle.logs.specs.Records.{countSize, recordSize, readCount, recordFault}
 use Rattle.listings.specs.Lines.{firstLine, callLine}

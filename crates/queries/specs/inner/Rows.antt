@@ -8,7 +8,7 @@ use Rattle.settling.specs.declared.Phases.{Phases}
 use Rattle.states.specs.declared.Terms.{Terms}
 use Rattle.states.specs.declared.Board.{Board}
 use Rattle.states.specs.declared.State.{State}
-use Rattle.acting.specs.InPlace.{boardBy, stateBy}
+use Rattle.rules.specs.InPlace.{boardBy, stateBy}
 use Rattle.queries.specs.Queries.{waitsFor, reaches}
 
 -- A board and a state of which the other parts play no part.

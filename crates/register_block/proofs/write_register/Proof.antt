@@ -42,7 +42,7 @@ use denote.Triple.Clauses.{ensured, lasts}
 use denote.Exit.{yes}
 use Rattle.states.specs.declared.Terms.{Terms}
 use Rattle.states.specs.declared.State.{State}
-use Rattle.acting.specs.InPlace.{boardBy}
+use Rattle.rules.specs.InPlace.{boardBy}
 use Rattle.registers.specs.declared.Block.{Block}
 use Rattle.commands.specs.declared.Change.{Change}
 use Rattle.commands.specs.Commands.{registerWrite, changeSays}

@@ -1,7 +1,7 @@
 -- `replay::replay_record` meets its contract: a record that was read has what the law of its case says. Assumes nothing.
 use mathlib.Core.Path.{ap}
 use borrow.Author.Needs.{needs}
-use Rattle.acting.specs.Calls.{Answer}
+use Rattle.rules.specs.Calls.{Answer}
 use Rattle.listings.proofs.Fields.{line-by-table}
 use Rattle.replay.proofs.Records.{call-carried, refusal-carried}
 use Rattle.replay.proofs.replay_record.Statement.{statement}

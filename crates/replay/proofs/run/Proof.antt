@@ -3,7 +3,7 @@ use Prim.Native.Nat.{_-_}
 use mathlib.Core.Path.{_∙_, sym}
 use native.Mathlib.Omega.{arith}
 use borrow.Author.Needs.{needs}
-use Rattle.acting.specs.InPlace.{boardBy, stateBy}
+use Rattle.rules.specs.InPlace.{boardBy, stateBy}
 use Rattle.replay.specs.Blocks.{ran}
 use Rattle.replay.proofs.Blocks.{Leaves, first-turn, last-turn, ended-turn, next-turn, one-fits}
 use Rattle.replay.proofs.Turns.{ran-reads}

@@ -6,7 +6,7 @@ use lib.Dec.{eqb}
 use lib.ListN.{length}
 use Rattle.plans.specs.declared.Plan.{Plan}
 use Rattle.states.specs.declared.State.{State}
-use Rattle.acting.specs.InPlace.{stateBy}
+use Rattle.rules.specs.InPlace.{stateBy}
 use Rattle.lines.specs.Lines.{refusalLine}
 use Rattle.listings.specs.Lines.{firstLine}
 use Rattle.replay.specs.Blocks.{Ran}

@@ -9,7 +9,7 @@ use Rattle.plans.specs.Entries.{slots}
 use Rattle.settling.specs.Requests.{conflicts}
 use Rattle.states.specs.declared.Board.{Board}
 use Rattle.states.specs.declared.State.{State}
-use Rattle.acting.specs.Calls.{factsOf}
+use Rattle.rules.specs.Calls.{factsOf}
 use Rattle.arbiter.specs.Fresh.{freshState}
 use Rattle.runs.specs.History.{Act}
 use Rattle.runs.proofs.history.Keeps.{KeptTo, WaitsTo}

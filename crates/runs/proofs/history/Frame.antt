@@ -16,8 +16,8 @@ use Rattle.settling.specs.Requests.{unsatisfied, active}
 use Rattle.states.specs.declared.Board.{Board}
 use Rattle.states.specs.declared.State.{State}
 use Rattle.states.specs.Faults.{issueFault, takeFault, completeFault, withdrawFault}
-use Rattle.acting.specs.Acts.{became}
-use Rattle.acting.specs.Calls.{phasesOf, putState, takenState, Answer, done, ruled, settledDone, issued, lateMark, left, completed, withdrawn, answered}
+use Rattle.rules.specs.Acts.{became}
+use Rattle.rules.specs.Calls.{phasesOf, putState, takenState, Answer, done, ruled, settledDone, issued, lateMark, left, completed, withdrawn, answered}
 use Rattle.runs.specs.History.{Act, puts, takes, actsOf}
 use Rattle.runs.proofs.history.Verdicts.{issue-taken, leave-taken}
 use Rattle.runs.proofs.refinement.State.{active-not-idle, inactive-idle}

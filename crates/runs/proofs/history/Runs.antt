@@ -12,7 +12,7 @@ use Rattle.calls.specs.declared.Call.{Call}
 use Rattle.calls.specs.Calls.{tickOf}
 use Rattle.states.specs.declared.Board.{Board}
 use Rattle.states.specs.declared.State.{State}
-use Rattle.acting.specs.Calls.{answered}
+use Rattle.rules.specs.Calls.{answered}
 use Rattle.arbiter.specs.Fresh.{freshState}
 use Rattle.runs.specs.Events.{events}
 use Rattle.runs.specs.History.{History, Act, allActing, granting, counting, countedIn, nothing, holds}

@@ -19,8 +19,8 @@ use Rattle.settling.specs.Requests.{Facts}
 use Rattle.settling.specs.Settling.{settled}
 use Rattle.states.specs.declared.Board.{Board}
 use Rattle.states.specs.declared.State.{State}
-use Rattle.acting.specs.Acts.{putIn, putLast, takenOut, began, stamped}
-use Rattle.acting.specs.Calls.{factsOf}
+use Rattle.rules.specs.Acts.{putIn, putLast, takenOut, began, stamped}
+use Rattle.rules.specs.Calls.{factsOf}
 use Rattle.runs.specs.History.{Act, puts, takes}
 use Rattle.runs.specs.Claim.{everyEntry}
 use Rattle.runs.proofs.history.Cases.{by-processor, getD-set}

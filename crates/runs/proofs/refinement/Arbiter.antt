@@ -11,7 +11,7 @@ use Rattle.plans.specs.Acceptance.{planFault}
 use Rattle.settling.specs.Requests.{isWriter}
 use Rattle.states.specs.declared.Board.{Board}
 use Rattle.states.specs.declared.State.{State}
-use Rattle.acting.specs.Calls.{factsOf}
+use Rattle.rules.specs.Calls.{factsOf}
 use Rattle.arbiter.specs.Fresh.{boardOf, freshState}
 use Rattle.runs.specs.History.{Act}
 use Rattle.runs.specs.Claim.{Closed, LengthsAtMost}

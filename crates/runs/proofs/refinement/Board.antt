@@ -26,7 +26,7 @@ use Rattle.settling.specs.Requests.{isWriter, conflicts}
 use Rattle.arbiter.specs.Fresh.{boardOf}
 use Rattle.states.specs.declared.Board.{Board}
 use Rattle.states.specs.declared.State.{State}
-use Rattle.acting.specs.Calls.{factsOf}
+use Rattle.rules.specs.Calls.{factsOf}
 use Rattle.runs.proofs.history.Cases.{below-or-past}
 use Rattle.runs.specs.Claim.{Closed, LengthsAtMost}
 use Rattle.runs.proofs.history.Arbiter.{lengthOn, Kept}

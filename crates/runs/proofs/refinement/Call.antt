@@ -8,7 +8,7 @@ use Rattle.settling.specs.Requests.{Facts}
 use Rattle.settling.specs.Settling.{step1, step2, step3, settled}
 use Rattle.states.specs.declared.Board.{Board}
 use Rattle.states.specs.declared.State.{State}
-use Rattle.acting.specs.Calls.{factsOf}
+use Rattle.rules.specs.Calls.{factsOf}
 use Rattle.runs.specs.History.{Act, puts, takes}
 use Rattle.runs.proofs.history.Cases.{by-processor}
 use Rattle.runs.proofs.columns.Columns.{idle, Start, puts-in, takes-out, Stamp, arrives, Called}

@@ -11,7 +11,7 @@ use Rattle.plans.specs.Entries.{slots}
 use Rattle.states.specs.declared.Board.{Board}
 use Rattle.states.specs.declared.State.{State}
 use Rattle.states.specs.Requests.{inPlan, isHolding, isEntitled, isWaiting, cleaned}
-use Rattle.acting.specs.Calls.{phasesOf}
+use Rattle.rules.specs.Calls.{phasesOf}
 use Rattle.arbiter.specs.Fresh.{freshState}
 use Rattle.runs.proofs.columns.Columns.{Phase, idle}
 use Rattle.runs.proofs.columns.Phases.{clash}

@@ -13,7 +13,7 @@ use Rattle.plans.specs.Entries.{slots}
 use Rattle.conflicts.proofs.Tabulate.{getD-tabulate}
 use Rattle.settling.specs.declared.Phases.{Phases}
 use Rattle.settling.specs.Requests.{Facts, factsBy, isEarlier, active}
-use Rattle.acting.specs.Acts.{putIn, putLast, takenOut}
+use Rattle.rules.specs.Acts.{putIn, putLast, takenOut}
 use Rattle.runs.proofs.history.Cases.{by-processor, getD-set}
 use Rattle.runs.proofs.columns.Columns.{idle, waiting, Requests, PutIn, TakenOut}
 use Rattle.runs.proofs.refinement.State.{requestsOf, phaseOf, three, bitsOf, Tidy, idle-inactive, not-idle-active, bits-in, Becomes, moved, kept}

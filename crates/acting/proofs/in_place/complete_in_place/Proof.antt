@@ -1,8 +1,9 @@
 -- `complete_in_place` meets its contract, put together from its parts. Assumes nothing.
+use mathlib.Core.Path.{_∙_}
 use Prim.Native.Nat.{_<_}
 use borrow.Author.Needs.{needs}
 use Rattle.plans.specs.Entries.{slots}
-use Rattle.acting.proofs.Answers.{complete-refused, complete-counted, complete-accepted}
+use Rattle.acting.proofs.Verdicts.{complete-refused, complete-counted, complete-done}
 use Rattle.acting.proofs.in_place.complete_in_place.Statement.{statement}
 use Rattle.acting.proofs.in_place.complete_in_place.Tie as tie
 
@@ -12,16 +13,19 @@ counted c = complete-counted _ _ _ _ _ _ (c .enum-told .given .1) (c .before .be
 
 returns : tie.Need-returns
 returns c =
-    let found = c .before .before .before in
-    complete-refused _ _ _ (found .before .clean .ensures) _ _ _ (found .check-complete .ensures) _ (c .before .verdict .given .1)
+    let found = c .before .before .before .before in
+    c .refused .ensures _ _ _
+    ∙ complete-refused _ _ _ (found .before .clean .ensures) _ _ _ (found .check-complete .ensures) _ (c .before .before .verdict .given .1)
 
 returns-2 : tie.Need-returns-2
 returns-2 c =
-    let marked = c .before .before in
+    let gone = c .before in
+    let marked = gone .before .before in
     let told = marked .before .before .before .before .before in
     let found = told .before .before in
-    complete-accepted _ _ _ (found .before .clean .ensures) _ _ _ (found .check-complete .ensures) (told .enum-told .given .1) _ _ _
-    (marked .before .before .length-at .ensures) (marked .late-mark .ensures) (c .leave .ensures)
+    c .accepted .ensures _ _ _
+    ∙ complete-done _ _ _ (found .before .clean .ensures) _ _ _ (found .check-complete .ensures) (told .enum-told .given .1) _ _ _
+    (marked .before .before .length-at .ensures) (marked .late-mark .ensures) (gone .leave .ensures)
 
 pub complete-in-place-spec : {M : Type 1} → statement M
 complete-in-place-spec =
@@ -31,11 +35,13 @@ complete-in-place-spec =
     (λ c κs. search needs)
     (λ c. search needs)
     (λ c. search needs)
+    (λ c κs. search needs)
     returns
     (λ c. counted (c .before))
     (λ c κs. search needs)
     (λ c. search needs)
     (λ c. counted (c .before .before .before))
+    (λ c κs. search needs)
     (λ c κs. search needs)
     (λ c κs. search needs)
     returns-2)

@@ -1,20 +1,24 @@
 -- `withdraw_in_place` meets its contract, put together from its parts. Assumes nothing.
+use mathlib.Core.Path.{_∙_}
 use borrow.Author.Needs.{needs}
-use Rattle.acting.proofs.Answers.{withdraw-refused, withdraw-accepted}
+use Rattle.acting.proofs.Verdicts.{withdraw-refused, withdraw-done}
 use Rattle.acting.proofs.in_place.withdraw_in_place.Statement.{statement}
 use Rattle.acting.proofs.in_place.withdraw_in_place.Tie as tie
 
 returns : tie.Need-returns
 returns c =
-    let found = c .before .before .before in
-    withdraw-refused _ _ _ (found .before .clean .ensures) _ _ _ (found .check-withdraw .ensures) _ (c .before .verdict .given .1)
+    let found = c .before .before .before .before in
+    c .refused .ensures _ _ _
+    ∙ withdraw-refused _ _ _ (found .before .clean .ensures) _ _ _ (found .check-withdraw .ensures) _ (c .before .before .verdict .given .1)
 
 returns-2 : tie.Need-returns-2
 returns-2 c =
-    let told = c .before .before in
+    let gone = c .before in
+    let told = gone .before .before in
     let found = told .before .before in
-    withdraw-accepted _ _ _ (found .before .clean .ensures) _ _ _ (found .check-withdraw .ensures) (told .enum-told .given .1) _
-    (c .leave .ensures)
+    c .accepted .ensures _ _ _
+    ∙ withdraw-done _ _ _ (found .before .clean .ensures) _ _ _ (found .check-withdraw .ensures) (told .enum-told .given .1) _
+    (gone .leave .ensures)
 
 pub withdraw-in-place-spec : {M : Type 1} → statement M
 withdraw-in-place-spec =
@@ -24,6 +28,8 @@ withdraw-in-place-spec =
     (λ c κs. search needs)
     (λ c. search needs)
     (λ c. search needs)
+    (λ c κs. search needs)
     returns
+    (λ c κs. search needs)
     (λ c κs. search needs)
     returns-2)

@@ -1,7 +1,7 @@
 -- `list_board_in_place` meets its contract: the list of the phases that count and the direct waits of all. Assumes nothing.
 use mathlib.Core.Path.{_∙_}
 use mathlib.Core.List.{[]}
-use Rattle.acting.specs.InPlace.{boardBy, stateBy}
+use Rattle.rules.specs.InPlace.{boardBy, stateBy}
 use Rattle.wait_listing.specs.Listing.{maskSize}
 use Rattle.queries.proofs.Answers.{rows-counted}
 use Rattle.queries.proofs.WholeBoard.{board-found}

@@ -1,0 +1,25 @@
+-- `enter` meets its contract, put together from its parts. Assumes nothing.
+use mathlib.Core.Path.{sym, subst}
+use borrow.Author.Needs.{needs}
+use Rattle.settling.proofs.Bounds.{settled-small}
+use Rattle.states.specs.inner.Small.{Small}
+use Rattle.acts.proofs.Done.{entered-done}
+use Rattle.acts.proofs.enter.Statement.{statement}
+use Rattle.acts.proofs.enter.Tie as tie
+
+accept-requires : tie.Need-accept-requires
+accept-requires c κs = subst Small (sym (c .before .put-and-settle .ensures .1)) (settled-small _ _)
+
+returns : tie.Need-returns
+returns c =
+    let put = c .before .before in
+    let ticks = put .before .before .before in
+    let stored = ticks .before .before in
+    let a = stored .before .before .args in
+    entered-done (a .rows .now) (a .writes) (a .tick) (a .processor) (a .phases) _ _ _ (stored .store-entry .ensures)
+    (ticks .store-tick .ensures) (put .put-and-settle .ensures .0) (put .put-and-settle .ensures .1) (c .accept .ensures _ _)
+
+pub enter-spec : {M : Type 1} → statement M
+enter-spec =
+    tie.close
+    (tie.spec (λ c κs. search needs) (λ c κs. search needs) (λ c κs. search needs) accept-requires returns)

@@ -1,0 +1,117 @@
+// An act carried out on the arrays of a state: a request enters or leaves, all requests are settled, and the answer has who
+// began to hold and who became entitled by it. Specification, clauses 4.4 to 4.8.
+mod late;
+mod stores;
+
+pub use late::late_mark;
+pub use late::length_at;
+use masks::without32;
+use placing::put_and_settle;
+use placing::settle_left;
+use placing::stamp;
+use placing::take_out;
+use plans::ENTRIES;
+use plans::SLOTS;
+use settling::ALL;
+use settling::Phases;
+use stores::store_entry;
+use stores::store_tick;
+ghost use mathlib.Core.Path.{_≡_};
+ghost use mathlib.Core.List.{List};
+ghost use Prim.Native.Nat.{ℕ};
+ghost use lib.ListN.{set};
+ghost use Rattle.settling.specs.Requests.{factsBy};
+ghost use Rattle.settling.specs.Settling.{settled};
+ghost use Rattle.states.specs.inner.Small.{Small};
+ghost use Rattle.rules.specs.Acts.{putIn, putLast, takenOut};
+ghost use Rattle.rules.specs.Calls.{done, both};
+ghost use Rattle.rules.specs.InPlace.{stateBy};
+ghost use Rattle.acts.specs.Carried.{carriedSays};
+
+// What an act that was carried out answers, and the phases that it leaves.
+pub struct Carried {
+    pub granted: u32,
+    pub entitled: u32,
+    pub late: u8,
+    pub phases: Phases,
+}
+
+// The two masks. `before` has the request put in or taken out, `after` is settled. Those that began to hold have this
+// tick.
+fn accept(tick: u64, before: Phases, after: Phases, since: &mut [u64; SLOTS], late: u8) -> Carried
+    requires { ⌜ Small after ⌝ }
+    ensures { λ r. ⌜ ((entry : List ℕ) (earlier : List ℕ) → carriedSays r tick entry (now (since .exit)) earlier
+        ≡ done (stateBy (record { last = tick; phases = before }) entry (now (since .entry)) earlier) after late) ⌝ }
+{
+    let granted = without32(after.holding, before.holding);
+    stamp(since, granted, tick);
+    Carried {
+        granted: granted,
+        entitled: without32(after.entitled, before.entitled),
+        late: late,
+        phases: after,
+    }
+}
+
+// The processor's request for the entry is put in, beside the requests of these phases. It is never late.
+pub fn enter(
+    rows: &[u64; ENTRIES],
+    writes: u64,
+    entries: &mut [u8; SLOTS],
+    since: &mut [u64; SLOTS],
+    earlier: &mut [u32; SLOTS],
+    phases: Phases,
+    processor: u8,
+    entry: u8,
+    tick: u64,
+) -> Carried
+    ensures { λ r. ⌜ carriedSays r tick (now (entries .exit)) (now (since .exit)) (now (earlier .exit))
+        ≡ done (stateBy (record { last = tick; phases = putIn phases processor })
+        (set (now (entries .entry)) processor entry) (set (now (since .entry)) processor tick)
+        (putLast (now (earlier .entry)) phases processor))
+        (settled (factsBy (now (rows .entry)) writes (set (now (entries .entry)) processor entry)
+        (putLast (now (earlier .entry)) phases processor)) (putIn phases processor)) 0 ⌝ }
+{
+    store_entry(entries, processor, entry);
+    store_tick(since, processor, tick);
+    let after = put_and_settle(rows, writes, entries, earlier, phases, processor);
+    accept(tick, phases, after, since, 0)
+}
+
+// The processor's request is taken out of the requests of these phases, and what is left is settled.
+pub fn leave(
+    rows: &[u64; ENTRIES],
+    writes: u64,
+    entries: &[u8; SLOTS],
+    since: &mut [u64; SLOTS],
+    earlier: &[u32; SLOTS],
+    phases: Phases,
+    processor: u8,
+    tick: u64,
+    late: u8,
+) -> Carried
+    ensures { λ r. ⌜ carriedSays r tick (now (entries .entry)) (now (since .exit)) (now (earlier .entry))
+        ≡ done (stateBy (record { last = tick; phases = takenOut phases processor }) (now (entries .entry))
+        (now (since .entry)) (now (earlier .entry)))
+        (settled (factsBy (now (rows .entry)) writes (now (entries .entry)) (now (earlier .entry)))
+        (takenOut phases processor)) late ⌝ }
+{
+    let ready = take_out(phases, processor);
+    let after = settle_left(rows, writes, entries, earlier, ready);
+    accept(tick, ready, after, since, late)
+}
+
+// Two acts as one, the second carried out right after the first. Who is no longer entitled after both is in no mask.
+pub fn merge(first: Carried, second: Carried) -> Carried
+    ensures { λ r. ⌜ ((tick : ℕ) (entry entry₂ : List ℕ) (since since₂ : List ℕ) (earlier earlier₂ : List ℕ)
+        → carriedSays r tick entry₂ since₂ earlier₂
+        ≡ both (carriedSays first tick entry since earlier) (carriedSays second tick entry₂ since₂ earlier₂)) ⌝ }
+{
+    let after = second.phases;
+    Carried {
+        granted: (first.granted | second.granted) & ALL,
+        entitled: (first.entitled | second.entitled) & (after.entitled & ALL),
+        late: first.late,
+        phases: after,
+    }
+}

@@ -1,0 +1,137 @@
+-- Issue, complete, withdraw and hand over on whole states. Specification, section 4.
+use Prim.Native.Nat.{ℕ, _-_}
+use mathlib.Core.Bool.{cond, _&&_, _||_}
+use lib.Dec.{eqb, ltb}
+use lib.ListN.{getD, set}
+use Rattle.masks.specs.Sets.{bit, maskOf}
+use Rattle.plans.specs.Entries.{slots}
+use Rattle.calls.specs.declared.Call.{Call}
+use Rattle.calls.specs.Replies.{Response, refusedWith}
+use Rattle.settling.specs.declared.Phases.{Phases}
+use Rattle.settling.specs.Requests.{Facts, factsBy}
+use Rattle.settling.specs.Settling.{settled}
+use Rattle.states.specs.declared.Board.{Board}
+use Rattle.states.specs.declared.State.{State}
+use Rattle.states.specs.Requests.{cleaned}
+use Rattle.states.specs.Faults.{issueFault, completeFault, withdrawFault, handoverFault}
+use Rattle.rules.specs.Acts.{putIn, putLast, takenOut, began, became, stamped}
+
+-- What settling goes by, of a board and a state.
+abbrev pub factsOf : Board → State → Facts
+factsOf b s = factsBy (b .rows) (b .terms .writes) (s .entry) (s .earlier)
+
+-- Clause 4.10: the phases of the requests that count.
+abbrev pub phasesOf : Board → State → Phases
+phasesOf b s = cleaned (b .terms) (s .entry) (s .phases)
+
+-- Clause 4.4: the state, of requests that count, with processor p's request for entry e put in at tick t.
+unfoldable pub putState : Board → State → ℕ → ℕ → ℕ → State
+putState b s p e t =
+    record {
+      last = t;
+      phases = putIn (phasesOf b s) p;
+      since = set (s .since) p t;
+      earlier = putLast (s .earlier) (phasesOf b s) p;
+      entry = set (s .entry) p e;
+    }
+
+-- Clause 4.4: the state, of requests that count, with processor p's taken out at tick t.
+unfoldable pub takenState : Board → State → ℕ → ℕ → State
+takenState b s p t =
+    record {
+      last = t;
+      phases = takenOut (phasesOf b s) p;
+      since = s .since;
+      earlier = s .earlier;
+      entry = s .entry;
+    }
+
+-- The answer to a call, in numbers, and the state after it.
+pub record Answer : Type 0 where
+  pub reply : Response
+  pub state : State
+
+-- Clauses 4.6 and 4.7: what an accepted call answers and leaves. The state x has the request put in or taken out, and
+-- `after` are the phases that settling left: who holds or is entitled in them and was not in x goes into the masks.
+unfoldable pub done : State → Phases → ℕ → Answer
+done x after late =
+    record {
+      reply =
+          record {
+            number = 0;
+            granted = maskOf slots (began (x .phases) after);
+            entitled = maskOf slots (became (x .phases) after);
+            late = late;
+          };
+      state =
+          record {
+            last = x .last;
+            phases = after;
+            since = stamped (x .since) (x .phases) after (x .last);
+            earlier = x .earlier;
+            entry = x .entry;
+          };
+    }
+
+-- Clauses 4.6 and 4.9: a refused call answers its number alone, and the state is the one given.
+abbrev pub ruled : ℕ → State → Answer → Answer
+ruled number s accepted = cond (eqb number 0) accepted (record { reply = refusedWith number; state = s })
+
+-- Clauses 4.6 and 5.2: the state x has the request put in or taken out; then all requests are settled.
+unfoldable pub settledDone : Board → State → ℕ → Answer
+settledDone b x late = done x (settled (factsOf b x) (x .phases)) late
+
+-- Clause 4.4: issue: processor p asks for entry e at tick t. An issue is never late.
+unfoldable pub issued : Board → State → ℕ → ℕ → ℕ → Answer
+issued b s p e t =
+    ruled (issueFault (b .terms) (s .last) (phasesOf b s) p e t) s (settledDone b (putState b s p e t) 0)
+
+-- Clauses 4.8 and 4.10: late is 1 where the hold was longer than its entry's length. A hold that would run backwards
+-- lasted 0.
+abbrev pub lateMark : Board → State → ℕ → ℕ → ℕ
+lateMark b s p t = cond (ltb (getD (b .lengths) (getD (s .entry) p 0) 0) (t - getD (s .since) p 0)) 1 0
+
+-- Clauses 4.4 and 4.6: processor p's request leaves at tick t, unless a number is due.
+unfoldable pub left : Board → State → ℕ → ℕ → ℕ → ℕ → Answer
+left b s p t number late = ruled number s (settledDone b (takenState b s p t) late)
+
+-- Clause 4.4: complete: processor p gives its request back at tick t.
+unfoldable pub completed : Board → State → ℕ → ℕ → Answer
+completed b s p t = left b s p t (completeFault (b .terms) (s .last) (phasesOf b s) p t) (lateMark b s p t)
+
+-- Clauses 4.4 and 4.8: withdraw: processor p leaves the line at tick t. It held nothing, so it is never late.
+unfoldable pub withdrawn : Board → State → ℕ → ℕ → Answer
+withdrawn b s p t = left b s p t (withdrawFault (b .terms) (s .last) (phasesOf b s) p t) 0
+
+-- Clause 4.7: the answer of a handover's two halves, the completion first: who began to hold by either; who became
+-- entitled by either and still is after both; the completion's late; and the state after both.
+unfoldable pub both : Answer → Answer → Answer
+both first second =
+    record {
+      reply =
+          record {
+            number = 0;
+            granted = maskOf slots (λ q. bit (first .reply .granted) q || bit (second .reply .granted) q);
+            entitled =
+                maskOf slots
+                (λ q.
+                (bit (first .reply .entitled) q || bit (second .reply .entitled) q)
+                && bit (second .state .phases .entitled) q);
+            late = first .reply .late;
+          };
+      state = second .state;
+    }
+
+-- Clause 4.4: hand over: processor p gives its request back and asks for entry e, at one tick t, as a completion and then
+-- an issue would. All requests are settled after each.
+unfoldable pub handedOver : Board → State → ℕ → ℕ → ℕ → Answer
+handedOver b s p e t =
+    ruled (handoverFault (b .terms) (s .last) (phasesOf b s) p e t) s
+    (both (completed b s p t) (issued b (completed b s p t .state) p e t))
+
+-- The answer to any call.
+abbrev pub answered : Board → State → Call → Answer
+answered b s (Call.Issue p e t) = issued b s p e t
+answered b s (Call.Complete p t) = completed b s p t
+answered b s (Call.Withdraw p t) = withdrawn b s p t
+answered b s (Call.Handover p e t) = handedOver b s p e t

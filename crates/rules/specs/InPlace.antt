@@ -1,0 +1,24 @@
+-- Calls in place: the parts of a board and of a state that they are lent, and the answer that they leave.
+use Prim.Native.Nat.{ℕ}
+use mathlib.Core.List.{List, []}
+use Rattle.calls.specs.Replies.{replySays}
+use Rattle.states.specs.declared.Terms.{Terms}
+use Rattle.states.specs.declared.Board.{Board}
+use Rattle.states.specs.declared.State.{State}
+use Rattle.states.specs.declared.Moment.{Moment}
+use Rattle.rules.specs.declared.Changed.{Changed}
+use Rattle.rules.specs.Calls.{Answer}
+
+-- The board of these terms, conflict rows and lengths. No call reads names or a widened set.
+abbrev pub boardBy : Terms → List ℕ → List ℕ → Board
+boardBy terms rows lengths = record { terms = terms; lengths = lengths; names = []; widened = []; rows = rows }
+
+-- The state of this moment and these arrays.
+abbrev pub stateBy : Moment → List ℕ → List ℕ → List ℕ → State
+stateBy now entry since earlier =
+    record { last = now .last; phases = now .phases; since = since; earlier = earlier; entry = entry }
+
+-- The answer: what the call returns, with the arrays as it leaves them.
+abbrev pub answerBy : Changed → List ℕ → List ℕ → List ℕ → Answer
+answerBy c entry since earlier =
+    record { reply = replySays (c .reply); state = stateBy (c .moment) entry since earlier }
