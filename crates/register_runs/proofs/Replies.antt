@@ -10,8 +10,8 @@ use Rattle.calls.specs.Replies.{Response, refusedWith}
 use Rattle.settling.specs.declared.Phases.{Phases}
 use Rattle.states.specs.declared.Board.{Board}
 use Rattle.states.specs.declared.State.{State}
-use Rattle.states.specs.Faults.{issueFault}
-use Rattle.rules.specs.Calls.{Answer, phasesOf, putState, takenState, done, ruled, settledDone, issued, left, completed, withdrawn, answered}
+use Rattle.states.specs.Faults.{issueFault, handoverFault}
+use Rattle.rules.specs.Calls.{Answer, phasesOf, putState, takenState, done, ruled, settledDone, issued, left, completed, withdrawn, both, handedOver, answered}
 
 -- A reply that registers can hold.
 pub record Holdable (r : Response) : Type 0 where
@@ -42,15 +42,28 @@ settled-holdable : (b : Board) (x : State) (late : ℕ) → Holdable (settledDon
 unfolding settledDone
 settled-holdable b x late = done-holdable x _ late
 
+both-holdable : (first second : Answer) → Holdable (both first second .reply)
+unfolding both
+both-holdable first second =
+    record {
+      granted = mask-below-width 32 slots _ (lit< tt);
+      entitled = mask-below-width 32 slots _ (lit< tt);
+      alone = λ e. absurd (true≢false e);
+    }
+
 left-holdable : (b : Board) (s : State) (p t number late : ℕ) → Holdable (left b s p t number late .reply)
 unfolding left
 left-holdable b s p t number late =
     ruled-holdable number s (settledDone b (takenState b s p t) late) (settled-holdable b (takenState b s p t) late)
 
 pub answer-holdable : (b : Board) (s : State) (c : Call) → Holdable (answered b s c .reply)
-unfolding issued completed withdrawn
+unfolding issued completed withdrawn handedOver
 answer-holdable b s (Call.Issue p e t) =
     ruled-holdable (issueFault (b .terms) (s .last) (phasesOf b s) p e t) s (settledDone b (putState b s p e t) 0)
     (settled-holdable b (putState b s p e t) 0)
 answer-holdable b s (Call.Complete p t) = left-holdable b s p t _ _
 answer-holdable b s (Call.Withdraw p t) = left-holdable b s p t _ 0
+answer-holdable b s (Call.Handover p e t) =
+    ruled-holdable (handoverFault (b .terms) (s .last) (phasesOf b s) p e t) s
+    (both (completed b s p t) (issued b (completed b s p t .state) p e t))
+    (both-holdable (completed b s p t) (issued b (completed b s p t .state) p e t))
