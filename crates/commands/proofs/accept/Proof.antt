@@ -5,6 +5,9 @@ use Rattle.commands.proofs.Blocks.{accepted-put}
 use Rattle.commands.proofs.accept.Statement.{statement}
 use Rattle.commands.proofs.accept.Tie as tie
 
+third-requires : tie.Need-put-mask-requires-3
+third-requires c κs = search needs
+
 returns : tie.Need-returns
 returns c =
     let pending = c .before .before in
@@ -23,6 +26,6 @@ accept-spec =
     (λ c κs. search needs)
     (λ c κs. search needs)
     (λ c κs. search needs)
-    (λ c κs. search needs)
+    third-requires
     (λ c κs. search needs)
     returns)
