@@ -29,13 +29,13 @@ enum bittmelon_refusal {
     BITTMELON_KIND = 6,        /* kind: neither 0 nor 1 */
     BITTMELON_SET = 7,         /* set: no resource, or one that is not counted */
     BITTMELON_LENGTH = 8,      /* length: 0 */
-    BITTMELON_VERB = 9,        /* verb: above 2, or a completion or a withdrawal with an entry */
+    BITTMELON_VERB = 9,        /* verb: above 3, or a completion or a withdrawal with an entry */
     BITTMELON_TICK = 10,       /* tick: below the last accepted one, or above 1,099,511,627,775 */
     BITTMELON_PROCESSOR = 11,  /* processor: not one of the plan's */
     BITTMELON_ENTRY = 12,      /* entry: not one of the plan's */
     BITTMELON_BUSY = 13,       /* busy: an issue while the processor's request is active */
-    BITTMELON_IDLE = 14,       /* idle: a completion or a withdrawal with no active request */
-    BITTMELON_UNHELD = 15,     /* unheld: a completion while the request does not hold */
+    BITTMELON_IDLE = 14,       /* idle: a completion, a withdrawal or a handover with no active request */
+    BITTMELON_UNHELD = 15,     /* unheld: a completion or a handover while the request does not hold */
     BITTMELON_ROOM = 16,       /* room: a buffer or a scratch that is too short */
     BITTMELON_HELD = 17        /* held: a withdrawal of a request that holds */
 };

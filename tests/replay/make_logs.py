@@ -5,7 +5,7 @@ import pathlib
 import random
 import sys
 
-ISSUE, COMPLETE, WITHDRAW = 0, 1, 2
+ISSUE, COMPLETE, WITHDRAW, HANDOVER = 0, 1, 2, 3
 LAST = 2**40 - 1
 
 
@@ -35,6 +35,10 @@ def complete(processor, tick):
 
 def withdraw(processor, tick):
     return bytes([WITHDRAW, processor, 0]) + tick.to_bytes(5, "little")
+
+
+def handover(processor, number, tick):
+    return bytes([HANDOVER, processor, number]) + tick.to_bytes(5, "little")
 
 
 def log(plan_bytes, calls, count=None):
@@ -69,6 +73,7 @@ def refusals():
     yield "refused_07_not_counted", plan(1, 1, [read([1], 1)])
     yield "refused_08", plan(1, 1, [read([0], 0)])
     yield "refused_09_verb", log(F, F_CALLS[:2] + [bytes([255, 0, 0, 9, 0, 0, 0, 0])] + F_CALLS[2:])
+    yield "refused_09_verb_4", log(F, F_CALLS[:2] + [bytes([4, 0, 0, 9, 0, 0, 0, 0])] + F_CALLS[2:])
     yield "refused_09_complete_with_entry", log(F, F_CALLS[:2] + [bytes([1, 0, 1, 9, 0, 0, 0, 0])])
     yield "refused_09_withdraw_with_entry", log(F, F_CALLS[:2] + [bytes([2, 1, 1, 9, 0, 0, 0, 0])])
     yield "refused_10_one_less", log(PAIR, [issue(0, 0, 9), issue(1, 1, 8), issue(1, 1, 9)])
@@ -81,6 +86,17 @@ def refusals():
     yield "refused_17_read", log(PAIR, [issue(0, 1, 1), withdraw(0, 2), complete(0, 3)])
     yield "refused_17_write", log(PAIR, [issue(0, 0, 1), withdraw(0, 1), complete(0, 3)])
     yield "order_of_a_withdrawal", log(PAIR, [issue(0, 0, 5), withdraw(9, 4), withdraw(2, 5), withdraw(1, 5), withdraw(0, 5)])
+    yield "refused_10_handover", log(PAIR, [issue(0, 0, 9), handover(0, 1, 8), handover(0, 1, 9)])
+    yield "refused_11_handover", log(PAIR, [issue(0, 0, 1), handover(2, 1, 2), handover(255, 1, 2), handover(0, 1, 2)])
+    yield "refused_12_handover", log(PAIR, [issue(0, 0, 1), handover(0, 3, 2), handover(0, 255, 2), handover(0, 2, 2)])
+    yield "refused_14_handover", log(PAIR, [handover(0, 0, 1), issue(0, 0, 2), complete(0, 3), handover(0, 0, 4), issue(0, 0, 1)])
+    yield "refused_15_handover", log(plan(3, 1, [write([0], 4), read([0], 4)]), [issue(0, 0, 1), issue(1, 0, 2), issue(2, 1, 2), handover(1, 0, 3), handover(2, 1, 3), handover(0, 0, 3)])
+    yield "order_of_a_handover", log(PAIR, [
+        issue(0, 0, 5), handover(9, 9, 4), handover(1, 3, 4), handover(0, 3, 4), handover(2, 3, 5), handover(1, 3, 5), handover(1, 0, 5),
+        issue(1, 1, 5), handover(1, 0, 4), handover(1, 3, 5), handover(1, 0, 5), handover(0, 3, 5), handover(0, 1, 5), complete(1, 5), complete(0, 5),
+    ])
+    # The holder holds on from its grant, and the refused tick counts nowhere.
+    yield "refused_handover_changes_nothing", log(PAIR, [issue(0, 0, 1), issue(1, 1, 2), handover(0, 3, 19), handover(1, 2, 19), issue(1, 2, 3), complete(0, 21), complete(1, 26)])
     yield "order_10_before_11", log(PAIR, [issue(0, 0, 5), issue(9, 9, 4), complete(9, 4)])
     yield "order_11_before_12", log(PAIR, [issue(2, 3, 5)])
     yield "order_12_before_13", log(PAIR, [issue(0, 0, 5), issue(0, 3, 5)])
@@ -112,6 +128,7 @@ def boards():
     yield "repeated_tick", log(PAIR, [issue(0, 0, 4), issue(1, 2, 4), complete(1, 4), complete(0, 4)])
     yield "readers_share", log(plan(3, 1, [read([0], 4), write([0], 4)]), [issue(0, 0, 1), issue(1, 0, 2), issue(2, 1, 3), complete(0, 4), complete(1, 5), complete(2, 6)])
     yield from withdrawals()
+    yield from handovers()
     rng = random.Random(7)
     for size in (60, 300):
         yield f"busy_board_{size}", log(full, busy(rng, 16, entries, size))
@@ -127,6 +144,26 @@ def withdrawals():
     yield "withdrawn_waiting_read", log(line, [issue(0, 1, 1), issue(1, 0, 2), issue(2, 1, 3), withdraw(2, 4), complete(0, 5), complete(1, 6)])
     yield "withdrawn_entitled_read", log(line, [issue(0, 0, 1), issue(1, 1, 2), issue(2, 0, 3), withdraw(1, 4), complete(0, 5), complete(2, 6)])
     yield "withdrawn_and_issued_again", log(line, [issue(0, 0, 1), issue(1, 0, 2), withdraw(1, 3), withdraw(1, 3), issue(1, 1, 3), complete(0, 4), complete(1, 5)])
+
+
+def handovers():
+    """Completions and issues in one call, settled after each half."""
+    one = plan(3, 1, [write([0], 20), read([0], 5)])
+    # A write holds and a write waits: the holder hands over to a read. The write holds first, and the read is next in line.
+    yield "handover_settles_twice", log(one, [issue(0, 0, 1), issue(1, 0, 2), handover(0, 1, 3), complete(1, 4), complete(0, 5)])
+    # To the end of the line each time, also for the entry that was held.
+    yield "handover_goes_to_the_end", log(one, [issue(0, 0, 1), issue(1, 0, 2), issue(2, 0, 3), handover(0, 0, 4), handover(1, 0, 4), handover(2, 1, 5), handover(0, 1, 6), handover(1, 1, 7)])
+    yield "handover_late", log(ONE, [issue(0, 0, 0), handover(0, 0, 7), handover(0, 1, 15), handover(0, 1, 18), handover(0, 0, 22), complete(0, 29)])
+    # Readers that hand over to reads do not pass the entitled write, and the write that hands over does not pass them.
+    yield "handover_of_readers", log(one, [issue(0, 1, 1), issue(1, 1, 2), issue(2, 0, 3), handover(0, 1, 4), handover(1, 1, 5), handover(2, 0, 6), complete(0, 7), complete(1, 8), complete(2, 9)])
+    line = plan(5, 2, [write([0], 9), read([0], 4), write([0, 1], 9), read([1], 4)])
+    yield "handover_through_a_line", log(line, [issue(0, 1, 1), issue(1, 1, 2), issue(2, 0, 3), issue(3, 1, 4), handover(0, 0, 5), handover(1, 3, 6), complete(2, 7), complete(3, 8), handover(0, 2, 9), complete(1, 10), complete(0, 11)])
+    yield "handover_and_withdrawal", log(one, [issue(0, 0, 1), issue(1, 0, 2), handover(0, 1, 3), withdraw(0, 4), handover(0, 1, 5), handover(1, 1, 6), complete(1, 7)])
+    yield "handover_at_the_last_tick", log(PAIR, [issue(0, 0, LAST), handover(0, 1, LAST), handover(0, 0, LAST - 1), handover(0, 0, LAST)])
+    rng = random.Random(6)
+    entries = [write([i % 5], i + 1) if i % 3 == 0 else read([i % 5, (i + 1) % 5], i + 1) for i in range(12)]
+    calls = [call if rng.random() < 0.6 else bytes([HANDOVER, call[1], rng.randrange(13)]) + call[3:] for call in busy(rng, 6, entries, 200)]
+    yield "busy_board_handing_over", log(plan(6, 5, entries), calls)
 
 
 def busy(rng, processors, entries, size):

@@ -8,7 +8,7 @@ whole listing, on each log's bytes.
 import pathlib
 
 NAMES = """plan_f empty refused_02_tail refused_07_not_counted refused_09_verb refused_15_entitled order_10_before_11
-read_of_a_widened_resource two_issues_at_one_tick one_processor hold_of_20_and_21 readers_share repeated_tick withdrawn_write_leaves_reads""".split()
+read_of_a_widened_resource two_issues_at_one_tick one_processor hold_of_20_and_21 readers_share repeated_tick withdrawn_write_leaves_reads handover_settles_twice""".split()
 
 # What is computed on the way from bytes to a listing, by the module that defines it.
 UNFOLDED = {
@@ -20,9 +20,9 @@ UNFOLDED = {
     "conflicts.specs.Conflict": "widen widenedSet shared conflict inConflict tabulate conflictsOf",
     "settling.specs.Settling": "test1 step1 test2 step2 test3 step3 test4 step4 settled",
     "states.specs.Requests": "isHolding isEntitled isWaiting cleaned",
-    "states.specs.Faults": "issueFault completeFault withdrawFault",
+    "states.specs.Faults": "issueFault completeFault withdrawFault handoverFault",
     "rules.specs.Acts": "putIn putLast takenOut stamped",
-    "rules.specs.Calls": "putState takenState done settledDone issued left completed withdrawn",
+    "rules.specs.Calls": "putState takenState done settledDone issued left completed withdrawn both handedOver",
     "arbiter.specs.Fresh": "boardOf",
     "logs.specs.Records": "fieldsIn recordFault",
     "digits.specs.Digits": "digits hex4",

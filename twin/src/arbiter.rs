@@ -24,6 +24,7 @@ pub enum Call {
     Issue { processor: u8, entry: u8, tick: u64 },
     Complete { processor: u8, tick: u64 },
     Withdraw { processor: u8, tick: u64 },
+    Handover { processor: u8, entry: u8, tick: u64 },
 }
 
 #[derive(Clone, Copy, PartialEq, Debug)]
@@ -99,7 +100,7 @@ impl Arbiter {
 
     pub fn call(&mut self, call: Call) -> Result<Done, Refusal> {
         let (processor, tick) = match call {
-            Call::Issue { processor, tick, .. } => (processor, tick),
+            Call::Issue { processor, tick, .. } | Call::Handover { processor, tick, .. } => (processor, tick),
             Call::Complete { processor, tick } | Call::Withdraw { processor, tick } => (processor, tick),
         };
         if tick < self.last || tick > 1_099_511_627_775 {
@@ -141,6 +142,16 @@ impl Arbiter {
                 }
                 self.requests.remove(at);
             }
+            Call::Handover { entry, .. } => {
+                if entry as usize >= self.plan.entries.len() {
+                    return Err(12);
+                }
+                let at = place.ok_or(14)?;
+                if self.requests[at].phase != Holding {
+                    return Err(15);
+                }
+                return Ok(self.hand_over(processor, entry, tick));
+            }
         }
         self.last = tick;
         self.settle();
@@ -152,6 +163,15 @@ impl Arbiter {
             }
         }
         Ok(Done { granted, entitled, late })
+    }
+
+    /// A completion and then an issue, of which neither is refused: both their masks together, but nobody is said to have
+    /// become entitled who is not so at the end.
+    fn hand_over(&mut self, processor: u8, entry: u8, tick: u64) -> Done {
+        let first = self.call(Call::Complete { processor, tick }).expect("a completion that fits");
+        let second = self.call(Call::Issue { processor, entry, tick }).expect("an issue that fits");
+        let entitled = (first.entitled | second.entitled) & Self::mask(&self.requests, Entitled);
+        Done { granted: first.granted | second.granted, entitled, late: first.late }
     }
 
     /// 0 idle, 1 waiting, 2 entitled, 3 holding.

@@ -15,6 +15,7 @@ pub fn take_call(bytes: &mut &[u8]) -> Result<Call, Refusal> {
         (0, _) => Ok(Call::Issue { processor, entry, tick }),
         (1, 0) => Ok(Call::Complete { processor, tick }),
         (2, 0) => Ok(Call::Withdraw { processor, tick }),
+        (3, _) => Ok(Call::Handover { processor, entry, tick }),
         _ => Err(9),
     }
 }
@@ -24,6 +25,7 @@ fn call_line(call: Call, answer: Result<Done, Refusal>) -> String {
         Call::Issue { processor, tick, .. } => format!("{tick} i {processor}"),
         Call::Complete { processor, tick } => format!("{tick} c {processor}"),
         Call::Withdraw { processor, tick } => format!("{tick} w {processor}"),
+        Call::Handover { processor, tick, .. } => format!("{tick} h {processor}"),
     };
     match answer {
         Ok(done) => format!("{head} {:04x} {:04x} {}\n", done.granted, done.entitled, done.late as u8),

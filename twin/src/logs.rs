@@ -21,6 +21,7 @@ pub fn log_bytes(plan: &Plan, calls: &[Call]) -> Vec<u8> {
             Call::Issue { processor, entry, tick } => (0, processor, entry, tick),
             Call::Complete { processor, tick } => (1, processor, 0, tick),
             Call::Withdraw { processor, tick } => (2, processor, 0, tick),
+            Call::Handover { processor, entry, tick } => (3, processor, entry, tick),
         };
         bytes.extend([verb, processor, entry]);
         bytes.extend(&tick.to_le_bytes()[..5]);
@@ -43,9 +44,36 @@ pub fn plan(r: &mut Random, m: u8, reads: u64) -> Plan {
     Plan { processors: m, resources, entries }
 }
 
+/// Which calls a log has beside issues and completions: withdrawals, handovers.
+#[derive(Clone, Copy)]
+pub struct Also {
+    pub leaving: bool,
+    pub handing: bool,
+}
+
+fn also(r: &mut Random) -> Also {
+    Also { leaving: r.once_in(3), handing: r.once_in(2) }
+}
+
+/// A handover, most by a processor that holds; with faults so often that each comes together with each other.
+fn handover(r: &mut Random, arbiter: &Arbiter, tick: u64) -> Call {
+    let plan = &arbiter.plan;
+    let holders: Vec<u8> = arbiter.requests.iter().filter(|q| q.phase == Phase::Holding).map(|q| q.processor).collect();
+    let processor = match r.below(8) {
+        0 => r.within(plan.processors as u64, 255) as u8,
+        1 | 2 => r.below(plan.processors as u64) as u8,
+        _ if holders.is_empty() => r.below(plan.processors as u64) as u8,
+        _ => r.pick(&holders),
+    };
+    let count = plan.entries.len() as u64;
+    let entry = if r.once_in(6) { r.within(count, 255) as u8 } else { r.below(count) as u8 };
+    let tick = if r.once_in(8) { tick.saturating_sub(1) } else { tick };
+    Call::Handover { processor, entry, tick }
+}
+
 /// Calls of any kind, most of them ones that fit what the processor does. Where `leaving`, a fifth are withdrawals, most of
-/// them by a processor that is in line.
-pub fn mixed(r: &mut Random, plan: &Plan, count: usize, leaving: bool) -> Vec<Call> {
+/// them by a processor that is in line. Where `handing`, a third of the others are handovers.
+pub fn mixed(r: &mut Random, plan: &Plan, count: usize, also: Also) -> Vec<Call> {
     let mut arbiter = Arbiter::new(plan.clone());
     let (mut tick, mut calls) = (0u64, Vec::new());
     for _ in 0..count {
@@ -54,10 +82,16 @@ pub fn mixed(r: &mut Random, plan: &Plan, count: usize, leaving: bool) -> Vec<Ca
         let at = if r.once_in(30) { tick.saturating_sub(r.within(1, 3)) } else { tick };
         let processor = if r.once_in(30) { r.below(256) as u8 } else { r.below(plan.processors as u64) as u8 };
         let entry = if r.once_in(30) { r.below(256) as u8 } else { r.below(plan.entries.len() as u64) as u8 };
-        if leaving && r.once_in(5) {
+        if also.leaving && r.once_in(5) {
             let line: Vec<u8> = arbiter.requests.iter().filter(|q| q.phase != Phase::Holding).map(|q| q.processor).collect();
             let processor = if line.is_empty() || r.once_in(4) { processor } else { line[r.below(line.len() as u64) as usize] };
             let call = Call::Withdraw { processor, tick: at };
+            arbiter.call(call).ok();
+            calls.push(call);
+            continue;
+        }
+        if also.handing && r.once_in(3) {
+            let call = handover(r, &arbiter, tick);
             arbiter.call(call).ok();
             calls.push(call);
             continue;
@@ -75,8 +109,8 @@ pub fn mixed(r: &mut Random, plan: &Plan, count: usize, leaving: bool) -> Vec<Ca
 }
 
 /// Every holder holds exactly its length and issues again at once, so that the others wait as long as they can. Where
-/// `leaving`, one in line withdraws now and then, and asks for something else.
-pub fn hostile(r: &mut Random, plan: &Plan, count: usize, leaving: bool) -> Vec<Call> {
+/// `leaving`, one in line withdraws now and then, and asks for something else. Where `handing`, most holders hand over.
+pub fn hostile(r: &mut Random, plan: &Plan, count: usize, also: Also) -> Vec<Call> {
     let mut arbiter = Arbiter::new(plan.clone());
     let mut calls = Vec::new();
     let mut call = |arbiter: &mut Arbiter, call: Call| {
@@ -94,14 +128,19 @@ pub fn hostile(r: &mut Random, plan: &Plan, count: usize, leaving: bool) -> Vec<
         let Some(next) = next else { return calls };
         let (processor, tick) = (next.processor, ends(next));
         let entry = r.below(plan.entries.len() as u64) as u8;
-        if tick > 1_000_000_000_000 || call(&mut arbiter, Call::Complete { processor, tick }) >= count {
+        if tick > 1_000_000_000_000 {
             return calls;
         }
-        if call(&mut arbiter, Call::Issue { processor, entry, tick }) >= count {
+        let full = if also.handing && !r.once_in(4) {
+            call(&mut arbiter, Call::Handover { processor, entry, tick }) >= count
+        } else {
+            call(&mut arbiter, Call::Complete { processor, tick }) >= count || call(&mut arbiter, Call::Issue { processor, entry, tick }) >= count
+        };
+        if full {
             return calls;
         }
         let line: Vec<u8> = arbiter.requests.iter().filter(|q| q.phase != Phase::Holding).map(|q| q.processor).collect();
-        if leaving && !line.is_empty() && r.once_in(2) {
+        if also.leaving && !line.is_empty() && r.once_in(2) {
             let processor = line[r.below(line.len() as u64) as usize];
             let entry = r.below(plan.entries.len() as u64) as u8;
             if call(&mut arbiter, Call::Withdraw { processor, tick }) >= count || call(&mut arbiter, Call::Issue { processor, entry, tick }) >= count {
@@ -121,7 +160,7 @@ fn damaged(r: &mut Random, mut bytes: Vec<u8>) -> Vec<u8> {
             0 => bytes[at] = r.below(256) as u8,
             1 => bytes[at] ^= 1 << r.below(8),
             2 => bytes.truncate(at),
-            _ => bytes.insert(at, r.pick(&[0, 1, 2, 255])),
+            _ => bytes.insert(at, r.pick(&[0, 1, 2, 3, 255])),
         }
     }
     bytes
@@ -140,15 +179,15 @@ fn long(seed: u64) -> Vec<u8> {
     let reads = r.pick(&[0, 5, 7, 10]);
     let plan = plan(r, m, reads);
     let count = r.within(500, 1500) as usize;
-    let leaving = r.once_in(3);
-    let calls = if r.once_in(3) { hostile(r, &plan, count, leaving) } else { mixed(r, &plan, count, leaving) };
+    let also = also(r);
+    let calls = if r.once_in(3) { hostile(r, &plan, count, also) } else { mixed(r, &plan, count, also) };
     let mut bytes = log_bytes(&plan, &calls);
     let last = calls.len() as u64 - 1;
     let record = plan_bytes(&plan).len() + 2 + 8 * r.within(last.min(512), last) as usize;
     match r.below(5) {
         0 => bytes.extend((0..r.within(1, 9)).map(|_| r.below(256) as u8)),
         1 => bytes.truncate(record + r.below(8) as usize),
-        2 => bytes[record] = r.within(3, 255) as u8,
+        2 => bytes[record] = if r.once_in(2) { 4 } else { r.within(4, 255) as u8 },
         3 => {
             bytes[record] = r.within(1, 2) as u8;
             bytes[record + 2] = r.within(1, 255) as u8;
@@ -165,10 +204,10 @@ pub fn short(seed: u64) -> Vec<u8> {
     let reads = r.pick(&[0, 5, 7, 10]);
     let plan = plan(r, m, reads);
     let count = r.pick(&[0, 3, 20, 60, 200]);
-    let leaving = r.once_in(3);
+    let also = also(r);
     let bytes = match seed % 4 {
-        0 => log_bytes(&plan, &hostile(r, &plan, count, leaving)),
-        _ => log_bytes(&plan, &mixed(r, &plan, count, leaving)),
+        0 => log_bytes(&plan, &hostile(r, &plan, count, also)),
+        _ => log_bytes(&plan, &mixed(r, &plan, count, also)),
     };
     match seed % 5 {
         0 => damaged(r, bytes),

@@ -8,7 +8,8 @@
 //! twin compare-conflicts PROGRAM FROM COUNT DIR
 //! twin waits PROGRAM COUNT                  hostile logs through a program: no wait passes its figure, and how near they come
 //! twin log SEED                             writes one of the seeded logs
-//! twin calls BUSY TURNS | plans TURNS       the benchmarks' workloads, to a checksum
+//! twin calls BUSY TURNS | handovers BUSY TURNS | plans TURNS
+//!                                           the benchmarks' workloads, to a checksum
 mod arbiter;
 mod compare;
 mod conflicts;
@@ -72,7 +73,8 @@ fn main() -> io::Result<()> {
             conflicts::listing(&stdin_bytes(), &mut out);
             true
         }
-        ["calls", busy, turns] => writeln!(out, "{}", speed::calls(number(busy) as u8, number(turns))).is_ok(),
+        ["calls", busy, turns] => writeln!(out, "{}", speed::calls(number(busy) as u8, number(turns), false)).is_ok(),
+        ["handovers", busy, turns] => writeln!(out, "{}", speed::calls(number(busy) as u8, number(turns), true)).is_ok(),
         ["plans", turns] => writeln!(out, "{}", speed::plans(number(turns))).is_ok(),
         ["log", seed] => out.write_all(&logs::log(number(seed))).is_ok(),
         ["measure", log, listing] => print_measured(log, listing),

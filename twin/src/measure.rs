@@ -32,17 +32,18 @@ pub fn measure(mut log: &[u8], listing: &str) -> Result<(Plan, Measured), String
             continue;
         }
         let granted = u16::from_str_radix(fields.get(3).unwrap_or(&""), 16).map_err(|_| format!("no mask in: {line}"))?;
-        match call {
-            Call::Issue { processor, entry, tick } => {
-                last = tick;
-                requests.push(Counted { processor, entry, issued: tick, granted: None, ended: None });
-            }
-            Call::Complete { processor, tick } | Call::Withdraw { processor, tick } => {
-                last = tick;
-                for r in requests.iter_mut().filter(|r| r.processor == processor && r.ended.is_none()) {
-                    r.ended = Some(tick);
-                }
-            }
+        // Who ends its request, and who makes one for which entry. A handover does both, in this order.
+        let (tick, ends, makes) = match call {
+            Call::Issue { processor, entry, tick } => (tick, None, Some((processor, entry))),
+            Call::Complete { processor, tick } | Call::Withdraw { processor, tick } => (tick, Some(processor), None),
+            Call::Handover { processor, entry, tick } => (tick, Some(processor), Some((processor, entry))),
+        };
+        last = tick;
+        for r in requests.iter_mut().filter(|r| Some(r.processor) == ends && r.ended.is_none()) {
+            r.ended = Some(tick);
+        }
+        if let Some((processor, entry)) = makes {
+            requests.push(Counted { processor, entry, issued: tick, granted: None, ended: None });
         }
         for r in requests.iter_mut().filter(|r| r.granted.is_none() && r.ended.is_none() && granted >> r.processor & 1 == 1) {
             r.granted = Some(last);

@@ -20,8 +20,9 @@ fn holder_from(arbiter: &Arbiter, place: u8) -> u8 {
     holders().filter(|&p| p >= place).min().or(holders().min()).expect("a holder")
 }
 
-/// Each turn completes a holder and issues again at once, on a board with so many busy processors.
-pub fn calls(busy: u8, turns: u64) -> u64 {
+/// Each turn completes a holder and issues again at once, on a board with so many busy processors: two calls, or one where
+/// `handing`.
+pub fn calls(busy: u8, turns: u64, handing: bool) -> u64 {
     let mut arbiter = Arbiter::new(Plan::take(&mut &plan_bytes()[..]).expect("an accepted plan"));
     let (mut seed, mut sum) = (1u64, 0u64);
     for p in 0..busy {
@@ -31,7 +32,9 @@ pub fn calls(busy: u8, turns: u64) -> u64 {
         seed = (seed * 1_103_515_245 + 12_345) % 2_147_483_648;
         let processor = holder_from(&arbiter, (seed / 65_536 % 16) as u8);
         let entry = (seed / 1_048_576 % 64) as u8;
-        for call in [Call::Complete { processor, tick }, Call::Issue { processor, entry, tick }] {
+        let two = [Call::Complete { processor, tick }, Call::Issue { processor, entry, tick }];
+        let one = [Call::Handover { processor, entry, tick }];
+        for &call in if handing { &one[..] } else { &two[..] } {
             let done = arbiter.call(call).expect("accepted");
             sum = (sum * 31 + done.granted as u64 * 65_536 + done.entitled as u64 * 2 + done.late as u64) % 4_294_967_296;
         }

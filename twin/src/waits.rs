@@ -34,7 +34,8 @@ fn hostile(seed: u64) -> Vec<u8> {
     let m = r.within(1, 16) as u8;
     let reads = r.pick(&[0, 3, 5, 8]);
     let plan = logs::plan(r, m, reads);
-    logs::log_bytes(&plan, &logs::hostile(r, &plan, 400, seed % 3 == 0))
+    let also = logs::Also { leaving: seed % 3 == 0, handing: seed % 2 == 0 };
+    logs::log_bytes(&plan, &logs::hostile(r, &plan, 400, also))
 }
 
 /// Replays a log and notes how near its waits come. False where a wait passes its figure or a holder overran.

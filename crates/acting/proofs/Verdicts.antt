@@ -1,6 +1,7 @@
 -- The answers to the calls, put together from what their parts give. Assumes nothing.
-use mathlib.Core.Path.{_≡_, refl, sym, ap, ap₂, subst, _∙_}
+use mathlib.Core.Path.{_≡_, refl, sym, ap, ap₂, _∙_}
 use mathlib.Core.Bool.{cond}
+use mathlib.Core.List.{List}
 use Prim.Native.Nat.{ℕ, _-_, _<_}
 use native.Mathlib.Omega.{arith}
 use lib.Dec.{eqb, ltb}
@@ -60,12 +61,12 @@ module _ (v : Verdict) (terms : Terms) (last : ℕ) (ph : Phases) (p t : ℕ) (w
 
 -- ---- an act on the requests that count
 
--- What `enter` gives, beside the requests of the phases ph.
-abbrev pub Entered : Board → State → Phases → Answer → ℕ → ℕ → ℕ → Type 0
-Entered b s ph a p e t =
+-- What `enter` gives, beside the requests of the phases ph, from who is earlier.
+abbrev pub Entered : Board → State → Phases → List ℕ → Answer → ℕ → ℕ → ℕ → Type 0
+Entered b s ph line a p e t =
     a
-    ≡ done (stateBy (record { last = t; phases = putIn ph p }) (set (s .entry) p e) (set (s .since) p t) (putLast (s .earlier) ph p))
-    (settled (factsBy (b .rows) (b .terms .writes) (set (s .entry) p e) (putLast (s .earlier) ph p)) (putIn ph p)) 0
+    ≡ done (stateBy (record { last = t; phases = putIn ph p }) (set (s .entry) p e) (set (s .since) p t) line)
+    (settled (factsBy (b .rows) (b .terms .writes) (set (s .entry) p e) line) (putIn ph p)) 0
 
 -- What `leave` gives, of the requests of the phases ph.
 abbrev pub Gone : Board → State → Phases → Answer → ℕ → ℕ → ℕ → Type 0
@@ -75,12 +76,14 @@ Gone b s ph a p t late =
     (settled (factsBy (b .rows) (b .terms .writes) (s .entry) (s .earlier)) (takenOut ph p)) late
 
 module _ (b : Board) (s : State) (before : Phases) (cleans : before ≡ phasesOf b s) (a : Answer) where
-  entered-is : (p e t : ℕ) → Entered b s before a p e t → a ≡ settledDone b (putState b s p e t) 0
+  entered-is : (line : List ℕ) (p e t : ℕ) → line ≡ putLast (s .earlier) before p → Entered b s before line a p e t
+      → a ≡ settledDone b (putState b s p e t) 0
   unfolding putState settledDone
-  entered-is p e t eq =
-      eq
-      ∙ ap (λ ph.
-      settledDone b (stateBy (record { last = t; phases = putIn ph p }) (set (s .entry) p e) (set (s .since) p t) (putLast (s .earlier) ph p)) 0) cleans
+  entered-is line p e t el eq =
+      eq ∙ ap₂ (λ ph line. settledDone b (put ph line) 0) cleans (el ∙ ap (λ ph. putLast (s .earlier) ph p) cleans)
+    where
+      put : Phases → List ℕ → State
+      put ph line = stateBy (record { last = t; phases = putIn ph p }) (set (s .entry) p e) (set (s .since) p t) line
 
   gone-is : (p t late : ℕ) → Gone b s before a p t late → a ≡ settledDone b (takenState b s p t) late
   unfolding takenState settledDone
@@ -103,9 +106,10 @@ module _ (b : Board) (s : State) (before : Phases) (cleans : before ≡ phasesOf
     unfolding issued
     issue-refused r w = ruled-refuses _ v r s _ decides w
 
-    pub issue-done : v ≡ Verdict.Accepted → (a : Answer) → Entered b s before a p e t → a ≡ issued b s p e t
+    pub issue-done : v ≡ Verdict.Accepted → (line : List ℕ) (a : Answer) → line ≡ putLast (s .earlier) before p
+        → Entered b s before line a p e t → a ≡ issued b s p e t
     unfolding issued
-    issue-done w a eq = entered-is b s before cleans a p e t eq ∙ ruled-accepts _ v s _ decides w
+    issue-done w line a el eq = entered-is b s before cleans a line p e t el eq ∙ ruled-accepts _ v s _ decides w
 
   -- A request that leaves.
   module _ (p t late : ℕ) (number : Phases → ℕ) (says : verdictNumber v ≡ number before) where
@@ -161,20 +165,20 @@ module _ (b : Board) (s : State) (before : Phases) (cleans : before ≡ phasesOf
           ∙ sym (first-half b s p e t ok)
 
       -- The second half goes by the state that the first one left, and is accepted.
-      second-is : (ready : Phases) → ready ≡ phasesOf b (a .state) → (a₂ : Answer) → Entered b (a .state) ready a₂ p e t
-          → a₂ ≡ issued b (a .state) p e t
+      second-is : (ready : Phases) → ready ≡ phasesOf b (a .state) → (line : List ℕ) → line ≡ putLast (a .state .earlier) ready p
+          → (a₂ : Answer) → Entered b (a .state) ready line a₂ p e t → a₂ ≡ issued b (a .state) p e t
       unfolding issued
-      second-is ready cleans₂ a₂ eq =
-          entered-is b (a .state) ready cleans₂ a₂ p e t eq
+      second-is ready cleans₂ line el₂ a₂ eq =
+          entered-is b (a .state) ready cleans₂ a₂ line p e t el₂ eq
           ∙ ap (λ (n : ℕ). ruled n (a .state) (settledDone b (putState b (a .state) p e t) 0))
           (sym
           (ap (λ (x : Answer). issueFault (b .terms) (x .state .last) (phasesOf b (x .state)) p e t) first-is ∙ issue-accepted b s p e t ok))
 
-      pub handover-done : (ready : Phases) → ready ≡ phasesOf b (a .state) → (a₂ : Answer) → Entered b (a .state) ready a₂ p e t
-          → (r : Answer) → r ≡ both a a₂ → r ≡ handedOver b s p e t
+      pub handover-done : (ready : Phases) → ready ≡ phasesOf b (a .state) → (line : List ℕ) → line ≡ putLast (a .state .earlier) ready p
+          → (a₂ : Answer) → Entered b (a .state) ready line a₂ p e t → (r : Answer) → r ≡ both a a₂ → r ≡ handedOver b s p e t
       unfolding handedOver
-      handover-done ready cleans₂ a₂ eq r is =
-          is ∙ ap (both a) (second-is ready cleans₂ a₂ eq)
+      handover-done ready cleans₂ line el₂ a₂ eq r is =
+          is ∙ ap (both a) (second-is ready cleans₂ line el₂ a₂ eq)
           ∙ ap (λ (x : Answer). both x (issued b (x .state) p e t)) first-is
           ∙ ruled-accepts _ v s _ hands w
 

@@ -1,6 +1,6 @@
 // Any call on the arrays of a state, in place.
+use crate::handovers::handover_in_place;
 use crate::in_place::complete_in_place;
-use crate::in_place::handover_in_place;
 use crate::in_place::issue_in_place;
 use crate::in_place::withdraw_in_place;
 use calls::Call;

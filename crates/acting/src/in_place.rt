@@ -5,7 +5,7 @@ use acts::enter;
 use acts::late_mark;
 use acts::leave;
 use acts::length_at;
-use acts::merge;
+use placing::put_last;
 use plans::ENTRIES;
 use plans::SLOTS;
 use refusals::Verdict;
@@ -13,13 +13,12 @@ use rules::Changed;
 use states::Moment;
 use states::Terms;
 use states::check_complete;
-use states::check_handover;
 use states::check_issue;
 use states::check_withdraw;
 use states::clean;
 ghost use mathlib.Core.Path.{_≡_};
 ghost use mathlib.Core.List.{[]};
-ghost use Rattle.rules.specs.Calls.{issued, completed, withdrawn, handedOver};
+ghost use Rattle.rules.specs.Calls.{issued, completed, withdrawn};
 ghost use Rattle.rules.specs.InPlace.{boardBy, stateBy, answerBy};
 
 // Processor asks for an entry at a tick. Refused by 10, 11, 12, 13, in that order.
@@ -47,6 +46,7 @@ pub fn issue_in_place(
             return refused(refusal, moment);
         }
     }
+    put_last(earlier, before, processor);
     let writes = terms.writes;
     let carried = enter(
         rows,
@@ -141,61 +141,4 @@ pub fn withdraw_in_place(
         0,
     );
     accepted(carried, tick)
-}
-
-// Processor gives its request back and asks for an entry, at one tick. Refused by 10, 11, 12, 14, 15, in that order. The
-// halves need no checks of their own: an issue right after its processor's completion is never refused.
-pub fn handover_in_place(
-    terms: Terms,
-    rows: &[u64; ENTRIES],
-    lengths: &[u16; ENTRIES],
-    moment: Moment,
-    entries: &mut [u8; SLOTS],
-    since: &mut [u64; SLOTS],
-    earlier: &mut [u32; SLOTS],
-    processor: u8,
-    entry: u8,
-    tick: u64,
-) -> Changed
-    ensures { λ r. ⌜ answerBy r (now (entries .exit)) (now (since .exit)) (now (earlier .exit))
-        ≡ handedOver (boardBy terms (now (rows .entry)) (now (lengths .entry)))
-        (stateBy moment (now (entries .entry)) (now (since .entry)) (now (earlier .entry))) processor entry tick ⌝ }
-{
-    let given = moment.phases;
-    let before = clean(terms, *entries, given);
-    let verdict = check_handover(terms, moment.last, before, processor, entry, tick);
-    match verdict {
-        Verdict::Accepted => {}
-        Verdict::Refused(refusal) => {
-            return refused(refusal, moment);
-        }
-    }
-    let length = length_at(lengths, entries[processor as usize]);
-    let late = late_mark(length, since[processor as usize], tick);
-    let writes = terms.writes;
-    let first = leave(
-        rows,
-        writes,
-        entries,
-        since,
-        earlier,
-        before,
-        processor,
-        tick,
-        late,
-    );
-    let left = first.phases;
-    let ready = clean(terms, *entries, left);
-    let second = enter(
-        rows,
-        writes,
-        entries,
-        since,
-        earlier,
-        ready,
-        processor,
-        entry,
-        tick,
-    );
-    accepted(merge(first, second), tick)
 }

@@ -57,16 +57,16 @@ left-done f tick late entry since earlier er ea e =
     ∙ ap₂ (λ ph after. done (stateBy (record { last = tick; phases = ph }) entry since earlier) after late) er (ea ∙ ap (settled f) er)
 
 -- What was put in is settled, from the arrays and the phases that were worked out.
-pub entered-done : (rows : List ℕ) (writes tick p : ℕ) (ph : Phases) {entry : List ℕ} (entry₀ : List ℕ) {since : List ℕ} (since₀ : List ℕ) {line : List ℕ} (line₀ : List ℕ) {after : Phases} {a : Answer}
-    → entry ≡ entry₀ → since ≡ since₀ → line ≡ line₀ → after ≡ settled (factsBy rows writes entry line₀) (putIn ph p)
+pub entered-done : (rows : List ℕ) (writes tick p : ℕ) (ph : Phases) (line : List ℕ) {entry : List ℕ} (entry₀ : List ℕ) {since : List ℕ}
+    (since₀ : List ℕ) {after : Phases} {a : Answer} → entry ≡ entry₀ → since ≡ since₀ → after ≡ settled (factsBy rows writes entry line) (putIn ph p)
     → a ≡ done (stateBy (record { last = tick; phases = ph }) entry since line) after 0
     → a
-    ≡ done (stateBy (record { last = tick; phases = putIn ph p }) entry₀ since₀ line₀) (settled (factsBy rows writes entry₀ line₀) (putIn ph p)) 0
+    ≡ done (stateBy (record { last = tick; phases = putIn ph p }) entry₀ since₀ line) (settled (factsBy rows writes entry₀ line) (putIn ph p)) 0
 unfolding putIn stamped done
-entered-done rows writes tick p ph entry₀ since₀ line₀ ee es el ea eq =
+entered-done rows writes tick p ph line entry₀ since₀ ee es ea eq =
     eq
-    ∙ (λ i. done (stateBy (record { last = tick; phases = ph }) (ee i) (es i) (el i)) (ea i) 0)
-    ∙ ap (λ (entry : List ℕ). done (stateBy (record { last = tick; phases = ph }) entry₀ since₀ line₀) (settled (factsBy rows writes entry line₀) (putIn ph p)) 0) ee
+    ∙ (λ i. done (stateBy (record { last = tick; phases = ph }) (ee i) (es i) line) (ea i) 0)
+    ∙ ap (λ (entry : List ℕ). done (stateBy (record { last = tick; phases = ph }) entry₀ since₀ line) (settled (factsBy rows writes entry line) (putIn ph p)) 0) ee
 
 -- ---- two acts as one
 

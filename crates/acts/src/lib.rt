@@ -1,18 +1,19 @@
 // An act carried out on the arrays of a state: a request enters or leaves, all requests are settled, and the answer has who
 // began to hold and who became entitled by it. Specification, clauses 4.4 to 4.8.
 mod late;
+mod merging;
 mod stores;
 
 pub use late::late_mark;
 pub use late::length_at;
 use masks::without32;
-use placing::put_and_settle;
+pub use merging::merge;
 use placing::settle_left;
+use placing::settle_new;
 use placing::stamp;
 use placing::take_out;
 use plans::ENTRIES;
 use plans::SLOTS;
-use settling::ALL;
 use settling::Phases;
 use stores::store_entry;
 use stores::store_tick;
@@ -23,8 +24,8 @@ ghost use lib.ListN.{set};
 ghost use Rattle.settling.specs.Requests.{factsBy};
 ghost use Rattle.settling.specs.Settling.{settled};
 ghost use Rattle.states.specs.inner.Small.{Small};
-ghost use Rattle.rules.specs.Acts.{putIn, putLast, takenOut};
-ghost use Rattle.rules.specs.Calls.{done, both};
+ghost use Rattle.rules.specs.Acts.{putIn, takenOut};
+ghost use Rattle.rules.specs.Calls.{done};
 ghost use Rattle.rules.specs.InPlace.{stateBy};
 ghost use Rattle.acts.specs.Carried.{carriedSays};
 
@@ -53,28 +54,28 @@ fn accept(tick: u64, before: Phases, after: Phases, since: &mut [u64; SLOTS], la
     }
 }
 
-// The processor's request for the entry is put in, beside the requests of these phases. It is never late.
+// The processor's request for the entry is put in, beside the requests of these phases. Who is earlier is told. It is never
+// late.
 pub fn enter(
     rows: &[u64; ENTRIES],
     writes: u64,
     entries: &mut [u8; SLOTS],
     since: &mut [u64; SLOTS],
-    earlier: &mut [u32; SLOTS],
+    earlier: &[u32; SLOTS],
     phases: Phases,
     processor: u8,
     entry: u8,
     tick: u64,
 ) -> Carried
-    ensures { λ r. ⌜ carriedSays r tick (now (entries .exit)) (now (since .exit)) (now (earlier .exit))
+    ensures { λ r. ⌜ carriedSays r tick (now (entries .exit)) (now (since .exit)) (now (earlier .entry))
         ≡ done (stateBy (record { last = tick; phases = putIn phases processor })
-        (set (now (entries .entry)) processor entry) (set (now (since .entry)) processor tick)
-        (putLast (now (earlier .entry)) phases processor))
-        (settled (factsBy (now (rows .entry)) writes (set (now (entries .entry)) processor entry)
-        (putLast (now (earlier .entry)) phases processor)) (putIn phases processor)) 0 ⌝ }
+        (set (now (entries .entry)) processor entry) (set (now (since .entry)) processor tick) (now (earlier .entry)))
+        (settled (factsBy (now (rows .entry)) writes (set (now (entries .entry)) processor entry) (now (earlier .entry)))
+        (putIn phases processor)) 0 ⌝ }
 {
     store_entry(entries, processor, entry);
     store_tick(since, processor, tick);
-    let after = put_and_settle(rows, writes, entries, earlier, phases, processor);
+    let after = settle_new(rows, writes, entries, earlier, phases, processor);
     accept(tick, phases, after, since, 0)
 }
 
@@ -99,19 +100,4 @@ pub fn leave(
     let ready = take_out(phases, processor);
     let after = settle_left(rows, writes, entries, earlier, ready);
     accept(tick, ready, after, since, late)
-}
-
-// Two acts as one, the second carried out right after the first. Who is no longer entitled after both is in no mask.
-pub fn merge(first: Carried, second: Carried) -> Carried
-    ensures { λ r. ⌜ ((tick : ℕ) (entry entry₂ : List ℕ) (since since₂ : List ℕ) (earlier earlier₂ : List ℕ)
-        → carriedSays r tick entry₂ since₂ earlier₂
-        ≡ both (carriedSays first tick entry since earlier) (carriedSays second tick entry₂ since₂ earlier₂)) ⌝ }
-{
-    let after = second.phases;
-    Carried {
-        granted: (first.granted | second.granted) & ALL,
-        entitled: (first.entitled | second.entitled) & (after.entitled & ALL),
-        late: first.late,
-        phases: after,
-    }
 }

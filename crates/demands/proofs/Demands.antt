@@ -1,7 +1,9 @@
 -- The three demands, each with the definitions that say it and the theorem or promise that meets it. Assumes nothing.
--- Theorems that stand elsewhere and are passed on from here: the round trips of demand 2, demand 3, freedom from deadlock, and
--- what the list of the whole board has of each processor.
+-- Theorems that stand elsewhere and are passed on from here: the round trips of demand 2, what a handover does, demand 3,
+-- freedom from deadlock, and what the list of the whole board has of each processor.
 pub use Rattle.plans.proofs.RoundTrip.{written-in-buffer, written-back}
+pub use Rattle.runs.proofs.Handover.{leaves-what-both-leave, grants-of-both, entitlements-of-both}
+pub use Rattle.demands.proofs.Handover.{handover-grants, handover-entitles}
 pub use Rattle.runs.proofs.refinement.WholeRuns.{whole-runs}
 pub use Rattle.freedom.proofs.Freedom.{no-deadlock}
 pub use Rattle.queries.proofs.WholeBoard.{part-is-queries}
@@ -20,8 +22,8 @@ use Rattle.calls.specs.declared.Call.{Call}
 use Rattle.calls.specs.Replies.{refusedWith}
 use Rattle.states.specs.declared.Board.{Board}
 use Rattle.states.specs.declared.State.{State}
-use Rattle.states.specs.Faults.{processorFault, issueFault, completeFault, withdrawFault}
-use Rattle.rules.specs.Calls.{Answer, phasesOf, putState, takenState, settledDone, lateMark, ruled, issued, left, completed, withdrawn, answered}
+use Rattle.states.specs.Faults.{processorFault, issueFault, completeFault, withdrawFault, handoverFault}
+use Rattle.rules.specs.Calls.{Answer, phasesOf, putState, takenState, settledDone, lateMark, ruled, issued, left, completed, withdrawn, both, handedOver, answered}
 use Rattle.arbiter.specs.Fresh.{boardOf, blankBoard, freshBoard}
 use Rattle.rules.specs.InPlace.{boardBy, stateBy}
 use Rattle.queries.specs.Queries.{reachFault, reachBytes, reachQuery, reachScratch}
@@ -33,8 +35,8 @@ use Rattle.logs.specs.Records.{fieldsIn, noFields, recordFault, readRecord}
 -- case alone, with the state and all lent buffers unchanged.
 --
 -- Which number is due is said by readFault, writeFault, planFault, issueFault, completeFault, withdrawFault,
--- processorFault, reachFault, listFault, entriesFault (contention), recordFault and tailFault; 0 is none. The functions promise,
--- for every value:
+-- handoverFault, processorFault, reachFault, listFault, entriesFault (contention), recordFault and tailFault; 0 is none. The
+-- functions promise, for every value:
 --   plan_reader::read        outcomeSays (r .outcome) ≡ readSays bytes, and r .plan ≡ planRead bytes
 --   plan_writer::write       outcomeSays r ≡ writeSays plan buffer at, and the buffer after it ≡ writtenBuffer plan buffer at
 --   plans::check             verdictNumber r ≡ planFault plan
@@ -43,9 +45,11 @@ use Rattle.logs.specs.Records.{fieldsIn, noFields, recordFault, readRecord}
 --   arbiter::issue           answerOf r ≡ issued board state processor entry tick
 --   arbiter::complete        answerOf r ≡ completed board state processor tick
 --   arbiter::withdraw        answerOf r ≡ withdrawn board state processor tick
+--   arbiter::handover        answerOf r ≡ handedOver board state processor entry tick
 --   arbiter::answer_on       answerOf r ≡ answered, of the board whose terms, rows and lengths it was lent
 --   acting::answer_in_place  answerBy r and the arrays after it ≡ answered, of the board and the state that it was lent
---   acting::issue_in_place   the same with issued, complete_in_place with completed, withdraw_in_place with withdrawn
+--   acting::issue_in_place   the same with issued, complete_in_place with completed, withdraw_in_place with withdrawn, and
+--                            handover_in_place with handedOver
 --   queries::phase_of        phaseSays r ≡ phaseQuery board state processor
 --   queries::direct_waits    maskSays r ≡ waitsQuery board state processor
 --   queries::reach           maskSays r ≡ reachQuery board state processor scratch, the scratch after it ≡ reachScratch ..
@@ -92,18 +96,21 @@ abbrev pub callFault : Board → State → Call → ℕ
 callFault b s (Call.Issue p e t) = issueFault (b .terms) (s .last) (phasesOf b s) p e t
 callFault b s (Call.Complete p t) = completeFault (b .terms) (s .last) (phasesOf b s) p t
 callFault b s (Call.Withdraw p t) = withdrawFault (b .terms) (s .last) (phasesOf b s) p t
+callFault b s (Call.Handover p e t) = handoverFault (b .terms) (s .last) (phasesOf b s) p e t
 
 abbrev pub carriedOut : Board → State → Call → Answer
 carriedOut b s (Call.Issue p e t) = settledDone b (putState b s p e t) 0
 carriedOut b s (Call.Complete p t) = settledDone b (takenState b s p t) (lateMark b s p t)
 carriedOut b s (Call.Withdraw p t) = settledDone b (takenState b s p t) 0
+carriedOut b s (Call.Handover p e t) = both (completed b s p t) (issued b (completed b s p t .state) p e t)
 
 module _ (b : Board) (s : State) where
   call-is-ruled : (c : Call) → answered b s c ≡ ruled (callFault b s c) s (carriedOut b s c)
-  unfolding issued left completed withdrawn
+  unfolding issued left completed withdrawn handedOver
   call-is-ruled (Call.Issue p e t) = refl
   call-is-ruled (Call.Complete p t) = refl
   call-is-ruled (Call.Withdraw p t) = refl
+  call-is-ruled (Call.Handover p e t) = refl
 
   pub refused-call-changes-nothing : (c : Call) → 0 < callFault b s c
       → answered b s c ≡ record { reply = refusedWith (callFault b s c); state = s }
@@ -117,10 +124,11 @@ module _ (b : Board) (s : State) where
       → answered (boardBy (b .terms) (b .rows) (b .lengths))
       (stateBy (record { last = s .last; phases = s .phases }) (s .entry) (s .since) (s .earlier)) c
       ≡ answered b s c
-  unfolding putState takenState settledDone issued left completed withdrawn
+  unfolding putState takenState settledDone issued left completed withdrawn both handedOver
   in-place-is-by-value (Call.Issue p e t) = refl
   in-place-is-by-value (Call.Complete p t) = refl
   in-place-is-by-value (Call.Withdraw p t) = refl
+  in-place-is-by-value (Call.Handover p e t) = refl
 
   -- Also of the state of a processor and of its direct waits: each is `said` of what is due and its value.
   pub refused-query-gives-number-only : (p value : ℕ) → 0 < processorFault (b .terms) p
@@ -169,6 +177,10 @@ accepted-record-is-read s ok = rw ok
 -- The rules are `settled` and its four steps (settling), `putIn`, `takenOut`, `stamped` and `done` (acting); plan F's twelve
 -- calls are computed by them in runs/proofs/PlanF.antt. The functions promise: settling::settle ≡ settled,
 -- conflicts::conflicts_of ≡ conflictsOf, plans::figures_of ≡ figuresOf; and the calls as above.
+
+-- A handover does what a completion and then an issue would do: leaves-what-both-leave, grants-of-both and
+-- entitlements-of-both, above, on every state value. After any calls its masks are what changed from the state before it to the
+-- state after it: handover-grants and handover-entitles.
 
 -- The round trips are written-in-buffer (a plan written into a buffer reads back as the same plan, and takes as many bytes as
 -- were written) and written-back (a plan that was read is written as the bytes that it was read from), above.

@@ -1,5 +1,6 @@
 -- Every state that calls lead to from the fresh arbiter of an accepted plan is clean, and I1 to I7 and the order of
 -- calls hold in it. Assumes nothing.
+use Prim.Native.Nat.{ℕ}
 use mathlib.Core.Path.{_≡_, refl, sym, subst}
 use mathlib.Core.List.{List, [], _∷_}
 use Rattle.plans.specs.declared.Plan.{Plan}
@@ -8,12 +9,14 @@ use Rattle.calls.specs.declared.Call.{Call}
 use Rattle.calls.specs.Calls.{tickOf}
 use Rattle.states.specs.declared.Board.{Board}
 use Rattle.states.specs.declared.State.{State}
-use Rattle.rules.specs.Calls.{answered}
+use Rattle.rules.specs.Calls.{both, answered}
 use Rattle.arbiter.specs.Fresh.{boardOf, freshState}
+use Rattle.runs.specs.History.{Act, puts, takes}
 use Rattle.runs.specs.Claim.{Closed, everyEntry}
-use Rattle.runs.proofs.history.Frame.{Answers, refused, acts, answers}
+use Rattle.runs.proofs.history.Frame.{Answers, refused, acts, replaces, answers}
 use Rattle.runs.proofs.refinement.Clean.{Clean, fresh-clean}
-use Rattle.runs.proofs.refinement.Acts.{act-done}
+use Rattle.runs.proofs.refinement.Acts.{Allowed, act-done}
+use Rattle.runs.proofs.refinement.Acts
 use Rattle.runs.proofs.refinement.Arbiter.{Safe, safe-fresh, safe-act}
 use Rattle.freedom.specs.Freedom.{stateAfter, reachedBy}
 
@@ -32,17 +35,26 @@ module _ (p : Plan) (taken : planFault p ≡ 0) where
   fresh-reached : Reached b freshState
   fresh-reached = record { clean = fresh-clean b; standing = safe-fresh p taken everyEntry closed }
 
+  act-reached : (s : State) (t : ℕ) (a : Act) → Reached b s → Allowed b s t a → Reached b (Acts.stateAfter b s t a)
+  act-reached s t a r k =
+      record {
+        clean = act-done b s t a (r .clean) k .clean;
+        standing = safe-act p taken everyEntry closed s t a (r .clean) (r .standing) k;
+      }
+
   next-reached : (c : Call) (s : State) → Reached b s → Reached b (answered b s c .state)
+  unfolding both
   next-reached c s r = go (answers b s (r .clean) c)
     where
       go : Answers b s c → Reached b (answered b s c .state)
       go (refused n due same) = subst (λ x. Reached b (x .state)) (sym same) r
       go (acts a late one k same) =
+          subst (λ x. Reached b (x .state)) (sym same) (act-reached s (tickOf c) a r k)
+      go (replaces q e late two k same) =
+          let t : ℕ = tickOf c in
           subst (λ x. Reached b (x .state)) (sym same)
-          (record {
-            clean = act-done b s (tickOf c) a (r .clean) k .clean;
-            standing = safe-act p taken everyEntry closed s (tickOf c) a (r .clean) (r .standing) k;
-          })
+          (act-reached (Acts.stateAfter b s t (takes q)) t (puts q e) (act-reached s t (takes q) r (k .first))
+          (k .second))
 
   after-reached : (calls : List Call) (s : State) → Reached b s → Reached b (stateAfter b s calls)
   unfolding stateAfter

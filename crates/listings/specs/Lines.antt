@@ -21,11 +21,12 @@ replyFields mask reply =
     cond (eqb (reply .number) 0) (doneFields mask (reply .granted) (reply .entitled) (reply .late))
     (refusedFields (reply .number))
 
--- Clause 9.7: the letter of a call, `i`, `c` or `w`.
+-- Clause 9.7: the letter of a call, `i`, `c`, `w` or `h`.
 abbrev pub letterOf : Call → ℕ
 letterOf (Call.Issue p e t) = 105
 letterOf (Call.Complete p t) = 99
 letterOf (Call.Withdraw p t) = 119
+letterOf (Call.Handover p e t) = 104
 
 -- Clause 9.7: a call's line, with masks in hexadecimal digits.
 unfoldable pub callLine : Call → Response → List ℕ

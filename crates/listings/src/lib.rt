@@ -108,6 +108,11 @@ pub fn call_line_by(
         Call::Withdraw { processor, tick } => {
             reply_line(pairs, b'w', processor, tick, reply, buffer, at)
         }
+        Call::Handover {
+            processor,
+            entry,
+            tick,
+        } => reply_line(pairs, b'h', processor, tick, reply, buffer, at),
     }
 }
 

@@ -24,6 +24,7 @@ call-back : (c : Call) → callOf (callSays c) ≡ c
 call-back (Call.Issue p e t) = refl
 call-back (Call.Complete p t) = refl
 call-back (Call.Withdraw p t) = refl
+call-back (Call.Handover p e t) = refl
 
 module _ (a : RecordAnswer) (s : List ℕ) (says : recordSays a ≡ readRecord s) where
   pub record-is : (c : Call) → a ≡ RecordAnswer.Is c → (recordFault s ≡ 0) × (callOf (fieldsIn s) ≡ c)

@@ -28,6 +28,10 @@ module _ (s : List ℕ) (h : 8 ≤ length s) (t : ℕ) (tick : t ≡ number (tak
   unfolding readRecord recordFault fieldsIn
   an-issue verb = rw (le-leb 8 (length s) h, verb, tick-read)
 
+  pub a-handover : getD s 0 0 ≡ 3 → recordSays (RecordAnswer.Is (Call.Handover (getD s 1 0) (getD s 2 0) t)) ≡ readRecord s
+  unfolding readRecord recordFault fieldsIn
+  a-handover verb = rw (le-leb 8 (length s) h, verb, tick-read)
+
   module _ (verb : getD s 0 0 ≡ 0 → ⊥) where
     pub a-completion : (eqb (getD s 0 0) 1 && eqb (getD s 2 0) 0) ≡ true
         → recordSays (RecordAnswer.Is (Call.Complete (getD s 1 0) t)) ≡ readRecord s
@@ -46,6 +50,7 @@ module _ (s : List ℕ) (h : 8 ≤ length s) (t : ℕ) (tick : t ≡ number (tak
         rw (le-leb 8 (length s) h, withdraw, no-entry, tick-read)
 
     pub no-verb : (eqb (getD s 0 0) 1 && eqb (getD s 2 0) 0) ≡ false → (eqb (getD s 0 0) 2 && eqb (getD s 2 0) 0) ≡ false
+        → (getD s 0 0 ≡ 3 → ⊥)
         → recordSays (RecordAnswer.Refused Refusal.Verb) ≡ readRecord s
     unfolding readRecord recordFault fieldsIn
-    no-verb e e′ = rw (le-leb 8 (length s) h, ne-eqb (getD s 0 0) 0 verb, e, e′)
+    no-verb e e′ other = rw (le-leb 8 (length s) h, ne-eqb (getD s 0 0) 0 verb, e, e′, ne-eqb (getD s 0 0) 3 other)

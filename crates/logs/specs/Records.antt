@@ -34,11 +34,12 @@ unfoldable pub fieldsIn : List ℕ → Fields
 fieldsIn s =
     record { verb = getD s 0 0; processor = getD s 1 0; entry = getD s 2 0; tick = number (slice 3 recordSize s) }
 
--- Clause 9.3: 9 for a verb above 2, or a completion or a withdrawal with an entry.
+-- Clause 9.3: 9 for a verb above 3, or a completion or a withdrawal with an entry.
 abbrev pub verbFault : Fields → ℕ
 verbFault f =
     due
-    (eqb (f .verb) 0 || ((eqb (f .verb) 1 && eqb (f .entry) 0) || (eqb (f .verb) 2 && eqb (f .entry) 0)))
+    (eqb (f .verb) 0
+    || ((eqb (f .verb) 1 && eqb (f .entry) 0) || ((eqb (f .verb) 2 && eqb (f .entry) 0) || eqb (f .verb) 3)))
     9
 
 -- Clauses 9.4 and 8.2: the record's bytes are due (1) before its verb is looked at.

@@ -68,6 +68,13 @@ pub fn read_record(bytes: &[u8]) -> RecordAnswer
             tick: tick,
         });
     }
+    if verb == 3 {
+        return RecordAnswer::Is(Call::Handover {
+            processor: processor,
+            entry: entry,
+            tick: tick,
+        });
+    }
     RecordAnswer::Refused(Refusal::Verb)
 }
 

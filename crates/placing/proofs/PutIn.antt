@@ -8,7 +8,7 @@ use lib.Bits.{bitAnd, bitOr}
 use lib.Dec.{eqb, ltb}
 use lib.ListN.{length, getD, set, length-set}
 use lib.Seq.{ext-getD}
-use borrow.Author.Tests.{eq-eqb, ne-eqb, ltb-true, ltb-false}
+use borrow.Author.Tests.{ne-eqb, ltb-true, ltb-false}
 use Rattle.masks.specs.Sets.{bit, added, maskOf}
 use Rattle.masks.proofs.Places.{bit-or}
 use Rattle.masks.proofs.Tests.{Mask, bit-is, agree-is, same-is, own-is, cut-is, none-is, one-is, any-and, or-is, in-is, neither}
@@ -77,13 +77,6 @@ module _ (earlier kept : List ℕ) (ph : Phases) (p keep : ℕ) (ek : keep ≡ m
       ∙ ap (λ t. cond t (maskOf slots (active ph)) (maskOf slots (λ r. bit (getD earlier k 0) r && not (eqb r p))))
       (sym (ne-eqb k p (λ e. omega (arith, e)))))
 
--- The new request's own set is who is active.
-last-own : (earlier : List ℕ) (ph : Phases) (p : ℕ) → p < slots → getD (putLast earlier ph p) p 0 ≡ maskOf slots (active ph)
-unfolding putLast
-last-own earlier ph p l =
-    getD-tabulate slots (λ q. cond (eqb q p) (maskOf slots (active ph)) (maskOf slots (λ r. bit (getD earlier q 0) r && not (eqb r p)))) p 0 l
-    ∙ ap (λ t. cond t (maskOf slots (active ph)) (maskOf slots (λ r. bit (getD earlier p 0) r && not (eqb r p)))) (eq-eqb p p refl)
-
 -- ---- the new request put in
 
 module _ (ph : Phases) (p : ℕ) where
@@ -105,17 +98,15 @@ module _ (ph : Phases) (p : ℕ) where
       λ i. record { waiting = w i; entitled = ph .entitled; holding = ph .holding }
 
   -- Where nobody else is active it holds.
-  pub idle-holds : p < slots → ph .waiting < 2 ^ 32 → ph .entitled < 2 ^ 32 → ph .holding < 2 ^ 32 → (f : Facts) (earlier : List ℕ) (alone : ℕ)
-      → bitOr (bitOr (ph .waiting) (ph .entitled)) (ph .holding) ≡ 0 → f .earlier ≡ putLast earlier ph p
+  pub idle-holds : p < slots → ph .waiting < 2 ^ 32 → ph .entitled < 2 ^ 32 → ph .holding < 2 ^ 32 → (f : Facts) (alone : ℕ)
+      → bitOr (bitOr (ph .waiting) (ph .entitled)) (ph .holding) ≡ 0 → getD (f .earlier) p 0 ≡ 0
       → alone ≡ cond (ltb p 32) (added 0 p) 0
       → _≡_ {A = Phases} (record { waiting = 0; entitled = 0; holding = alone }) (settled f (putIn ph p))
   unfolding putIn
-  idle-holds l hw he hh f earlier alone idle line e =
+  idle-holds l hw he hh f alone idle first e =
       let any = neither (or-is (own-is 32 (ph .waiting) hw) (own-is 32 (ph .entitled) he)) (own-is 32 (ph .holding) hh) idle in
       let unsatisfied = neither (own-is 32 (ph .waiting) hw) (own-is 32 (ph .entitled) he) (any .0) in
       (λ i. record { waiting = 0; entitled = 0; holding = (e ∙ same-is (in-is 32 p (omega arith) l (none-is slots)) (one-is slots p l)) i })
       ∙ alone-holds f p l (putIn ph p)
       (sym (agree-is (λ q m. ap (λ t. t || eqb q p) (sym (bit-none (ph .waiting) q (unsatisfied .0)))) (one-is slots p l) .is))
-      (unsatisfied .1) (any .1)
-      (ap (λ xs. getD xs p 0) line ∙ last-own earlier ph p l ∙ sym (active-is ph .is)
-      ∙ ap (λ (x : ℕ). bitAnd x (2 ^ slots - 1)) idle)
+      (unsatisfied .1) (any .1) first

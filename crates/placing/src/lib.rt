@@ -48,7 +48,7 @@ fn keep_each(sets: &mut [u32; SLOTS], keep: u32)
 }
 
 // All that are active are earlier than the processor's new request, and it is earlier than none.
-fn put_last(earlier: &mut [u32; SLOTS], phases: Phases, processor: u8)
+pub fn put_last(earlier: &mut [u32; SLOTS], phases: Phases, processor: u8)
     ensures { λ r. ⌜ now (earlier .exit) ≡ putLast (now (earlier .entry)) phases processor ⌝ }
 {
     keep_each(earlier, all_but(processor));
@@ -68,28 +68,28 @@ fn put_in(phases: Phases, processor: u8) -> Phases
     }
 }
 
-// The processor's new request is put in last, and all are settled. Where nobody else is active it holds, read or write,
-// and no row has to be looked at.
-pub fn put_and_settle(
+// The phases with the processor's new request put in and settled. Where nobody else is active and nobody is earlier it
+// holds, read or write, and no row has to be looked at.
+pub fn settle_new(
     rows: &[u64; ENTRIES],
     writes: u64,
     entry: &[u8; SLOTS],
-    earlier: &mut [u32; SLOTS],
+    earlier: &[u32; SLOTS],
     phases: Phases,
     processor: u8,
 ) -> Phases
-    ensures { λ r. ⌜ (now (earlier .exit) ≡ putLast (now (earlier .entry)) phases processor)
-        × (r ≡ settled
-        (factsBy (now (rows .entry)) writes (now (entry .entry)) (putLast (now (earlier .entry)) phases processor))
-        (putIn phases processor)) ⌝ }
+    ensures { λ r. ⌜ r ≡ settled
+        (factsBy (now (rows .entry)) writes (now (entry .entry)) (now (earlier .entry)))
+        (putIn phases processor) ⌝ }
 {
-    put_last(earlier, phases, processor);
     if ((processor as usize) < SLOTS) & (phases.waiting | phases.entitled | phases.holding == 0) {
-        return Phases {
-            waiting: 0,
-            entitled: 0,
-            holding: add32(0, processor as u32),
-        };
+        if earlier[processor as usize] == 0 {
+            return Phases {
+                waiting: 0,
+                entitled: 0,
+                holding: add32(0, processor as u32),
+            };
+        }
     }
     settle(rows, writes, entry, earlier, put_in(phases, processor))
 }

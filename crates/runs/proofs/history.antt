@@ -1,9 +1,11 @@
 pub mod Cases
 pub mod Verdicts
 pub mod Frame
+pub mod Compared
 pub mod Spans
 pub mod Tied
 pub mod Related
+pub mod Together
 pub mod Keeps
 pub mod Arbiter
 pub mod Runs

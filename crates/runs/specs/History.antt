@@ -40,11 +40,12 @@ pub data Act : Type 0 where
   puts : (processor entry : ℕ) → Act
   takes : (processor : ℕ) → Act
 
--- Clause 6.4: a call counts as its acts.
+-- Clause 6.4: a call counts as its acts, in order: a handover as a completion and an issue.
 abbrev pub actsOf : Call → List Act
 actsOf (Call.Issue p e t) = puts p e ∷ []
 actsOf (Call.Complete p t) = takes p ∷ []
 actsOf (Call.Withdraw p t) = takes p ∷ []
+actsOf (Call.Handover p e t) = takes p ∷ puts p e ∷ []
 
 -- Clause 6.2: a new request of an issue at tick t.
 abbrev pub arrival : ℕ → ℕ → ℕ → Request

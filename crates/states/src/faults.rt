@@ -14,32 +14,32 @@ ghost use Rattle.refusals.specs.Number.{numberOf, verdictNumber};
 ghost use Rattle.refusals.specs.Due.{due};
 ghost use Rattle.settling.specs.Requests.{unsatisfied, active};
 ghost use Rattle.states.specs.Requests.{hasProcessor};
-ghost use Rattle.states.specs.Faults.{issueFault, takeFault, completeFault, withdrawFault, handoverFault};
+ghost use Rattle.states.specs.Faults.{issueFault, takeFault, completeFault, withdrawFault};
 
 // Clause 1.4: the largest tick.
 const LAST_TICK: u64 = 1099511627775;
 
 // Clause 4.5: 10 where this fails.
-fn is_in_time(last: u64, tick: u64) -> bool
+pub fn is_in_time(last: u64, tick: u64) -> bool
     ensures { λ r. ⌜ r ≡ (leb last tick && leb tick 1099511627775) ⌝ }
 {
     (last <= tick) & (tick <= LAST_TICK)
 }
 
 // Clause 4.5: 11 where this fails. A board from no plan can have more processors than a state holds.
-fn is_counted(terms: Terms, processor: u8) -> bool
+pub fn is_counted(terms: Terms, processor: u8) -> bool
     ensures { λ r. ⌜ r ≡ hasProcessor terms processor ⌝ }
 {
     ((processor as usize) < SLOTS) & (processor < terms.processors)
 }
 
-fn is_unsatisfied(phases: Phases, processor: u8) -> bool
+pub fn is_unsatisfied(phases: Phases, processor: u8) -> bool
     ensures { λ r. ⌜ r ≡ unsatisfied phases processor ⌝ }
 {
     has32(phases.waiting | phases.entitled, processor as u32)
 }
 
-fn is_active(phases: Phases, processor: u8) -> bool
+pub fn is_active(phases: Phases, processor: u8) -> bool
     ensures { λ r. ⌜ r ≡ active phases processor ⌝ }
 {
     has32(
@@ -114,30 +114,4 @@ pub fn check_withdraw(terms: Terms, last: u64, phases: Phases, processor: u8, ti
 {
     let unheld = !has32(phases.holding, processor as u32);
     check_taken(terms, last, phases, processor, tick, unheld, Refusal::Held)
-}
-
-// Clause 4.5: 10, 11, 12, 14, 15.
-pub fn check_handover(
-    terms: Terms,
-    last: u64,
-    phases: Phases,
-    processor: u8,
-    entry: u8,
-    tick: u64,
-) -> Verdict
-    ensures { λ r. ⌜ verdictNumber r ≡ handoverFault terms last phases processor entry tick ⌝ }
-{
-    if !is_in_time(last, tick) {
-        return Verdict::Refused(Refusal::Tick);
-    }
-    if !is_counted(terms, processor) {
-        return Verdict::Refused(Refusal::Processor);
-    }
-    if terms.count <= entry {
-        return Verdict::Refused(Refusal::Entry);
-    }
-    if !is_active(phases, processor) {
-        return Verdict::Refused(Refusal::Idle);
-    }
-    refuse_unless(!is_unsatisfied(phases, processor), Refusal::Unheld)
 }

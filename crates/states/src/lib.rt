@@ -1,12 +1,13 @@
 // The board that calls go by and the state that they change, which requests of a state count, and when a call is
 // refused.
 mod faults;
+mod handovers;
 mod requests;
 
 pub use faults::check_complete;
-pub use faults::check_handover;
 pub use faults::check_issue;
 pub use faults::check_withdraw;
+pub use handovers::check_handover;
 use plans::ENTRIES;
 use plans::SLOTS;
 pub use requests::clean;

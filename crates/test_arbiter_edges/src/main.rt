@@ -58,6 +58,13 @@ fn withdraw(board: Board, state: State, processor: u8, tick: u64) -> State {
     answered.state
 }
 
+fn handover(board: Board, state: State, processor: u8, entry: u8, tick: u64) -> State {
+    let answered = arbiter::handover(board, state, processor, entry, tick);
+    let reply = answered.reply;
+    print_reply(reply);
+    answered.state
+}
+
 // Two writes on one resource, of lengths 30 and 20, and a read of it of length 5.
 fn plan(processors: u8) -> Plan {
     let mut entries = [Entry {
@@ -189,6 +196,72 @@ fn stray_withdrawals(board: Board, fresh: State) {
     withdraw(board, stray, 2, 0);
 }
 
+// Clause 4.5: a handover is refused by 10, 11, 12, 14 and 15, in this order, and then the request is as it was.
+fn refused_handovers(board: Board, fresh: State) {
+    let a = handover(board, fresh, 9, 9, LAST_TICK + 1);
+    let b = handover(board, a, 4, 3, 0);
+    let c = handover(board, b, 0, 3, 0);
+    let d = handover(board, c, 0, 0, 0);
+    let e = issue(board, d, 0, 0, 1);
+    let f = issue(board, e, 1, 1, 2);
+    let g = handover(board, f, 1, 3, 2);
+    let h = handover(board, g, 1, 2, 2);
+    let i = handover(board, h, 0, 3, 31);
+    complete(board, i, 0, 31);
+}
+
+// Clauses 4.6 to 4.8: the write in line holds before the read that is issued. A hold runs from the handover that granted
+// it to the one that ends it, and late is the completion's.
+fn handovers(board: Board, fresh: State) {
+    let a = issue(board, fresh, 0, 0, 1);
+    let b = issue(board, a, 1, 1, 2);
+    let c = handover(board, b, 0, 2, 3);
+    let d = complete(board, c, 1, 23);
+    let e = handover(board, d, 0, 2, 28);
+    let f = handover(board, e, 0, 1, 34);
+    let g = handover(board, f, 0, 1, 54);
+    let h = handover(board, g, 0, 0, LAST_TICK);
+    let i = handover(board, h, 0, 0, LAST_TICK + 1);
+    handover(board, i, 0, 2, LAST_TICK);
+}
+
+// Clause 4.10: a request for an entry that is not the plan's is none, holding counts before waiting, and a hold that would
+// run backwards is not late. A read that waits for nobody holds once anybody hands over, and of two writes that hold
+// together the other holds on.
+fn stray_handovers(board: Board, fresh: State) {
+    let earlier = fresh.earlier;
+    let mut entry = fresh.entry;
+    entry[1] = 200;
+    entry[3] = 2;
+    let mut since = fresh.since;
+    since[2] = 50;
+    let stray = State {
+        last: 0,
+        phases: Phases {
+            waiting: 14,
+            entitled: 0,
+            holding: 4,
+        },
+        since: since,
+        earlier: earlier,
+        entry: entry,
+    };
+    handover(board, stray, 1, 0, 0);
+    handover(board, stray, 2, 2, 0);
+    let two = State {
+        last: 0,
+        phases: Phases {
+            waiting: 0,
+            entitled: 0,
+            holding: 5,
+        },
+        since: since,
+        earlier: earlier,
+        entry: entry,
+    };
+    handover(board, two, 0, 2, 0);
+}
+
 fn main() {
     counts(0);
     counts(1);
@@ -204,4 +277,7 @@ fn main() {
     phases(board, state);
     withdrawals(board, state);
     stray_withdrawals(board, state);
+    refused_handovers(board, state);
+    handovers(board, state);
+    stray_handovers(board, state);
 }

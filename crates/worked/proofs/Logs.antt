@@ -11,9 +11,9 @@ use Rattle.plans.specs.Reading.{entryIn, entriesIn, sectionFault, readFault, pl
 use Rattle.conflicts.specs.Conflict.{widen, widenedSet, shared, conflict, inConflict, tabulate, conflictsOf}
 use Rattle.settling.specs.Settling.{test1, step1, test2, step2, test3, step3, test4, step4, settled}
 use Rattle.states.specs.Requests.{isHolding, isEntitled, isWaiting, cleaned}
-use Rattle.states.specs.Faults.{issueFault, completeFault, withdrawFault}
+use Rattle.states.specs.Faults.{issueFault, completeFault, withdrawFault, handoverFault}
 use Rattle.rules.specs.Acts.{putIn, putLast, takenOut, stamped}
-use Rattle.rules.specs.Calls.{putState, takenState, done, settledDone, issued, left, completed, withdrawn}
+use Rattle.rules.specs.Calls.{putState, takenState, done, settledDone, issued, left, completed, withdrawn, both, handedOver}
 use Rattle.arbiter.specs.Fresh.{boardOf}
 use Rattle.logs.specs.Records.{fieldsIn, recordFault}
 use Rattle.digits.specs.Digits.{digits, hex4}
@@ -124,9 +124,16 @@ withdrawn-write-leaves-reads =
       listing = 112 ∷ 114 ∷ 111 ∷ 99 ∷ 101 ∷ 115 ∷ 115 ∷ 111 ∷ 114 ∷ 115 ∷ 32 ∷ 53 ∷ 32 ∷ 114 ∷ 101 ∷ 115 ∷ 111 ∷ 117 ∷ 114 ∷ 99 ∷ 101 ∷ 115 ∷ 32 ∷ 50 ∷ 32 ∷ 101 ∷ 110 ∷ 116 ∷ 114 ∷ 105 ∷ 101 ∷ 115 ∷ 32 ∷ 52 ∷ 32 ∷ 114 ∷ 101 ∷ 97 ∷ 100 ∷ 32 ∷ 49 ∷ 51 ∷ 32 ∷ 119 ∷ 114 ∷ 105 ∷ 116 ∷ 101 ∷ 32 ∷ 53 ∷ 50 ∷ 10 ∷ 49 ∷ 32 ∷ 105 ∷ 32 ∷ 48 ∷ 32 ∷ 48 ∷ 48 ∷ 48 ∷ 49 ∷ 32 ∷ 48 ∷ 48 ∷ 48 ∷ 48 ∷ 32 ∷ 48 ∷ 10 ∷ 50 ∷ 32 ∷ 105 ∷ 32 ∷ 49 ∷ 32 ∷ 48 ∷ 48 ∷ 48 ∷ 48 ∷ 32 ∷ 48 ∷ 48 ∷ 48 ∷ 50 ∷ 32 ∷ 48 ∷ 10 ∷ 51 ∷ 32 ∷ 105 ∷ 32 ∷ 50 ∷ 32 ∷ 48 ∷ 48 ∷ 48 ∷ 48 ∷ 32 ∷ 48 ∷ 48 ∷ 48 ∷ 48 ∷ 32 ∷ 48 ∷ 10 ∷ 52 ∷ 32 ∷ 105 ∷ 32 ∷ 51 ∷ 32 ∷ 48 ∷ 48 ∷ 48 ∷ 48 ∷ 32 ∷ 48 ∷ 48 ∷ 48 ∷ 48 ∷ 32 ∷ 48 ∷ 10 ∷ 53 ∷ 32 ∷ 119 ∷ 32 ∷ 49 ∷ 32 ∷ 48 ∷ 48 ∷ 48 ∷ 99 ∷ 32 ∷ 48 ∷ 48 ∷ 48 ∷ 48 ∷ 32 ∷ 48 ∷ 10 ∷ 54 ∷ 32 ∷ 99 ∷ 32 ∷ 48 ∷ 32 ∷ 48 ∷ 48 ∷ 48 ∷ 48 ∷ 32 ∷ 48 ∷ 48 ∷ 48 ∷ 48 ∷ 32 ∷ 49 ∷ 10 ∷ 55 ∷ 32 ∷ 99 ∷ 32 ∷ 50 ∷ 32 ∷ 48 ∷ 48 ∷ 48 ∷ 48 ∷ 32 ∷ 48 ∷ 48 ∷ 48 ∷ 48 ∷ 32 ∷ 48 ∷ 10 ∷ 56 ∷ 32 ∷ 99 ∷ 32 ∷ 51 ∷ 32 ∷ 48 ∷ 48 ∷ 48 ∷ 48 ∷ 32 ∷ 48 ∷ 48 ∷ 48 ∷ 48 ∷ 32 ∷ 48 ∷ 10 ∷ [];
     }
 
+abbrev handover-settles-twice : Worked
+handover-settles-twice =
+    record {
+      log = 3 ∷ 1 ∷ 2 ∷ 1 ∷ 1 ∷ 0 ∷ 0 ∷ 0 ∷ 0 ∷ 0 ∷ 0 ∷ 0 ∷ 20 ∷ 0 ∷ 0 ∷ 1 ∷ 0 ∷ 0 ∷ 0 ∷ 0 ∷ 0 ∷ 0 ∷ 0 ∷ 5 ∷ 0 ∷ 5 ∷ 0 ∷ 0 ∷ 0 ∷ 0 ∷ 1 ∷ 0 ∷ 0 ∷ 0 ∷ 0 ∷ 0 ∷ 1 ∷ 0 ∷ 2 ∷ 0 ∷ 0 ∷ 0 ∷ 0 ∷ 3 ∷ 0 ∷ 1 ∷ 3 ∷ 0 ∷ 0 ∷ 0 ∷ 0 ∷ 1 ∷ 1 ∷ 0 ∷ 4 ∷ 0 ∷ 0 ∷ 0 ∷ 0 ∷ 1 ∷ 0 ∷ 0 ∷ 5 ∷ 0 ∷ 0 ∷ 0 ∷ 0 ∷ [];
+      listing = 112 ∷ 114 ∷ 111 ∷ 99 ∷ 101 ∷ 115 ∷ 115 ∷ 111 ∷ 114 ∷ 115 ∷ 32 ∷ 51 ∷ 32 ∷ 114 ∷ 101 ∷ 115 ∷ 111 ∷ 117 ∷ 114 ∷ 99 ∷ 101 ∷ 115 ∷ 32 ∷ 49 ∷ 32 ∷ 101 ∷ 110 ∷ 116 ∷ 114 ∷ 105 ∷ 101 ∷ 115 ∷ 32 ∷ 50 ∷ 32 ∷ 114 ∷ 101 ∷ 97 ∷ 100 ∷ 32 ∷ 50 ∷ 53 ∷ 32 ∷ 119 ∷ 114 ∷ 105 ∷ 116 ∷ 101 ∷ 32 ∷ 53 ∷ 48 ∷ 10 ∷ 49 ∷ 32 ∷ 105 ∷ 32 ∷ 48 ∷ 32 ∷ 48 ∷ 48 ∷ 48 ∷ 49 ∷ 32 ∷ 48 ∷ 48 ∷ 48 ∷ 48 ∷ 32 ∷ 48 ∷ 10 ∷ 50 ∷ 32 ∷ 105 ∷ 32 ∷ 49 ∷ 32 ∷ 48 ∷ 48 ∷ 48 ∷ 48 ∷ 32 ∷ 48 ∷ 48 ∷ 48 ∷ 48 ∷ 32 ∷ 48 ∷ 10 ∷ 51 ∷ 32 ∷ 104 ∷ 32 ∷ 48 ∷ 32 ∷ 48 ∷ 48 ∷ 48 ∷ 50 ∷ 32 ∷ 48 ∷ 48 ∷ 48 ∷ 49 ∷ 32 ∷ 48 ∷ 10 ∷ 52 ∷ 32 ∷ 99 ∷ 32 ∷ 49 ∷ 32 ∷ 48 ∷ 48 ∷ 48 ∷ 49 ∷ 32 ∷ 48 ∷ 48 ∷ 48 ∷ 48 ∷ 32 ∷ 48 ∷ 10 ∷ 53 ∷ 32 ∷ 99 ∷ 32 ∷ 48 ∷ 32 ∷ 48 ∷ 48 ∷ 48 ∷ 48 ∷ 32 ∷ 48 ∷ 48 ∷ 48 ∷ 48 ∷ 32 ∷ 48 ∷ 10 ∷ [];
+    }
+
 pub table : List Worked
-table = plan-f ∷ empty ∷ refused-02-tail ∷ refused-07-not-counted ∷ refused-09-verb ∷ refused-15-entitled ∷ order-10-before-11 ∷ read-of-a-widened-resource ∷ two-issues-at-one-tick ∷ one-processor ∷ hold-of-20-and-21 ∷ readers-share ∷ repeated-tick ∷ withdrawn-write-leaves-reads ∷ []
+table = plan-f ∷ empty ∷ refused-02-tail ∷ refused-07-not-counted ∷ refused-09-verb ∷ refused-15-entitled ∷ order-10-before-11 ∷ read-of-a-widened-resource ∷ two-issues-at-one-tick ∷ one-processor ∷ hold-of-20-and-21 ∷ readers-share ∷ repeated-tick ∷ withdrawn-write-leaves-reads ∷ handover-settles-twice ∷ []
 
 pub listings-are-as-printed : map (λ w. listingOf (w .log)) table ≡ map (λ w. w .listing) table
-unfolding table bit some maskOf number countsFault entryFault entriesFault planFault longest entryIn entriesIn sectionFault readFault planIn planRead widen widenedSet shared conflict inConflict tabulate conflictsOf test1 step1 test2 step2 test3 step3 test4 step4 settled isHolding isEntitled isWaiting cleaned issueFault completeFault withdrawFault putIn putLast takenOut stamped putState takenState done settledDone issued left completed withdrawn boardOf fieldsIn recordFault digits hex4 furtherFields refusalLine firstLine callLine callsListing listingOf
+unfolding table bit some maskOf number countsFault entryFault entriesFault planFault longest entryIn entriesIn sectionFault readFault planIn planRead widen widenedSet shared conflict inConflict tabulate conflictsOf test1 step1 test2 step2 test3 step3 test4 step4 settled isHolding isEntitled isWaiting cleaned issueFault completeFault withdrawFault handoverFault putIn putLast takenOut stamped putState takenState done settledDone issued left completed withdrawn both handedOver boardOf fieldsIn recordFault digits hex4 furtherFields refusalLine firstLine callLine callsListing listingOf
 listings-are-as-printed = refl

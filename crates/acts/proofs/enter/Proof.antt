@@ -8,16 +8,16 @@ use Rattle.acts.proofs.enter.Statement.{statement}
 use Rattle.acts.proofs.enter.Tie as tie
 
 accept-requires : tie.Need-accept-requires
-accept-requires c κs = subst Small (sym (c .before .put-and-settle .ensures .1)) (settled-small _ _)
+accept-requires c κs = subst Small (sym (c .before .settle-new .ensures)) (settled-small _ _)
 
 returns : tie.Need-returns
 returns c =
     let put = c .before .before in
-    let ticks = put .before .before .before in
+    let ticks = put .before .before in
     let stored = ticks .before .before in
     let a = stored .before .before .args in
-    entered-done (a .rows .now) (a .writes) (a .tick) (a .processor) (a .phases) _ _ _ (stored .store-entry .ensures)
-    (ticks .store-tick .ensures) (put .put-and-settle .ensures .0) (put .put-and-settle .ensures .1) (c .accept .ensures _ _)
+    entered-done (a .rows .now) (a .writes) (a .tick) (a .processor) (a .phases) (a .earlier .now) _ _ (stored .store-entry .ensures)
+    (ticks .store-tick .ensures) (put .settle-new .ensures) (c .accept .ensures _ _)
 
 pub enter-spec : {M : Type 1} → statement M
 enter-spec =

@@ -16,6 +16,10 @@ returns-3 : tie.Need-returns-3
 unfolding callLineBy
 returns-3 c = rw (c .before .before .before .before .before .call3 .given .1) (c .before .before .reply-line3 .ensures)
 
+returns-4 : tie.Need-returns-4
+unfolding callLineBy
+returns-4 c = rw (c .before .before .before .before .before .call4 .given .1) (c .before .before .reply-line4 .ensures)
+
 pub call-line-by-spec : {M : Type 1} → statement M
 call-line-by-spec =
     tie.close
@@ -27,8 +31,12 @@ call-line-by-spec =
     (λ c. search needs)
     (λ c κs. search needs)
     (λ c. search needs)
+    (λ c κs. search needs)
+    (λ c. search needs)
     returns
     (λ c. search needs)
     returns-2
     (λ c. search needs)
-    returns-3)
+    returns-3
+    (λ c. search needs)
+    returns-4)

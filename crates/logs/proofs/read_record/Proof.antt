@@ -2,7 +2,7 @@
 use borrow.Author.Needs.{needs}
 use borrow.Author.Tests.{lt-leb}
 use Rattle.logs.specs.Records.{recordFault, readRecord}
-use Rattle.logs.proofs.Fields.{an-issue, a-completion, a-withdrawal, no-verb}
+use Rattle.logs.proofs.Fields.{an-issue, a-completion, a-withdrawal, a-handover, no-verb}
 use Rattle.logs.proofs.read_record.Statement.{statement}
 use Rattle.logs.proofs.read_record.Tie as tie
 
@@ -32,9 +32,14 @@ returns-4 c =
 
 returns-5 : tie.Need-returns-5
 returns-5 c =
-    let read = c .before .before .before in
+    let read = c .before .before .before .before in
+    a-handover _ (read .before .before .before .before .before .if1 .left) _ (read .read-number .ensures .0) (c .if5 .taken)
+
+returns-6 : tie.Need-returns-6
+returns-6 c =
+    let read = c .before .before .before .before in
     no-verb _ (read .before .before .before .before .before .if1 .left) _ (read .read-number .ensures .0)
-    (c .before .before .if2 .left) (c .before .if3 .left) (c .if4 .left)
+    (c .before .before .before .if2 .left) (c .before .before .if3 .left) (c .before .if4 .left) (c .if5 .left)
 
 pub read-record-spec : {M : Type 1} → statement M
 read-record-spec =
@@ -51,4 +56,5 @@ read-record-spec =
     returns-2
     returns-3
     returns-4
-    returns-5)
+    returns-5
+    returns-6)

@@ -3,7 +3,7 @@
 use Prim.Native.Nat.{ℕ, _≤_, _<_}
 use mathlib.Core.Path.{_≡_, refl, sym, ap, ap₂, subst, subst₂, _∙_}
 use mathlib.Core.Bool.{Bool, true, false}
-use mathlib.Core.List.{List, [], _∷_, map}
+use mathlib.Core.List.{List, [], _∷_}
 use native.Mathlib.Omega.{arith}
 use lib.ListN.{length, getD}
 use borrow.Author.Tests.{ne-eqb}
@@ -12,18 +12,19 @@ use Rattle.calls.specs.declared.Call.{Call}
 use Rattle.calls.specs.Calls.{tickOf}
 use Rattle.states.specs.declared.Board.{Board}
 use Rattle.states.specs.declared.State.{State}
-use Rattle.rules.specs.Calls.{answered}
+use Rattle.rules.specs.Calls.{both, answered}
 use Rattle.arbiter.specs.Fresh.{freshState}
 use Rattle.runs.specs.Events.{events}
-use Rattle.runs.specs.History.{History, Act, allActing, granting, counting, countedIn, nothing, holds}
+use Rattle.runs.specs.History.{History, Act, puts, takes, allActing, counting, countedIn, nothing, holds}
 use Rattle.runs.specs.Claim.{request}
-use Rattle.runs.proofs.history.Frame.{Answers, refused, acts, answers}
+use Rattle.runs.proofs.history.Frame.{BothAllowed, Answers, refused, acts, replaces, answers}
 use Rattle.runs.proofs.history.Tied.{holder-of}
 use Rattle.runs.proofs.history.Related.{Related, Step, related-fresh, afterAct, act-counted}
+use Rattle.runs.proofs.history.Together.{either, afterActs, afterBoth, both-counted}
 use Rattle.runs.proofs.history.Keeps.{Keeps, Waits, keeps-earlier, keeps-before, waits-on, kept-to, waits-later}
 use Rattle.runs.proofs.history.Arbiter.{lengthOn, boundOn, Kept, Arbiter}
 use Rattle.runs.proofs.refinement.Clean.{Clean, fresh-clean}
-use Rattle.runs.proofs.refinement.Acts.{startOf, phasesAfter, stateAfter, grantsOf, Allowed, act-done}
+use Rattle.runs.proofs.refinement.Acts.{grantsIn, stateAfter, Allowed, act-done}
 
 module _ (b : Board) (group : ℕ → Bool) (Lr Lw : ℕ) (A : Arbiter b group Lr Lw) where
   -- A state and the history that led to it.
@@ -38,44 +39,61 @@ module _ (b : Board) (group : ℕ → Bool) (Lr Lw : ℕ) (A : Arbiter b group L
 
   -- ---- one call
 
-  -- A call is refused and changes nothing, or it is taken at a tick t.
-  data Outcome (s s′ : State) (h h′ : History) : Type 0 where
-    unchanged : s′ ≡ s → h′ ≡ h → Outcome s s′ h h′
-    taken : (t : ℕ) → s .last ≤ t → h′ .last ≡ t → Step t h h′ s′ → Clean b s′ → A .Safe s′
+  -- A call is refused and changes nothing, or an act is taken at a tick t; or one outcome follows another.
+  data Outcome : State → State → History → History → Type 0 where
+    unchanged : {s s′ : State} {h h′ : History} → s′ ≡ s → h′ ≡ h → Outcome s s′ h h′
+    taken : {s s′ : State} {h h′ : History} (t : ℕ) → s .last ≤ t → h′ .last ≡ t → Step t h h′ s′ → Clean b s′
+        → A .Safe s′
         → (A .Timed s → Kept b group s t → A .Timed s′) → Outcome s s′ h h′
+    follows : {s s₁ s′ : State} {h h₁ h′ : History} → Outcome s s₁ h h₁ → Outcome s₁ s′ h₁ h′ → Outcome s s′ h h′
 
   -- An act that is taken, whatever call carries it out.
   act-outcome : (s : State) (h : History) (t : ℕ) (a : Act) → Reached s h → Allowed b s t a
-      → Outcome s (stateAfter b s t a) h (afterAct h t a (grantsOf (startOf s t a) (phasesAfter b s t a)))
+      → Outcome s (stateAfter b s t a) h (afterAct h t a (grantsIn b s t a))
   act-outcome s h t a r k =
       let done = act-done b s t a (r .clean) k in
       taken t (k .in-time) refl (act-counted b s t a _ _ done h (r .related)) (done .clean)
       (A .safe-act s t a (r .clean) (r .safe) k)
       (λ timed kept. A .timed-act s t a (r .clean) (r .safe) timed kept k)
 
-  outcome : (c : Call) (s : State) (h : History) → Reached s h
-      → Outcome s (answered b s c .state) h (counting h c (answered b s c .reply))
-  unfolding allActing
-  outcome c s h r = go (answers b s (r .clean) c)
-    where
-      go : Answers b s c → Outcome s (answered b s c .state) h (counting h c (answered b s c .reply))
-      go (refused n due same) =
-          unchanged (ap (λ x. x .state) same) (ap (λ x. counting h c (x .reply)) same ∙ rw (ne-eqb n 0 due))
-      go (acts a late one k same) =
-          let g : ℕ = grantsOf (startOf s (tickOf c) a) (phasesAfter b s (tickOf c) a) in
-          subst (λ x. Outcome s (x .state) h (counting h c (x .reply))) (sym same)
-          (subst
-          (λ l.
-          Outcome s (stateAfter b s (tickOf c) a) h
-          (record { requests = map (granting g (tickOf c)) (allActing (tickOf c) l (h .requests)); last = tickOf c }))
-          (sym one) (act-outcome s h (tickOf c) a r k))
-
   reached-next : {s s′ : State} {h h′ : History} → Reached s h → Outcome s s′ h h′ → Reached s′ h′
   reached-next r (unchanged same-state same-history) = subst₂ Reached (sym same-state) (sym same-history) r
   reached-next r (taken t in-time now step clean safe timed) =
       record { clean = clean; safe = safe; related = step .related }
+  reached-next r (follows one two) = reached-next (reached-next r one) two
 
-  -- If the holders keep to their lengths after a call, they kept to them up to its tick before it, and before that.
+  -- Two acts that are taken at one tick, counted together.
+  both-outcome : (s : State) (h : History) (t p e : ℕ) → Reached s h → BothAllowed b s t p e
+      → Outcome s (stateAfter b (stateAfter b s t (takes p)) t (puts p e)) h (afterBoth b s h t p e)
+  both-outcome s h t p e r k =
+      let one = act-outcome s h t (takes p) r (k .first) in
+      let s₁ : State = stateAfter b s t (takes p) in
+      let h₁ : History = afterAct h t (takes p) (grantsIn b s t (takes p)) in
+      subst (Outcome s (stateAfter b s₁ t (puts p e)) h) (sym (both-counted b s t p (r .clean) (k .first) h e))
+      (follows one (act-outcome s₁ h₁ t (puts p e) (reached-next r one) (k .second)))
+
+  outcome : (c : Call) (s : State) (h : History) → Reached s h
+      → Outcome s (answered b s c .state) h (counting h c (answered b s c .reply))
+  unfolding allActing both
+  outcome c s h r = go (answers b s (r .clean) c)
+    where
+      go : Answers b s c → Outcome s (answered b s c .state) h (counting h c (answered b s c .reply))
+      go (refused n due same) =
+          unchanged {h = h} (ap (λ x. x .state) same) (ap (λ x. counting h c (x .reply)) same ∙ rw (ne-eqb n 0 due))
+      go (acts a late one k same) =
+          let t : ℕ = tickOf c in
+          subst (λ x. Outcome s (x .state) h (counting h c (x .reply))) (sym same)
+          (subst (λ l. Outcome s (stateAfter b s t a) h (afterActs h t l (grantsIn b s t a))) (sym one)
+          (act-outcome s h t a r k))
+      go (replaces p e late two k same) =
+          let t : ℕ = tickOf c in
+          let s₁ : State = stateAfter b s t (takes p) in
+          let g : ℕ = either (grantsIn b s t (takes p)) (grantsIn b s₁ t (puts p e)) in
+          subst (λ x. Outcome s (x .state) h (counting h c (x .reply))) (sym same)
+          (subst (λ l. Outcome s (stateAfter b s₁ t (puts p e)) h (afterActs h t l g)) (sym two)
+          (both-outcome s h t p e r k))
+
+  -- If the holders keep to their lengths after an act, they kept to them up to its tick before it, and before that.
   keeps-at : {h h′ : History} (t : ℕ) → h′ .last ≡ t → (s′ : State) → Step t h h′ s′
       → Keeps (lengthOn b) group (h′ .last) h′
       → Keeps (lengthOn b) group t h
@@ -90,6 +108,7 @@ module _ (b : Board) (group : ℕ → Bool) (Lr Lw : ℕ) (A : Arbiter b group L
       subst (λ x. Keeps (lengthOn b) group (x .last) x) same-history keeps
   keeps-next {s′ = s′} {h = h} r (taken t in-time now step clean safe timed) keeps =
       keeps-earlier (lengthOn b) group (h .last) t h (omega (arith, r .related .last)) (keeps-at t now s′ step keeps)
+  keeps-next r (follows one two) keeps = keeps-next r one (keeps-next (reached-next r one) two keeps)
 
   on-time-next : {s s′ : State} {h h′ : History} → Reached s h → OnTime s h → Outcome s s′ h h′
       → Keeps (lengthOn b) group (h′ .last) h′
@@ -106,6 +125,9 @@ module _ (b : Board) (group : ℕ → Bool) (Lr Lw : ℕ) (A : Arbiter b group L
             subst (λ (n : ℕ). Waits (boundOn b Lr Lw) group n h′) (sym now)
             (waits-on (boundOn b Lr Lw) group t h h′ (step .advanced) later);
       }
+  on-time-next r o (follows one two) keeps =
+      let next = reached-next r one in
+      on-time-next next (on-time-next r o one (keeps-next next two keeps)) two keeps
 
   -- ---- every list of calls
 

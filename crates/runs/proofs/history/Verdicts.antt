@@ -9,10 +9,10 @@ use Rattle.refusals.proofs.Numbers.{first-accepted, due-accepted}
 use Rattle.masks.proofs.Truth.{and-left, and-right}
 use Rattle.plans.specs.Entries.{slots}
 use Rattle.settling.specs.declared.Phases.{Phases}
-use Rattle.settling.specs.Requests.{active}
+use Rattle.settling.specs.Requests.{unsatisfied, active}
 use Rattle.states.specs.declared.Terms.{Terms}
 use Rattle.states.specs.Requests.{hasProcessor}
-use Rattle.states.specs.Faults.{tickFault, processorFault, issueFault, takeFault}
+use Rattle.states.specs.Faults.{tickFault, processorFault, issueFault, takeFault, completeFault}
 
 -- What all calls check of their tick and processor.
 pub record Admissible (terms : Terms) (last p t : ℕ) : Type 0 where
@@ -63,3 +63,10 @@ module _ (terms : Terms) (last : ℕ) (ph : Phases) (p t : ℕ) where
         call = admissible _ ok;
         was-active = due-accepted _ 14 (lit< tt) (first-accepted (due (active ph p) 14) phaseFault later .first);
       }
+
+  -- A request that is completed is not unsatisfied.
+  pub completed-satisfied : completeFault terms last ph p t ≡ 0 → unsatisfied ph p ≡ false
+  unfolding completeFault
+  completed-satisfied ok =
+      let later = first-accepted (processorFault terms p) _ (first-accepted (tickFault last t) _ ok .later) .later in
+      not-true _ (due-accepted _ 15 (lit< tt) (first-accepted (due (active ph p) 14) _ later .later))

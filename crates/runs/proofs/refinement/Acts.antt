@@ -64,6 +64,9 @@ stateAfter b s t a = settledFrom (startOf s t a) (phasesAfter b s t a)
 abbrev pub grantsOf : State → Phases → ℕ
 grantsOf x ph = maskOf slots (began (x .phases) ph)
 
+abbrev pub grantsIn : Board → State → ℕ → Act → ℕ
+grantsIn b s t a = grantsOf (startOf s t a) (phasesAfter b s t a)
+
 -- ---- which acts are taken
 
 pub record MayPut (b : Board) (s : State) (p e : ℕ) : Type 0 where
@@ -212,7 +215,7 @@ module _ (f : Facts) (y : Phases) (tidy : Tidy y) where
   unfolding settled
   settled-tidy = step4-tidy f _ (step3-tidy f _ (step2-tidy f _ (step1-tidy f y tidy)))
 
-settled-rises : (f : Facts) (G : ℕ → Bool) (x : Phases) → Tidy x → (q : ℕ) → q < slots
+pub settled-rises : (f : Facts) (G : ℕ → Bool) (x : Phases) → Tidy x → (q : ℕ) → q < slots
     → Rises (phaseOf x q) (phaseOf (settled f x) q)
 unfolding settled
 settled-rises f G x tidy q l =
@@ -274,7 +277,7 @@ pub record ActDone (b : Board) (s : State) (t : ℕ) (a : Act) (s′ : State) (g
   pub clean : Clean b s′
 
 pub act-done : (b : Board) (s : State) (t : ℕ) (a : Act) → Clean b s → Allowed b s t a
-    → ActDone b s t a (stateAfter b s t a) (grantsOf (startOf s t a) (phasesAfter b s t a))
+    → ActDone b s t a (stateAfter b s t a) (grantsIn b s t a)
 act-done b s t a c k =
     let x = startOf s t a in
     let ph = phasesAfter b s t a in

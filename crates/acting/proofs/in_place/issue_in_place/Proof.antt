@@ -11,14 +11,18 @@ returns c =
     c .refused .ensures _ _ _
     ∙ issue-refused _ _ _ (found .before .clean .ensures) _ _ _ _ (found .check-issue .ensures) _ (c .before .before .verdict .given .1)
 
+put-last-requires : tie.Need-put-last-requires
+put-last-requires c κs = search needs
+
 returns-2 : tie.Need-returns-2
 returns-2 c =
     let entered = c .before in
-    let told = entered .before .before .before .before in
+    let put = entered .before .before .before .before in
+    let told = put .before .before in
     let found = told .before .before in
     c .accepted .ensures _ _ _
-    ∙ issue-done _ _ _ (found .before .clean .ensures) _ _ _ _ (found .check-issue .ensures) (told .enum-told .given .1) _
-    (entered .enter .ensures)
+    ∙ issue-done _ _ _ (found .before .clean .ensures) _ _ _ _ (found .check-issue .ensures) (told .enum-told .given .1) _ _
+    (put .put-last .ensures) (entered .enter .ensures)
 
 pub issue-in-place-spec : {M : Type 1} → statement M
 issue-in-place-spec =
@@ -30,6 +34,7 @@ issue-in-place-spec =
     (λ c. search needs)
     (λ c κs. search needs)
     returns
+    put-last-requires
     (λ c κs. search needs)
     (λ c κs. search needs)
     returns-2)

@@ -1,0 +1,104 @@
+// Accepted handovers, in place, on a board on which the first so many processors are never idle: at each turn a holder
+// hands over.
+use crate::board::plan;
+use calls::Reply;
+use states::Board;
+use states::Moment;
+use states::State;
+ghost use Prim.Native.Nat.{_<_, _≤_};
+
+// The next number of a fixed sequence.
+fn next(seed: u64) -> u64 {
+    (seed % 2147483648 * 1103515245 + 12345) % 2147483648
+}
+
+// The lowest holder at or above a place, round the board.
+fn holder_from(holding: u32, place: u32) -> u32
+    requires { ⌜ place < 32 ⌝ }
+    ensures { λ r. ⌜ r ≤ 32 ⌝ }
+{
+    let above = holding >> place << place;
+    if above != 0 {
+        u32::trailing_zeros(above)
+    } else {
+        u32::trailing_zeros(holding)
+    }
+}
+
+fn mixed(sum: u64, reply: Reply) -> u64 {
+    match reply {
+        Reply::Done {
+            granted,
+            entitled,
+            late,
+        } => (sum % 4294967296 * 31 + granted as u64 * 65536 + entitled as u64 * 2 + late as u64)
+            % 4294967296,
+        Reply::Refused(_) => sum,
+    }
+}
+
+// Each busy processor issues its first request.
+fn filled(board: Board, fresh: State, busy: u8) -> State
+    requires { ⌜ busy ≤ 16 ⌝ }
+{
+    let mut state = fresh;
+    let mut p: u8 = 0;
+    while p < busy {
+        let answered = arbiter::issue(board, state, p, p * 3, 0);
+        state = answered.state;
+        p += 1;
+    }
+    state
+}
+
+// The turns, and the checksum of their answers. The arrays of the state are lent to each call.
+fn sum_from(board: Board, full: State, turns: u64) -> u64
+    requires { ⌜ turns < 1000000000 ⌝ }
+{
+    let terms = board.terms;
+    let rows = board.rows;
+    let lengths = board.lengths;
+    let mut entries = full.entry;
+    let mut since = full.since;
+    let mut earlier = full.earlier;
+    let mut moment = Moment {
+        last: full.last,
+        phases: arbiter::phases_of(board, full),
+    };
+    let mut seed: u64 = 1;
+    let mut sum: u64 = 0;
+    let mut tick: u64 = 0;
+    while tick < turns {
+        tick += 1;
+        seed = next(seed);
+        let p = holder_from(moment.phases.holding, (seed / 65536 % 16) as u32) as u8;
+        let e = (seed / 1048576 % 64) as u8;
+        let handed = acting::handover_in_place(
+            terms,
+            &rows,
+            &lengths,
+            moment,
+            &mut entries,
+            &mut since,
+            &mut earlier,
+            p,
+            e,
+            tick,
+        );
+        let reply = handed.reply;
+        let settled = handed.moment;
+        moment = settled;
+        sum = mixed(sum, reply);
+    }
+    sum
+}
+
+pub fn sum_of(busy: u8, turns: u64) -> u64
+    requires { ⌜ (busy ≤ 16) × (turns < 1000000000) ⌝ }
+{
+    let fresh = arbiter::fresh_of(plan());
+    let board = fresh.board;
+    let start = fresh.state;
+    let full = filled(board, start, busy);
+    sum_from(board, full, turns)
+}
