@@ -86,7 +86,7 @@ writtenTo Register.Unlisted board state block offset value = unmoved 18 block st
 unfoldable pub registerWrite : Board → State → Block → ℕ → ℕ → WriteAnswer
 registerWrite board state block offset value = writtenTo (registerAt offset) board state block offset value
 
--- What a write returned beside a block, in numbers.
+-- Clause 10.10: what a write returns, with the block as it leaves it, in numbers.
 abbrev pub writeSays : Written → Block → WriteAnswer
 writeSays written block =
     record { number = verdictNumber (written .verdict); block = block; state = written .state }

@@ -31,8 +31,11 @@ ghost use Prim.Native.Nat.{_≤_};
 
 // The bytes of the longest plan, of the buffer behind it, of an operation, and of the longest line.
 const PLAN_ROOM: usize = 707;
+
 const INPUT_ROOM: usize = 4096;
+
 const OPERATION: usize = 3;
+
 const LINE_ROOM: usize = 96;
 
 // The block and the state, how many bytes the input's buffer has, and whether there is more to do.
