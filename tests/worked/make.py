@@ -8,7 +8,8 @@ whole listing, on each log's bytes.
 import pathlib
 
 NAMES = """plan_f empty refused_02_tail refused_07_not_counted refused_09_verb refused_15_entitled order_10_before_11
-read_of_a_widened_resource two_issues_at_one_tick one_processor hold_of_20_and_21 readers_share repeated_tick withdrawn_write_leaves_reads handover_settles_twice""".split()
+read_of_a_widened_resource two_issues_at_one_tick one_processor hold_of_20_and_21 readers_share repeated_tick
+withdrawn_write_leaves_reads handover_settles_twice""".split()
 
 # What is computed on the way from bytes to a listing, by the module that defines it.
 UNFOLDED = {

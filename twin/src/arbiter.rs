@@ -165,8 +165,8 @@ impl Arbiter {
         Ok(Done { granted, entitled, late })
     }
 
-    /// A completion and then an issue, of which neither is refused: both their masks together, but nobody is said to have
-    /// become entitled who is not so at the end.
+    /// A completion and then an issue, of which neither is refused: both their masks together, but nobody is said to
+    /// have become entitled who is not so at the end.
     fn hand_over(&mut self, processor: u8, entry: u8, tick: u64) -> Done {
         let first = self.call(Call::Complete { processor, tick }).expect("a completion that fits");
         let second = self.call(Call::Issue { processor, entry, tick }).expect("an issue that fits");

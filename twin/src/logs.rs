@@ -134,7 +134,8 @@ pub fn hostile(r: &mut Random, plan: &Plan, count: usize, also: Also) -> Vec<Cal
         let full = if also.handing && !r.once_in(4) {
             call(&mut arbiter, Call::Handover { processor, entry, tick }) >= count
         } else {
-            call(&mut arbiter, Call::Complete { processor, tick }) >= count || call(&mut arbiter, Call::Issue { processor, entry, tick }) >= count
+            call(&mut arbiter, Call::Complete { processor, tick }) >= count
+                || call(&mut arbiter, Call::Issue { processor, entry, tick }) >= count
         };
         if full {
             return calls;

@@ -20,8 +20,8 @@ fn holder_from(arbiter: &Arbiter, place: u8) -> u8 {
     holders().filter(|&p| p >= place).min().or(holders().min()).expect("a holder")
 }
 
-/// Each turn completes a holder and issues again at once, on a board with so many busy processors: two calls, or one where
-/// `handing`.
+/// Each turn completes a holder and issues again at once, on a board with so many busy processors: two calls, or one
+/// where `handing`.
 pub fn calls(busy: u8, turns: u64, handing: bool) -> u64 {
     let mut arbiter = Arbiter::new(Plan::take(&mut &plan_bytes()[..]).expect("an accepted plan"));
     let (mut seed, mut sum) = (1u64, 0u64);

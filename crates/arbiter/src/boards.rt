@@ -1,12 +1,12 @@
 // A fresh arbiter of a plan. Specification, clause 4.3.
 use crate::Fresh;
+use acceptance::check;
 use conflicts::conflicts_of;
 use masks::add64;
 use plans::ENTRIES;
 use plans::Entry;
 use plans::Plan;
 use plans::SLOTS;
-use plans::check;
 use plans::is_write;
 use refusals::Verdict;
 use settling::Phases;

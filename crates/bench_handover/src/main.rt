@@ -1,5 +1,5 @@
-// Handovers, where `bench_library` makes two calls. Prints a checksum of all answers, which the twin prints too. A program of
-// its own, so that the compiler does with the calls of each what it would do alone.
+// Handovers, where `bench_library` makes two calls. Prints a checksum of all answers, which the twin prints too. A program
+// of its own, so that the compiler does with the calls of each what it would do alone.
 //   bench_handover [BUSY [TURNS]]    with so many busy processors
 mod board;
 mod turns;

@@ -4,10 +4,10 @@ use encoding::byte_at;
 use plans::ENTRIES;
 use plans::Entry;
 use plans::Plan;
-use queries::reach;
 use reaching::ROOM;
 use states::Board;
 use states::State;
+use wait_queries::reach;
 ghost use mathlib.Core.Path.{_≡_};
 ghost use Prim.Native.Nat.{_<_};
 

@@ -1,18 +1,18 @@
 // What a viewer asks of a board with 16 busy processors, after each turn: the list of the whole board, or the state and
 // the direct waits of each processor by single queries.
+use board_queries::list_board_in_place;
 use encoding::byte_at;
 use plans::ENTRIES;
 use plans::SLOTS;
 use queries::MaskAnswer;
 use queries::PhaseAnswer;
-use queries::direct_waits;
-use queries::list_board_in_place;
 use queries::phase_number;
 use queries::phase_of;
 use states::Board;
 use states::Moment;
 use states::State;
 use states::Terms;
+use wait_queries::direct_waits;
 ghost use mathlib.Core.Path.{_≡_};
 
 // The bytes of the list of 16 processors.

@@ -1,12 +1,12 @@
 // Reads a plan from standard input, and prints for each pair of its entries what they conflict over: the lowest-numbered
 // resource that they share, and how many. A test program: its output is compared with another's.
-use conflicts::Conflict;
 use contention::SharedAnswer;
 use contention::shared_by;
 use encoding::Outcome;
 use libc::STDIN_FILENO;
 use libc::STDOUT_FILENO;
 use refusals::Refusal;
+use sharing::Conflict;
 use states::Board;
 
 // The bytes of the longest plan.

@@ -1,6 +1,5 @@
 pub mod Tabulate
 pub mod Widening
-pub mod Over
 pub mod Pairs
 pub mod Rows
 pub mod Accepted

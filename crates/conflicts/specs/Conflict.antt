@@ -4,11 +4,11 @@ use mathlib.Core.Bool.{Bool, cond, not, _&&_}
 use mathlib.Core.List.{List, [], _∷_, _++_}
 use lib.Bits.{bitAnd, bitOr}
 use lib.Dec.{eqb, ltb}
-use Rattle.masks.specs.Sets.{bit, meets, maskOf, countOf, lowestOf}
+use Rattle.masks.specs.Sets.{meets, maskOf}
 use Rattle.plans.specs.declared.Entry.{Entry}
 use Rattle.plans.specs.declared.Plan.{Plan}
-use Rattle.plans.specs.Entries.{mostResources, mostEntries, isRead, isWrite, countedEntries, entryAt}
-use Rattle.conflicts.specs.declared.Conflict.{Conflict}
+use Rattle.plans.specs.Entries.{mostEntries, isRead, isWrite, countedEntries, entryAt}
+use Rattle.sharing.specs.Sharing.{sharedBy}
 use Rattle.conflicts.specs.declared.Conflicts.{Conflicts}
 
 -- Clause 3.1: the names, joined with those of each read entry that shares a resource with them. Every entry is held
@@ -21,11 +21,7 @@ widen names (e ∷ later) = bitOr (widen names later) (cond (isRead e && meets (
 unfoldable pub widenedSet : List Entry → Entry → ℕ
 widenedSet entries e = cond (isWrite e) (widen (e .set) entries) (e .set)
 
--- Clauses 3.2 and 5.8: what stands between two entries: of two writes what their widened sets share, of two reads
--- nothing, of a read and a write what their names share.
-abbrev pub sharedBy : Bool → Bool → ℕ → ℕ → ℕ
-sharedBy writes reads names widened = cond writes widened (cond reads 0 names)
-
+-- Clause 3.2: what stands between two entries of a plan.
 unfoldable pub shared : List Entry → Entry → Entry → ℕ
 shared entries e f =
     sharedBy (isWrite e && isWrite f) (isRead e && isRead f) (bitAnd (e .set) (f .set))
@@ -34,25 +30,6 @@ shared entries e f =
 -- Clause 3.2: they conflict where a resource stands between them.
 unfoldable pub conflict : List Entry → Entry → Entry → Bool
 conflict entries e f = not (eqb (shared entries e f) 0)
-
--- Clause 3.4: a conflict in numbers: 0 for none, else 1, with the lowest of the shared resources and how many they are.
-pub record Over : Type 0 where
-  pub number : ℕ
-  pub lowest : ℕ
-  pub count : ℕ
-
-abbrev pub noConflict : Over
-noConflict = record { number = 0; lowest = 0; count = 0 }
-
-abbrev pub conflictSays : Conflict → Over
-conflictSays Conflict.None = noConflict
-conflictSays (Conflict.Over lowest count) = record { number = 1; lowest = lowest; count = count }
-
--- Clause 3.4: the conflict over a set of shared resources.
-unfoldable pub over : ℕ → Over
-over set =
-    cond (eqb set 0) noConflict
-    (record { number = 1; lowest = lowestOf mostResources (bit set); count = countOf mostResources (bit set) })
 
 -- Clause 3.3: whether entries i and j of the plan conflict. Past the count there is no conflict.
 unfoldable pub inConflict : Plan → ℕ → ℕ → Bool

@@ -1,6 +1,4 @@
-// Which entries of a plan conflict, and over what: worked out once for all pairs of entries, and read by settling.
-mod sharing;
-
+// Which entries of a plan conflict: worked out once for all pairs of entries, and read by settling.
 use masks::add64;
 use masks::meet64;
 use plans::ENTRIES;
@@ -9,25 +7,17 @@ use plans::Plan;
 use plans::counted_of;
 use plans::is_read;
 use plans::is_write;
-pub use sharing::conflict_by;
-pub use sharing::conflict_over;
-pub use sharing::is_conflict;
+use sharing::is_conflict;
+use sharing::pair_conflict;
 ghost use mathlib.Core.Path.{_≡_};
 ghost use mathlib.Core.Bool.{cond, _&&_};
 ghost use Prim.Native.Nat.{_<_};
-ghost use lib.Bits.{bitAnd};
 ghost use lib.Dec.{ltb};
 ghost use lib.ListN.{getD};
 ghost use Rattle.masks.specs.Sets.{added, meets, maskOf};
 ghost use Rattle.plans.specs.Entries.{mostEntries, isRead, isWrite, countedEntries, entryAt};
-ghost use Rattle.conflicts.specs.Conflict.{widen, widenedSet, sharedBy, conflictSays, over};
+ghost use Rattle.conflicts.specs.Conflict.{widen, widenedSet};
 ghost use Rattle.conflicts.specs.Conflict.{inConflict, conflictsOf};
-
-// None, or over shared resources: the lowest-numbered of them, and how many they are.
-pub enum Conflict {
-    None,
-    Over { lowest: u8, count: u8 },
-}
 
 // Bit j of row i: entries i and j conflict. The names of each entry; the widened set of each write, and of each read its
 // names.
@@ -89,21 +79,6 @@ fn widen_all(plan: Plan) -> [u64; ENTRIES]
         i += 1;
     }
     widened
-}
-
-// Clause 3.2: writes conflict by their widened sets, a read and a write by their names, reads never.
-fn pair_conflict(e: Entry, e_widened: u64, f: Entry, f_widened: u64) -> Conflict
-    ensures { λ r. ⌜
-        conflictSays r
-        ≡ over (sharedBy (isWrite e && isWrite f) (isRead e && isRead f) (bitAnd (e .set) (f .set))
-        (bitAnd «e_widened» «f_widened»))
-        ⌝ }
-{
-    let writes = is_write(e) & is_write(f);
-    let reads = is_read(e) & is_read(f);
-    let names = e.set & f.set;
-    let widened = e_widened & f_widened;
-    conflict_by(writes, reads, names, widened)
 }
 
 // The set with the place in it, where the test says so.

@@ -8,7 +8,7 @@ use lib.ListN.{getD}
 use Rattle.masks.specs.Sets.{bit}
 use Rattle.refusals.specs.Number.{numberOf}
 use Rattle.refusals.specs.Due.{due}
-use Rattle.conflicts.specs.Conflict.{sharedBy, Over, noConflict, conflictSays, over}
+use Rattle.sharing.specs.Sharing.{sharedBy, Over, noConflict, conflictSays, over}
 use Rattle.states.specs.declared.Terms.{Terms}
 use Rattle.states.specs.declared.Board.{Board}
 use Rattle.contention.specs.declared.SharedAnswer.{SharedAnswer}

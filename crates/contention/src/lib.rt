@@ -1,16 +1,16 @@
 // Which resource two entries of a board fight over: what an integrator asks who sees that they conflict. Nothing is
 // changed.
-use conflicts::Conflict;
-use conflicts::conflict_by;
 use conflicts::row_at;
 use masks::has64;
 use plans::ENTRIES;
 use refusals::Refusal;
+use sharing::Conflict;
+use sharing::conflict_by;
 use states::Board;
 use states::Terms;
 ghost use mathlib.Core.Path.{_≡_};
 ghost use lib.ListN.{getD};
-ghost use Rattle.conflicts.specs.Conflict.{conflictSays, over};
+ghost use Rattle.sharing.specs.Sharing.{conflictSays, over};
 ghost use Rattle.contention.specs.Contention.{sharedIn, sharedSays, sharedQuery, sharedOf};
 
 // What the two entries conflict over, or the refusal.

@@ -14,9 +14,10 @@ use Rattle.plans.specs.declared.Plan.{Plan}
 use Rattle.plans.specs.Entries.{mostEntries, isRead, isWrite, countedEntries, entryAt}
 use Rattle.plans.specs.Acceptance.{planFault}
 use Rattle.plans.proofs.Accepted.{accepted-count}
-use Rattle.conflicts.specs.Conflict.{widenedSet, sharedBy, shared, conflict, inConflict, Over, over, conflictsOf}
+use Rattle.sharing.specs.Sharing.{sharedBy, Over, over}
+use Rattle.sharing.proofs.Over.{over-is}
+use Rattle.conflicts.specs.Conflict.{widenedSet, shared, conflict, inConflict, conflictsOf}
 use Rattle.conflicts.proofs.Accepted.{read-or-write}
-use Rattle.conflicts.proofs.Over.{over-is}
 use Rattle.conflicts.proofs.Tabulate.{getD-tabulate}
 use Rattle.conflicts.proofs.Widening.{widened-at}
 use Rattle.arbiter.specs.Fresh.{boardOf}

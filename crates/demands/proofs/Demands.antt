@@ -6,7 +6,7 @@ pub use Rattle.runs.proofs.Handover.{leaves-what-both-leave, grants-of-both, en
 pub use Rattle.demands.proofs.Handover.{handover-grants, handover-entitles}
 pub use Rattle.runs.proofs.refinement.WholeRuns.{whole-runs}
 pub use Rattle.freedom.proofs.Freedom.{no-deadlock}
-pub use Rattle.queries.proofs.WholeBoard.{part-is-queries}
+pub use Rattle.board_queries.proofs.WholeBoard.{part-is-queries}
 use Prim.Native.Nat.{ℕ, _<_}
 use mathlib.Core.Path.{_≡_, refl, _∙_}
 use mathlib.Core.List.{List}
@@ -28,7 +28,7 @@ use Rattle.arbiter.specs.Fresh.{boardOf, blankBoard, freshBoard}
 use Rattle.rules.specs.InPlace.{boardBy, stateBy}
 use Rattle.queries.specs.Queries.{reachFault, reachBytes, reachQuery, reachScratch}
 use Rattle.wait_listing.specs.Listing.{listFault, listBuffer}
-use Rattle.queries.specs.WholeBoard.{listed, boardBytes, boardQuery, boardBuffer}
+use Rattle.board_queries.specs.WholeBoard.{listed, boardBytes, boardQuery, boardBuffer}
 use Rattle.logs.specs.Records.{fieldsIn, noFields, recordFault, readRecord}
 
 -- Demand 1. What meets no refusal condition is carried out to the end; everything else is refused by the number due in that
@@ -50,11 +50,11 @@ use Rattle.logs.specs.Records.{fieldsIn, noFields, recordFault, readRecord}
 --   acting::answer_in_place  answerBy r and the arrays after it ≡ answered, of the board and the state that it was lent
 --   acting::issue_in_place   the same with issued, complete_in_place with completed, withdraw_in_place with withdrawn, and
 --                            handover_in_place with handedOver
---   queries::phase_of        phaseSays r ≡ phaseQuery board state processor
---   queries::direct_waits    maskSays r ≡ waitsQuery board state processor
---   queries::reach           maskSays r ≡ reachQuery board state processor scratch, the scratch after it ≡ reachScratch ..
---   queries::list_board      outcomeSays r ≡ boardQuery .. board buffer, and the buffer after it ≡ boardBuffer .. board state buffer
---   queries::list_board_in_place  the same, of the board and the state that it was lent
+--   queries::phase_of              phaseSays r ≡ phaseQuery board state processor
+--   wait_queries::direct_waits     maskSays r ≡ waitsQuery board state processor
+--   wait_queries::reach            maskSays r ≡ reachQuery board state processor scratch, the scratch after it ≡ reachScratch ..
+--   board_queries::list_board      outcomeSays r ≡ boardQuery .. board buffer, and the buffer after it ≡ boardBuffer .. board state buffer
+--   board_queries::list_board_in_place  the same, of the board and the state that it was lent
 --   contention::shared_by    sharedSays r ≡ sharedQuery board first second; what that is on a plan's board, Contention.antt says
 --   logs::read_count         countSays r ≡ readCount bytes
 --   logs::read_record        recordSays r ≡ readRecord bytes
@@ -176,7 +176,7 @@ accepted-record-is-read s ok = rw ok
 --
 -- The rules are `settled` and its four steps (settling), `putIn`, `takenOut`, `stamped` and `done` (acting); plan F's twelve
 -- calls are computed by them in runs/proofs/PlanF.antt. The functions promise: settling::settle ≡ settled,
--- conflicts::conflicts_of ≡ conflictsOf, plans::figures_of ≡ figuresOf; and the calls as above.
+-- conflicts::conflicts_of ≡ conflictsOf, figures::figures_of ≡ figuresOf; and the calls as above.
 
 -- A handover does what a completion and then an issue would do: leaves-what-both-leave, grants-of-both and
 -- entitlements-of-both, above, on every state value. After any calls its masks are what changed from the state before it to the

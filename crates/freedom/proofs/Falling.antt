@@ -19,7 +19,7 @@ use Rattle.runs.proofs.refinement.Clean.{phaseIn, clean-phases}
 use Rattle.waiting.specs.Waits.{waitsIn}
 use Rattle.queries.specs.Queries.{waitsFor, Chain, direct, through}
 use Rattle.masks.proofs.Truth.{and-left}
-use Rattle.queries.proofs.Waits.{Reason, entitled-read, waiting-read, entitled-write, waiting-write, waits-reason, waits-below}
+use Rattle.wait_queries.proofs.Waits.{Reason, entitled-read, waiting-read, entitled-write, waiting-write, waits-reason, waits-below}
 use Rattle.freedom.proofs.Reached.{Reached}
 
 unfoldable cost : Phase → ℕ → ℕ

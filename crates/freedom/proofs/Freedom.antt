@@ -21,8 +21,8 @@ use Rattle.runs.proofs.columns.Columns.{holding}
 use Rattle.runs.proofs.refinement.State.{unsatisfied-phase, held-bit}
 use Rattle.runs.proofs.refinement.Clean.{phaseIn, clean-phases}
 use Rattle.queries.specs.Queries.{Chain, reaches}
-use Rattle.queries.proofs.Waits.{unsatisfied-below}
-use Rattle.queries.proofs.Chains.{no-chain-not-reached}
+use Rattle.wait_queries.proofs.Waits.{unsatisfied-below}
+use Rattle.wait_queries.proofs.Chains.{no-chain-not-reached}
 use Rattle.freedom.specs.Freedom.{reachedBy, holdsIn, NoDeadlock}
 use Rattle.freedom.proofs.Reached.{Reached, reached}
 use Rattle.freedom.proofs.Falling.{distance, chain-falls}

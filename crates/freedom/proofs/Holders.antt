@@ -18,7 +18,7 @@ use Rattle.runs.proofs.refinement.State.{requestsOf, Marks, not-idle-active, he
 use Rattle.runs.proofs.refinement.Clean.{phaseIn}
 use Rattle.queries.specs.Queries.{waitsFor, Chain, direct, through}
 use Rattle.masks.proofs.Truth.{and-both}
-use Rattle.queries.proofs.Waits.{Reason, entitled-read, waiting-read, entitled-write, waiting-write, reason-waits, waits-below}
+use Rattle.wait_queries.proofs.Waits.{Reason, entitled-read, waiting-read, entitled-write, waiting-write, reason-waits, waits-below}
 use Rattle.freedom.proofs.Reached.{Reached}
 use Rattle.freedom.proofs.Falling.{distance, waits-here, wait-falls}
 

@@ -1,10 +1,7 @@
 // A log as it arrives: each read takes what is there, and no more is waited for than is needed to go on. No contract
 // can say what a read gives; these functions promise what they leave of the buffers that they are lent.
-mod fronts;
 mod reads;
 
-pub use fronts::bring_to_front;
-pub use fronts::copy_in;
 pub use reads::Fed;
 pub use reads::due_size;
 pub use reads::fill_plan;

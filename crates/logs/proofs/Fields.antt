@@ -28,7 +28,8 @@ module _ (s : List ℕ) (h : 8 ≤ length s) (t : ℕ) (tick : t ≡ number (tak
   unfolding readRecord recordFault fieldsIn
   an-issue verb = rw (le-leb 8 (length s) h, verb, tick-read)
 
-  pub a-handover : getD s 0 0 ≡ 3 → recordSays (RecordAnswer.Is (Call.Handover (getD s 1 0) (getD s 2 0) t)) ≡ readRecord s
+  pub a-handover : getD s 0 0 ≡ 3
+      → recordSays (RecordAnswer.Is (Call.Handover (getD s 1 0) (getD s 2 0) t)) ≡ readRecord s
   unfolding readRecord recordFault fieldsIn
   a-handover verb = rw (le-leb 8 (length s) h, verb, tick-read)
 

@@ -1,4 +1,8 @@
 // From bytes to a plan. A log's reader begins with it, and so does the viewer.
+use acceptance::check_entry;
+use acceptance::check_entry_count;
+use acceptance::check_processors;
+use acceptance::check_resources;
 use encoding::Outcome;
 use encoding::byte_at;
 use encoding::check_due;
@@ -9,10 +13,6 @@ use plans::Entry;
 use plans::HEAD_BYTES;
 use plans::Plan;
 use plans::Read;
-use plans::check_entry;
-use plans::check_entry_count;
-use plans::check_processors;
-use plans::check_resources;
 use refusals::Refusal;
 use refusals::Verdict;
 use refusals::first_of;

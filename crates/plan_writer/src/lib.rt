@@ -61,7 +61,7 @@ fn write_plan(plan: Plan, buffer: &mut [u8], at: usize)
 fn check_writing(plan: Plan, size: usize, at: usize) -> Verdict
     ensures { λ r. ⌜ verdictNumber r ≡ writeFault plan size at ⌝ }
 {
-    let value = plans::check(plan);
+    let value = acceptance::check(plan);
     let room = check_room(plan_size(plan.count), size, at);
     first_of(value, room)
 }

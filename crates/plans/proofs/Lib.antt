@@ -1,7 +1,5 @@
 pub mod Flags
 pub mod Counted
-pub mod Entries
-pub mod Longest
 pub mod Fits
 pub mod EntryBytes
 pub mod Faults

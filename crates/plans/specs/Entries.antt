@@ -1,9 +1,9 @@
 -- The shape of a plan and of its entries. Specification, sections 1 and 2.
 use Prim.Native.Nat.{ℕ, _+_, _*_}
 use mathlib.Core.Path.{_≡_}
-use mathlib.Core.Bool.{Bool}
+use mathlib.Core.Bool.{Bool, cond}
 use mathlib.Core.List.{List}
-use lib.Dec.{eqb}
+use lib.Dec.{eqb, leb}
 use lib.ListN.{take, getD}
 use Rattle.plans.specs.declared.Entry.{Entry}
 use Rattle.plans.specs.declared.Plan.{Plan}
@@ -11,6 +11,11 @@ use Rattle.plans.specs.declared.Plan.{Plan}
 -- Clauses 1.1 and 2.3: the most processors of a plan. A state has a place for each, and so has a mask.
 abbrev pub slots : ℕ
 slots = 16
+
+-- Clauses 7.4, 7.7 and 9.9: the bytes of a mask by the plan's processors, where it is printed or laid out: 2 for up to
+-- 16, and 4 for more.
+abbrev pub maskSizeFor : ℕ → ℕ
+maskSizeFor m = cond (leb m 16) 2 4
 
 -- Clauses 1.2 and 2.4: the most resources.
 abbrev pub mostResources : ℕ

@@ -1,23 +1,16 @@
 // Plan values: three counts and up to 64 entries, by value, so that a caller can make any of them.
-// Which values are taken, and the two figures of a plan. `plan_reader` and `plan_writer` carry plans from and to bytes.
+// `acceptance` says which values are taken, `figures` works out the two figures of a plan, and `plan_reader` and
+// `plan_writer` carry plans from and to bytes; the definitions of all of that stand here.
 use encoding::Outcome;
 
-mod acceptance;
 mod shape;
-mod waits;
 
-pub use acceptance::check;
-pub use acceptance::check_entry;
-// The three counts by themselves, for a reader that meets them one by one.
-pub use acceptance::check_entry_count;
-pub use acceptance::check_processors;
-pub use acceptance::check_resources;
 // How many entries of a plan value count: for loops over them.
 pub use shape::counted_of;
 pub use shape::is_read;
 pub use shape::is_write;
+pub use shape::mask_size;
 pub use shape::plan_size;
-pub use waits::figures_of;
 
 // The most processors of a plan: so many requests a state holds.
 pub const SLOTS: usize = 16;

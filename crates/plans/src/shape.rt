@@ -5,7 +5,7 @@ use crate::Entry;
 use crate::HEAD_BYTES;
 ghost use mathlib.Core.Path.{_≡_};
 ghost use Prim.Native.Nat.{min};
-ghost use Rattle.plans.specs.Entries.{mostEntries, isRead, isWrite, planSize};
+ghost use Rattle.plans.specs.Entries.{maskSizeFor, mostEntries, isRead, isWrite, planSize};
 
 // Clause 2.6: kind 0 reads, and kind 1 writes.
 pub fn is_read(entry: Entry) -> bool
@@ -36,4 +36,11 @@ pub fn plan_size(count: u8) -> usize
     ensures { λ r. ⌜ r ≡ planSize count ⌝ }
 {
     HEAD_BYTES + ENTRY_BYTES * count as usize
+}
+
+// The bytes of a mask, where it is printed or laid out, of a plan with so many processors.
+pub fn mask_size(processors: u8) -> usize
+    ensures { λ r. ⌜ r ≡ maskSizeFor processors ⌝ }
+{
+    if processors <= 16 { 2 } else { 4 }
 }

@@ -1,6 +1,1 @@
-pub mod Growing
-pub mod Waits
-pub mod Chains
-pub mod AllReached
 pub mod Answers
-pub mod WholeBoard

@@ -1,3 +1,2 @@
 pub mod Queries
-pub mod WholeBoard
 pub mod inner

@@ -1,25 +1,19 @@
-// Who holds, who waits, and for whom: what a viewer asks of a state. Nothing is changed.
-mod checks;
-mod direct;
-mod reached;
-mod whole_board;
-
-use checks::check_processor;
-pub use direct::direct_waits;
+// What a viewer asks of a state: who holds and who waits, here; for whom, in `wait_queries`; the whole board at once, in
+// `board_queries`. The definitions of single queries stand here. Nothing is changed.
 use masks::has32;
 use plans::SLOTS;
-pub use reached::reach;
 use refusals::Refusal;
 use refusals::Verdict;
+use refusals::refuse_unless;
 use settling::Phases;
 use states::Board;
 use states::State;
 use states::Terms;
 use states::clean;
-pub use whole_board::list_board;
-pub use whole_board::list_board_in_place;
 ghost use mathlib.Core.Path.{_≡_};
 ghost use mathlib.Core.List.{[]};
+ghost use Rattle.refusals.specs.Number.{verdictNumber};
+ghost use Rattle.states.specs.Faults.{processorFault};
 ghost use Rattle.wait_listing.specs.Listing.{stateIn};
 ghost use Rattle.queries.specs.Queries.{phaseNumber, phaseSays, phaseQuery};
 ghost use Rattle.queries.specs.inner.Rows.{boardWith, stateWith};
@@ -42,6 +36,16 @@ pub enum PhaseAnswer {
 pub enum MaskAnswer {
     Mask(u32),
     Refused(Refusal),
+}
+
+// Clause 7.5: refuses by 11 a processor that is not the plan's.
+pub fn check_processor(terms: Terms, processor: u8) -> Verdict
+    ensures { λ r. ⌜ verdictNumber r ≡ processorFault terms processor ⌝ }
+{
+    refuse_unless(
+        (processor < SLOTS as u8) & (processor < terms.processors),
+        Refusal::Processor,
+    )
 }
 
 // Clause 7.1: the number of a state.

@@ -1,8 +1,8 @@
 // The line of the whole board: `board`, a space, and the bytes of the list as hexadecimal digits. The buffer is filled
 // with 170 before and is 16 bytes longer than the list; these are printed too.
+use board_queries::list_board;
 use libc::STDOUT_FILENO;
 use plans::SLOTS;
-use queries::list_board;
 use states::Board;
 use states::State;
 ghost use mathlib.Core.Path.{_≡_};

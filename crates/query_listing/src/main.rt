@@ -5,10 +5,10 @@ mod board_line;
 mod scratch_line;
 
 use encoding::Outcome;
+use fronts::bring_to_front;
+use fronts::copy_in;
 use libc::STDIN_FILENO;
 use libc::STDOUT_FILENO;
-use log_input::bring_to_front;
-use log_input::copy_in;
 use log_input::due_size;
 use log_input::fill_plan;
 use log_input::fill_to;
@@ -57,8 +57,8 @@ fn print_query(board: Board, state: State, processor: u8) {
         PhaseAnswer::Is(is) => {
             io::write_all(STDOUT_FILENO, b" ");
             io::print_decimal(STDOUT_FILENO, queries::phase_number(is) as u64);
-            print_mask(queries::direct_waits(board, state, processor));
-            print_mask(queries::reach(board, state, processor, &mut scratch));
+            print_mask(wait_queries::direct_waits(board, state, processor));
+            print_mask(wait_queries::reach(board, state, processor, &mut scratch));
         }
         PhaseAnswer::Refused(refusal) => print_refusal(refusal),
     }
@@ -130,7 +130,7 @@ fn print_calls(
         left -= 1;
         have = bring_to_front(block, RECORD_BYTES, have);
     }
-    let line = replay::finish(left, &block[..have], out);
+    let line = log_ends::finish(left, &block[..have], out);
     show(line, out);
 }
 
@@ -143,7 +143,7 @@ fn print_rest(board: Board, state: State, bytes: &[u8], block: &mut [u8], out: &
         return;
     }
     let have = fed.have;
-    let counted = replay::count(&block[..have], out);
+    let counted = log_ends::count(&block[..have], out);
     let line = counted.line;
     show(line, out);
     let calls = counted.calls;
@@ -160,7 +160,7 @@ fn print_log(plan: &mut [u8], block: &mut [u8], out: &mut [u8]) {
         return;
     }
     let filled = fed.have;
-    let begun = replay::begin(&plan[..filled], out);
+    let begun = log_ends::begin(&plan[..filled], out);
     let line = begun.line;
     show(line, out);
     let board = begun.board;

@@ -2,10 +2,10 @@
 // digits. It is filled with 170 before and is 16 bytes longer than needed; these are printed too.
 use crate::board_line::print_bytes;
 use libc::STDOUT_FILENO;
-use queries::reach;
 use reaching::ROOM;
 use states::Board;
 use states::State;
+use wait_queries::reach;
 
 pub fn print_scratch_line(board: Board, state: State) {
     let mut scratch = [170u8; ROOM + 16];

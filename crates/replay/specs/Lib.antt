@@ -1,3 +1,2 @@
 pub mod Blocks
-pub mod Ends
 pub mod inner

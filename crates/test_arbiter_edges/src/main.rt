@@ -210,8 +210,8 @@ fn refused_handovers(board: Board, fresh: State) {
     complete(board, i, 0, 31);
 }
 
-// Clauses 4.6 to 4.8: the write in line holds before the read that is issued. A hold runs from the handover that granted
-// it to the one that ends it, and late is the completion's.
+// Clauses 4.6 to 4.8: the write in line holds before the read that is issued. A hold runs from the handover that
+// granted it to the one that ends it, and late is the completion's.
 fn handovers(board: Board, fresh: State) {
     let a = issue(board, fresh, 0, 0, 1);
     let b = issue(board, a, 1, 1, 2);
@@ -225,9 +225,9 @@ fn handovers(board: Board, fresh: State) {
     handover(board, i, 0, 2, LAST_TICK);
 }
 
-// Clause 4.10: a request for an entry that is not the plan's is none, holding counts before waiting, and a hold that would
-// run backwards is not late. A read that waits for nobody holds once anybody hands over, and of two writes that hold
-// together the other holds on.
+// Clause 4.10: a request for an entry that is not the plan's is none, holding counts before waiting, and a hold that
+// would run backwards is not late. A read that waits for nobody holds once anybody hands over, and of two writes that
+// hold together the other holds on.
 fn stray_handovers(board: Board, fresh: State) {
     let earlier = fresh.earlier;
     let mut entry = fresh.entry;

@@ -1,7 +1,7 @@
 // The edges of the list of the whole board, on a board of four processors: 33 bytes. Clauses 7.7 to 7.9.
+use board_queries::list_board;
 use encoding::Outcome;
 use libc::STDOUT_FILENO;
-use queries::list_board;
 use states::Board;
 use states::State;
 use states::Terms;

@@ -44,7 +44,7 @@ pub extern "C" fn bittmelon_read_figure(bytes: &[u8]) -> u32
     let read = plan_reader::read(bytes);
     let outcome = read.outcome;
     let plan = read.plan;
-    let figures = plans::figures_of(plan);
+    let figures = figures::figures_of(plan);
     figure_or_zero(outcome, figures.read)
 }
 
@@ -56,6 +56,6 @@ pub extern "C" fn bittmelon_write_figure(bytes: &[u8]) -> u32
     let read = plan_reader::read(bytes);
     let outcome = read.outcome;
     let plan = read.plan;
-    let figures = plans::figures_of(plan);
+    let figures = figures::figures_of(plan);
     figure_or_zero(outcome, figures.write)
 }

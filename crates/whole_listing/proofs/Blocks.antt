@@ -13,7 +13,7 @@ use Rattle.states.specs.declared.State.{State}
 use Rattle.logs.specs.Records.{recordSize}
 use Rattle.log_input.specs.Stages.{dueSize}
 use Rattle.replay.specs.Blocks.{Ran, ran, budget, lineRoom, goingOn}
-use Rattle.replay.specs.Ends.{endLine}
+use Rattle.log_ends.specs.Ends.{endLine}
 use Rattle.whole_listing.specs.Rooms.{blockRoom, linesRoom}
 use Rattle.whole_listing.specs.Arrivals.{together, Arrived, fed, waited, callThere, inBlocks}
 use Rattle.whole_listing.proofs.Waits.{Fed, fed-until-enough, after-wait, all-at-hand}

@@ -17,7 +17,7 @@ use Rattle.logs.specs.Records.{recordSize, fieldsIn, recordFault, tailFault}
 use Rattle.lines.specs.Lines.{refusalLine}
 use Rattle.log_input.specs.Stages.{dueSize}
 use Rattle.replay.specs.Blocks.{Ran, oneMore, ran, goingOn}
-use Rattle.replay.specs.Ends.{faultLine, endFault, endLine}
+use Rattle.log_ends.specs.Ends.{faultLine, endFault, endLine}
 use Rattle.replay.proofs.Records.{Found, found, lineIn, stateIn, ran-call, ran-refused}
 use Rattle.whole_listing.specs.Listing.{callsListing}
 use Rattle.whole_listing.specs.SoFar.{callsSoFar}

@@ -12,7 +12,7 @@ use Rattle.arbiter.specs.Fresh.{freshState, freshBoard}
 use Rattle.logs.specs.Records.{countSize, recordSize, readCount}
 use Rattle.log_input.specs.Stages.{isShort, dueSize}
 use Rattle.replay.specs.Blocks.{ran, budget, goingOn}
-use Rattle.replay.specs.Ends.{openingLine, countLine, endLine}
+use Rattle.log_ends.specs.Ends.{openingLine, countLine, endLine}
 use Rattle.whole_listing.specs.Rooms.{planRoom, blockRoom, linesRoom}
 
 -- The pieces of an input, one after the other.

@@ -13,7 +13,7 @@ use Rattle.logs.specs.Records.{countSize, recordSize, readCount, recordFault, t
 use Rattle.lines.specs.Lines.{refusalLine}
 use Rattle.listings.specs.Lines.{firstLine, callLine}
 use Rattle.replay.specs.Blocks.{callIn}
-use Rattle.replay.specs.Ends.{faultLine}
+use Rattle.log_ends.specs.Ends.{faultLine}
 
 -- Clauses 9.4 and 9.5: the lines of n calls in the bytes s. A record that is refused ends the listing, and the calls
 -- before it stay carried out. Behind the last call, 2 for a tail.

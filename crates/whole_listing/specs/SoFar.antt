@@ -15,7 +15,7 @@ use Rattle.lines.specs.Lines.{refusalLine}
 use Rattle.listings.specs.Lines.{firstLine, callLine}
 use Rattle.log_input.specs.Stages.{isShort}
 use Rattle.replay.specs.Blocks.{callIn}
-use Rattle.replay.specs.Ends.{faultLine}
+use Rattle.log_ends.specs.Ends.{faultLine}
 
 -- Some bytes begin with others.
 pub record Begins (whole front : List ℕ) : Type 0 where

@@ -5,7 +5,7 @@ use native.Mathlib.Omega.{arith}
 use borrow.Author.Needs.{needs}
 use lib.ListN.{length, take}
 use lib.Seq.{length-take-le}
-use Rattle.replay.specs.Ends.{endLine}
+use Rattle.log_ends.specs.Ends.{endLine}
 use Rattle.whole_listing.proofs.Ranges.{line-within, calls-left, calls-whole, lines-within}
 use Rattle.lockreplay.proofs.replay_calls.Statement.{statement}
 use Rattle.lockreplay.proofs.replay_calls.Tie as tie

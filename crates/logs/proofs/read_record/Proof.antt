@@ -33,7 +33,8 @@ returns-4 c =
 returns-5 : tie.Need-returns-5
 returns-5 c =
     let read = c .before .before .before .before in
-    a-handover _ (read .before .before .before .before .before .if1 .left) _ (read .read-number .ensures .0) (c .if5 .taken)
+    a-handover _ (read .before .before .before .before .before .if1 .left) _ (read .read-number .ensures .0)
+    (c .if5 .taken)
 
 returns-6 : tie.Need-returns-6
 returns-6 c =

@@ -9,7 +9,7 @@ use Rattle.states.specs.declared.Terms.{Terms}
 use Rattle.states.specs.declared.Board.{Board}
 use Rattle.states.specs.declared.State.{State}
 use Rattle.rules.specs.InPlace.{boardBy, stateBy}
-use Rattle.queries.specs.Queries.{waitsFor, reaches}
+use Rattle.queries.specs.Queries.{waitsFor}
 
 -- A board and a state of which the other parts play no part.
 abbrev pub boardWith : Terms → List ℕ → Board
@@ -18,9 +18,6 @@ boardWith terms rows = boardBy terms rows []
 abbrev pub stateWith : List ℕ → List ℕ → Phases → State
 stateWith entry earlier ph = stateBy (record { last = 0; phases = ph }) entry [] earlier
 
--- The direct waits of every processor, and all that each reaches.
+-- The direct waits of every processor.
 abbrev pub directRows : Board → State → List ℕ
 directRows b s = tabulate slots (λ p. maskOf slots (waitsFor b s p))
-
-abbrev pub reachedRows : Board → State → List ℕ
-reachedRows b s = tabulate slots (λ p. maskOf slots (reaches b s p))

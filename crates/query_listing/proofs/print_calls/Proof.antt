@@ -7,7 +7,7 @@ use lib.Dec.{eqb, ltb}
 use lib.ListN.{length, take}
 use lib.Seq.{length-take-le}
 use Rattle.logs.specs.Records.{recordSize}
-use Rattle.replay.specs.Ends.{endLine}
+use Rattle.log_ends.specs.Ends.{endLine}
 use Rattle.whole_listing.proofs.Ranges.{line-within}
 use Rattle.query_listing.proofs.print_calls.Statement.{statement}
 use Rattle.query_listing.proofs.print_calls.Tie as tie

@@ -3,7 +3,7 @@ use mathlib.Core.Path.{sym}
 use native.Mathlib.Omega.{arith}
 use lib.Seq.{length-take-le}
 use lib.ListN.{length, take}
-use Rattle.replay.specs.Ends.{countLine}
+use Rattle.log_ends.specs.Ends.{countLine}
 use Rattle.whole_listing.proofs.Ranges.{line-within}
 use borrow.Author.Needs.{needs}
 use Rattle.query_listing.proofs.print_rest.Statement.{statement}

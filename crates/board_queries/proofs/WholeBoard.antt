@@ -1,0 +1,60 @@
+-- The whole board: each processor's part is what the single queries answer for it, and the code's parts are those.
+-- Assumes nothing.
+use Prim.Native.Nat.{ℕ, suc, _+_, _*_, _≤_, _<_}
+use mathlib.Core.Path.{_≡_, refl, sym, ap, ap₂, _∙_}
+use mathlib.Core.List.{List}
+use native.Mathlib.Omega.{arith}
+use lib.ListN.{take, drop, getD}
+use borrow.Author.Tests.{lt-ltb}
+use Rattle.masks.specs.Sets.{maskOf}
+use Rattle.refusals.specs.Due.{said}
+use Rattle.plans.specs.Entries.{slots}
+use Rattle.conflicts.proofs.Tabulate.{getD-tabulate}
+use Rattle.settling.specs.declared.Phases.{Phases}
+use Rattle.states.specs.declared.Board.{Board}
+use Rattle.states.specs.declared.State.{State}
+use Rattle.states.specs.Faults.{processorFault}
+use Rattle.rules.specs.Calls.{phasesOf}
+use Rattle.wait_listing.specs.Listing.{entryIn, waitedIn, partBytes, partIn, partSize, listBytes, listBuffer}
+use Rattle.wait_listing.proofs.InTurn.{length-part, part-at}
+use Rattle.wait_listing.proofs.Stores.{list-agree}
+use Rattle.queries.specs.Queries.{stateNumber, phaseQuery, waitsFor, waitsQuery}
+use Rattle.board_queries.specs.WholeBoard.{listed, boardPart, boardBytes, boardBuffer}
+use Rattle.queries.specs.inner.Rows.{directRows}
+
+module _ (k : ℕ) (b : Board) (s : State) where
+  -- The part of p stands behind the count and the parts of those before it.
+  pub part-in-list : (p : ℕ) → p < listed b → take (partSize k) (drop (1 + partSize k * p) (boardBytes k b s)) ≡ boardPart k b s p
+  unfolding boardPart listBytes
+  part-in-list p l =
+      let place : 1 + partSize k * p ≡ suc (partSize k * p) = omega arith in
+      rw place (part-at (partSize k) (boardPart k b s) (λ q. length-part k _ _ _ _) (listed b) p l)
+
+  listed-counted : (p : ℕ) → p < listed b → processorFault (b .terms) p ≡ 0
+  listed-counted p l =
+      let slot : p < slots = omega arith in
+      let plans : p < b .terms .processors = omega arith in
+      rw (lt-ltb p slots slot, lt-ltb p (b .terms .processors) plans)
+
+  -- For a processor that is listed the single queries refuse nothing, and their answers are in its part.
+  pub part-is-queries : (p : ℕ) → p < listed b
+      → (phaseQuery b s p .number ≡ 0) × (waitsQuery b s p .number ≡ 0)
+      × (take (partSize k) (drop (1 + partSize k * p) (boardBytes k b s))
+      ≡ partBytes k (phaseQuery b s p .value) (entryIn (phasesOf b s) (s .entry) p) (waitedIn (phasesOf b s) (s .last) (s .since) p)
+      (waitsQuery b s p .value))
+  unfolding boardPart
+  part-is-queries p l =
+      let none = listed-counted p l in
+      (none, none, rw none (part-in-list p l))
+
+  -- The code's parts, by the phases that count and the direct waits of all.
+  module _ (ph : Phases) (waits : List ℕ) (counted : ph ≡ phasesOf b s) (direct : waits ≡ directRows b s) where
+    part-found : (p : ℕ) → p < listed b → partIn k ph (s .last) (s .entry) (s .since) waits p ≡ boardPart k b s p
+    unfolding partIn boardPart stateNumber
+    part-found p l =
+        let mask : getD waits p 0 ≡ maskOf slots (waitsFor b s p) =
+        ap (λ ws. getD ws p 0) direct ∙ getD-tabulate slots (λ q. maskOf slots (waitsFor b s q)) p 0 (omega arith) in
+        rw (mask, counted)
+
+    pub board-found : (buffer : List ℕ) → listBuffer k (listed b) (partIn k ph (s .last) (s .entry) (s .since) waits) buffer ≡ boardBuffer k b s buffer
+    board-found buffer = list-agree k (listed b) _ _ buffer part-found

@@ -1,0 +1,32 @@
+-- The conflict over a set of shared resources, and that there is one exactly where the set is not empty. Assumes nothing.
+use Prim.Native.Nat.{ℕ, _^_, _<_}
+use mathlib.Core.Path.{_≡_, refl, sym, ap, _∙_}
+use mathlib.Core.Bool.{Bool, true, false, cond, not}
+use native.Mathlib.Omega.{arith}
+use lib.Count.{trailingZeros, ones}
+use lib.Dec.{eqb}
+use borrow.Author.Tests.{ne-eqb}
+use Rattle.masks.specs.Sets.{bit}
+use Rattle.masks.proofs.Counts.{lowest-is, ones-are}
+use Rattle.plans.specs.Entries.{mostResources}
+use Rattle.sharing.specs.declared.Conflict.{Conflict}
+use Rattle.sharing.specs.Sharing.{Over, conflictSays, over}
+
+pub over-none : (set : ℕ) → set ≡ 0 → conflictSays Conflict.None ≡ over set
+unfolding over
+over-none set e = rw e
+
+pub over-some : (set : ℕ) → 0 < set → set < 2 ^ mostResources
+    → conflictSays (Conflict.Over (trailingZeros mostResources set) (ones set)) ≡ over set
+unfolding over
+over-some set some small =
+    rw (ne-eqb set 0 (λ e. omega (arith, e)), lowest-is mostResources set some small, ones-are mostResources set small)
+
+-- The number of one of two conflicts, none and one.
+which : (t : Bool) (none one : Over) → none .number ≡ 0 → one .number ≡ 1 → eqb (cond t none one .number) 1 ≡ not t
+which true none one e f = ap (λ (n : ℕ). eqb n 1) e
+which false none one e f = ap (λ (n : ℕ). eqb n 1) f
+
+pub over-is : (set : ℕ) → eqb (over set .number) 1 ≡ not (eqb set 0)
+unfolding over
+over-is set = which (eqb set 0) _ _ refl refl

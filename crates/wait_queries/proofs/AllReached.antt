@@ -1,0 +1,74 @@
+-- The rows through all processors are the reach of each, and as words they are the bytes of the scratch.
+-- Assumes nothing.
+use Prim.Native.Nat.{ℕ, _≤_, _<_}
+use mathlib.Core.Path.{_≡_, refl, sym, ap, _∙_}
+use mathlib.Core.Bool.{Bool, true, false}
+use mathlib.Core.List.{List}
+use native.Mathlib.Nat.{le-refl}
+use lib.ListN.{length, getD}
+use Rattle.masks.specs.Sets.{maskOf}
+use Rattle.masks.proofs.Masks.{mask-agree}
+use Rattle.encoding.specs.Buffers.{overwritten, bufferAfter}
+use Rattle.encoding.proofs.Room.{fits-room}
+use Rattle.plans.specs.Entries.{slots}
+use Rattle.conflicts.specs.Conflict.{tabulate}
+use Rattle.conflicts.proofs.Tabulate.{getD-tabulate, tabulate-agree}
+use Rattle.states.specs.declared.Board.{Board}
+use Rattle.states.specs.declared.State.{State}
+use Rattle.wait_listing.specs.Listing.{maskSize}
+use Rattle.reaching.specs.Rows.{rowsThrough, wordsScratch}
+use Rattle.reaching.proofs.Words.{words-agree}
+use Rattle.reaching.proofs.Through.{via, Path, step, over, rows-via, path-via, via-gives}
+use Rattle.queries.specs.Queries.{waitsFor, Chain, direct, through, reaches, scratchSize, reachBytes}
+use Rattle.queries.specs.inner.Rows.{directRows}
+use Rattle.wait_queries.proofs.Waits.{waits-below}
+use Rattle.wait_queries.proofs.Chains.{chain-reaches, reaches-chain}
+
+-- All that each processor reaches.
+abbrev pub reachedRows : Board → State → List ℕ
+reachedRows b s = tabulate slots (λ p. maskOf slots (reaches b s p))
+
+same-truth : (a b : Bool) → (a ≡ true → b ≡ true) → (b ≡ true → a ≡ true) → a ≡ b
+same-truth true b f g = sym (f refl)
+same-truth false true f g = g refl
+same-truth false false f g = refl
+
+module _ (b : Board) (s : State) where
+  chain-join : (p r q : ℕ) → Chain b s p r → Chain b s r q → Chain b s p q
+  chain-join p r q (direct e) d = through e d
+  chain-join p r q (through {r = x} e c) d = through e (chain-join x r q c d)
+
+  -- A chain passes only processors that a state holds.
+  chain-path : (p q : ℕ) → Chain b s p q → Path (waitsFor b s) slots p q
+  chain-path p q (direct e) = step e
+  chain-path p q (through {r = r} e c) = over e (waits-below b s p r e .1) (chain-path r q c)
+
+  via-reaches : (p q : ℕ) → via (waitsFor b s) slots p q ≡ reaches b s p q
+  via-reaches p q =
+      same-truth _ _
+      (λ e. chain-reaches b s p q (via-gives (waitsFor b s) (Chain b s) (λ x y. direct) chain-join slots p q e))
+      (λ e. path-via (waitsFor b s) slots p q (chain-path p q (reaches-chain b s p q e)))
+
+  pub rows-reached : (given rows : List ℕ) → given ≡ directRows b s → rows ≡ rowsThrough slots given
+      → rows ≡ reachedRows b s
+  rows-reached given rows are e =
+      e
+      ∙ ap (rowsThrough slots) are
+      ∙ rows-via (waitsFor b s) slots (le-refl slots)
+      ∙ tabulate-agree slots (λ p. maskOf slots (via (waitsFor b s) slots p)) (λ p. maskOf slots (reaches b s p))
+      (λ p l. mask-agree slots (via (waitsFor b s) slots p) (reaches b s p) (λ q m. via-reaches p q))
+
+  module _ (rows : List ℕ) (are : rows ≡ reachedRows b s) where
+    pub row-asked : (p : ℕ) → p < slots → getD rows p 0 ≡ maskOf slots (reaches b s p)
+    row-asked p l =
+        ap (λ (xs : List ℕ). getD xs p 0) are ∙ getD-tabulate slots (λ q. maskOf slots (reaches b s q)) p 0 l
+
+    -- What `write_rows` leaves in a scratch with room.
+    pub words-stored : (scratch after : List ℕ) → scratchSize ≤ length scratch
+        → after ≡ wordsScratch maskSize rows scratch
+        → after ≡ overwritten scratch 0 (reachBytes b s)
+    unfolding reachBytes
+    words-stored scratch after room stored =
+        let words = words-agree maskSize slots (λ p. getD rows p 0) (λ p. maskOf slots (reaches b s p)) row-asked in
+        rw (fits-room scratchSize (length scratch) 0 room) at stored
+        ∙ ap (λ (bytes : List ℕ). overwritten scratch 0 bytes) words

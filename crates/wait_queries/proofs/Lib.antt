@@ -1,0 +1,4 @@
+pub mod Growing
+pub mod Waits
+pub mod Chains
+pub mod AllReached

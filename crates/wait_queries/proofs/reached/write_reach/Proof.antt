@@ -1,0 +1,26 @@
+-- `write_reach` meets its contract: the rows through all processors, as words. Assumes nothing.
+use Rattle.wait_queries.proofs.AllReached.{rows-reached, row-asked, words-stored}
+use borrow.Author.Needs.{needs}
+use Rattle.wait_queries.proofs.reached.write_reach.Statement.{statement}
+use Rattle.wait_queries.proofs.reached.write_reach.Tie as tie
+
+returns : tie.Need-returns
+returns c =
+    let stored = c .before .before in
+    let rows = stored .before .before in
+    let start = rows .before .before in (
+      λ b s are. row-asked b s _ (rows-reached b s _ _ are (rows .reach-rows .ensures)) _ (start .pre .0),
+      λ b s are. words-stored b s _ (rows-reached b s _ _ are (rows .reach-rows .ensures)) _ _ (start .pre .1)
+          (stored .write-rows .ensures .1),
+    )
+
+pub write-reach-spec : {M : Type 1} → statement M
+write-reach-spec =
+    tie.close
+    (tie.spec
+    (λ c κs. search needs)
+    (λ c κs. search needs)
+    (λ c. search needs)
+    (λ c. search needs)
+    (λ c. search needs)
+    returns)

@@ -1,0 +1,76 @@
+// Direct waits. The functions take the parts of a board and a state; the query hands them over. Specification, clause
+// 7.2.
+use plans::ENTRIES;
+use plans::SLOTS;
+use queries::MaskAnswer;
+use queries::check_processor;
+use refusals::Verdict;
+use settling::Phases;
+use states::Board;
+use states::State;
+use states::Terms;
+use states::clean;
+use waiting::waits_of;
+use waiting::waits_of_all;
+ghost use mathlib.Core.Path.{_≡_};
+ghost use Rattle.queries.specs.Queries.{maskSays, waitsQuery};
+ghost use Rattle.queries.specs.inner.Rows.{boardWith, stateWith, directRows};
+
+// The direct waits of every processor.
+pub fn direct_rows(
+    terms: Terms,
+    rows: &[u64; ENTRIES],
+    entry: &[u8; SLOTS],
+    earlier: &[u32; SLOTS],
+    phases: Phases,
+) -> [u32; SLOTS]
+    ensures { λ r. ⌜ r ≡ directRows
+        (boardWith terms (now (rows .entry)))
+        (stateWith (now (entry .entry)) (now (earlier .entry)) phases) ⌝ }
+{
+    let counted = clean(terms, *entry, phases);
+    waits_of_all(rows, terms.writes, entry, earlier, counted)
+}
+
+// The direct waits of one processor. Refuses by 11.
+fn direct_row(
+    terms: Terms,
+    rows: &[u64; ENTRIES],
+    entry: &[u8; SLOTS],
+    earlier: &[u32; SLOTS],
+    phases: Phases,
+    processor: u8,
+) -> MaskAnswer
+    ensures { λ r. ⌜ maskSays r ≡ waitsQuery
+        (boardWith terms (now (rows .entry)))
+        (stateWith (now (entry .entry)) (now (earlier .entry)) phases)
+        processor ⌝ }
+{
+    let verdict = check_processor(terms, processor);
+    let counted = clean(terms, *entry, phases);
+    match verdict {
+        Verdict::Accepted => {
+            MaskAnswer::Mask(waits_of(
+                rows,
+                terms.writes,
+                entry,
+                earlier,
+                counted,
+                processor as u32,
+            ))
+        }
+        Verdict::Refused(refusal) => MaskAnswer::Refused(refusal),
+    }
+}
+
+// The direct waits of a processor, a mask. Refuses by 11.
+pub fn direct_waits(board: Board, state: State, processor: u8) -> MaskAnswer
+    ensures { λ r. ⌜ maskSays r ≡ waitsQuery board state processor ⌝ }
+{
+    let terms = board.terms;
+    let rows = board.rows;
+    let entry = state.entry;
+    let earlier = state.earlier;
+    let phases = state.phases;
+    direct_row(terms, &rows, &entry, &earlier, phases, processor)
+}

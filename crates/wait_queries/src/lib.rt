@@ -1,0 +1,6 @@
+// For whom a processor waits: directly, and by a chain of direct waits. Nothing is changed.
+mod direct;
+mod reached;
+
+pub use direct::direct_waits;
+pub use reached::reach;

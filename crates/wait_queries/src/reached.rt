@@ -1,0 +1,76 @@
+// Reach, from the direct waits of all. Specification, clauses 7.3 and 7.4.
+use crate::direct::direct_rows;
+use encoding::check_room;
+use plans::SLOTS;
+use queries::MaskAnswer;
+use queries::check_processor;
+use reaching::ROOM;
+use reaching::reach_rows;
+use reaching::write_rows;
+use refusals::Verdict;
+use refusals::first_of;
+use states::Board;
+use states::State;
+use states::Terms;
+ghost use mathlib.Core.Path.{_≡_};
+ghost use Prim.Native.Nat.{_<_, _≤_};
+ghost use lib.ListN.{length};
+ghost use Rattle.masks.specs.Sets.{maskOf};
+ghost use Rattle.refusals.specs.Number.{verdictNumber};
+ghost use Rattle.refusals.specs.Due.{firstOf};
+ghost use Rattle.encoding.specs.Buffers.{roomFault, overwritten};
+ghost use Rattle.plans.specs.Entries.{slots};
+ghost use Rattle.states.specs.Faults.{processorFault};
+ghost use Rattle.queries.specs.Queries.{maskSays, reaches, scratchSize, reachBytes, reachQuery, reachScratch};
+ghost use Rattle.queries.specs.inner.Rows.{directRows};
+
+// Refuses by 11, then by 16 a scratch that is too short.
+fn check_reach(terms: Terms, processor: u8, size: usize) -> Verdict
+    ensures { λ r. ⌜ verdictNumber r ≡ firstOf (processorFault terms processor) (roomFault scratchSize size 0) ⌝ }
+{
+    let counted = check_processor(terms, processor);
+    let room = check_room(ROOM, size, 0);
+    first_of(counted, room)
+}
+
+// Writes the rows of all processors into the scratch and answers the one asked for.
+fn write_reach(direct: [u32; SLOTS], processor: u8, scratch: &mut [u8]) -> u32
+    requires { ⌜ (processor < slots) × (scratchSize ≤ length (now scratch)) ⌝ }
+    ensures mask { λ r. ⌜ ((b : Board) (s : State) → direct ≡ directRows b s
+        → r ≡ maskOf slots (reaches b s processor)) ⌝ }
+    ensures stored { λ _. ⌜ ((b : Board) (s : State) → direct ≡ directRows b s
+        → now (scratch .exit) ≡ overwritten (now (scratch .entry)) 0 (reachBytes b s)) ⌝ }
+{
+    let rows = reach_rows(direct);
+    write_rows(rows, scratch);
+    rows[processor as usize]
+}
+
+// All that a processor reaches, from the direct waits of all. Refuses by 11, then by 16.
+fn reach_from(terms: Terms, direct: [u32; SLOTS], processor: u8, scratch: &mut [u8]) -> MaskAnswer
+    ensures mask { λ r. ⌜ ((b : Board) (s : State) → terms ≡ b .terms → direct ≡ directRows b s
+        → maskSays r ≡ reachQuery b s processor (now (scratch .entry))) ⌝ }
+    ensures stored { λ _. ⌜ ((b : Board) (s : State) → terms ≡ b .terms → direct ≡ directRows b s
+        → now (scratch .exit) ≡ reachScratch b s processor (now (scratch .entry))) ⌝ }
+{
+    let verdict = check_reach(terms, processor, scratch.len());
+    match verdict {
+        Verdict::Accepted => MaskAnswer::Mask(write_reach(direct, processor, scratch)),
+        Verdict::Refused(refusal) => MaskAnswer::Refused(refusal),
+    }
+}
+
+// Clause 7.3: all that a processor reaches, a mask. The scratch is left with a word for each processor, and bytes
+// behind those stay. Refuses by 11, then by 16; a refusal writes nothing.
+pub fn reach(board: Board, state: State, processor: u8, scratch: &mut [u8]) -> MaskAnswer
+    ensures mask { λ r. ⌜ maskSays r ≡ reachQuery board state processor (now (scratch .entry)) ⌝ }
+    ensures stored { λ _. ⌜ now (scratch .exit) ≡ reachScratch board state processor (now (scratch .entry)) ⌝ }
+{
+    let terms = board.terms;
+    let rows = board.rows;
+    let entry = state.entry;
+    let earlier = state.earlier;
+    let phases = state.phases;
+    let direct = direct_rows(terms, &rows, &entry, &earlier, phases);
+    reach_from(terms, direct, processor, scratch)
+}
