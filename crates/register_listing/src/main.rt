@@ -2,9 +2,11 @@
 // offset, and the value, which is 0 for a read. Prints a line for each: `r OFFSET VALUE` or `w OFFSET VALUE`, with
 // `refused 18` where it is, and the bytes of the block after it. It ends at the end of the input, or at what is no
 // operation. A test program: its output is compared with another's.
+mod driver;
 mod text;
 
-use commands::write;
+use driver::read_lent;
+use driver::write_lent;
 use encoding::Outcome;
 use encoding::byte_at;
 use fronts::bring_to_front;
@@ -19,7 +21,6 @@ use refusals::Verdict;
 use registers::BLOCK;
 use registers::Block;
 use registers::ReadAnswer;
-use registers::read;
 use states::Board;
 use states::State;
 use states::Terms;
@@ -128,7 +129,7 @@ fn operate(
         };
     }
     if kind == 0 {
-        print_read(offset, read(block, offset), block);
+        print_read(offset, read_lent(block, offset), block);
         return Turn {
             block: block,
             state: state,
@@ -136,7 +137,7 @@ fn operate(
             more: true,
         };
     }
-    let change = write(terms, rows, lengths, state, block, offset, value);
+    let change = write_lent(terms, rows, lengths, state, block, offset, value);
     let written = change.written;
     let verdict = written.verdict;
     let after = change.block;
