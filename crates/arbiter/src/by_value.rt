@@ -1,6 +1,6 @@
 // Calls on a board and a state by value: the state goes in, and comes back with the answer.
 use crate::Answered;
-use acting::answer_in_place;
+use answering::answer_in_place;
 use calls::Call;
 use plans::ENTRIES;
 use settling::Phases;

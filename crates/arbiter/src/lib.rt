@@ -1,6 +1,6 @@
 // The arbiter: a board made once from an accepted plan, and a state that goes in by value and comes back.
-// Every core's call goes through `answer`; the reply says who began to hold. `issue`, `complete` and `withdraw` are the
-// same by name. The crate `acting` has the same calls on the arrays of a state that the caller lends: no copies.
+// Every core's call goes through `answer`; the reply says who began to hold. `issue`, `complete`, `withdraw` and `handover`
+// are the same by name. The crates `acting`, `handing_over` and `answering` have the calls on lent arrays: no copies.
 mod boards;
 mod by_value;
 

@@ -73,7 +73,7 @@ fn sum_from(board: Board, full: State, turns: u64) -> u64
         seed = next(seed);
         let p = holder_from(moment.phases.holding, (seed / 65536 % 16) as u32) as u8;
         let e = (seed / 1048576 % 64) as u8;
-        let handed = acting::handover_in_place(
+        let handed = handing_over::handover_in_place(
             terms,
             &rows,
             &lengths,

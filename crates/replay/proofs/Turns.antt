@@ -13,7 +13,7 @@ use Rattle.states.specs.declared.Board.{Board}
 use Rattle.states.specs.declared.State.{State}
 use Rattle.rules.specs.Calls.{answered}
 use Rattle.rules.specs.InPlace.{boardBy}
-use Rattle.acting.proofs.Verdicts.{call-reads}
+use Rattle.answers.proofs.Verdicts.{call-reads}
 use Rattle.logs.specs.Records.{recordSize}
 use Rattle.replay.specs.Blocks.{callIn, Ran, ran}
 use Rattle.replay.proofs.Records.{Found, found, stopped, ran-call, ran-refused, one-call}

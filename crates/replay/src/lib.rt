@@ -1,7 +1,7 @@
 // The calls of a log to their lines, block by block: what `lockreplay` does between reading and writing. The bytes of a
 // log come in blocks of any size, and each block's lines go into a lent buffer. `log_ends` has the lines before and after
 // the calls.
-use acting::answer_in_place;
+use answering::answer_in_place;
 use digits::hex_pairs;
 use encoding::Outcome;
 use listings::call_line_by;

@@ -1,7 +1,7 @@
 -- `answer` meets its contract: it is the call on the parts of a board. Assumes nothing.
 use mathlib.Core.Path.{_∙_}
 use borrow.Author.Needs.{needs}
-use Rattle.acting.proofs.Verdicts.{call-reads}
+use Rattle.answers.proofs.Verdicts.{call-reads}
 use Rattle.arbiter.proofs.by_value.answer.Statement.{statement}
 use Rattle.arbiter.proofs.by_value.answer.Tie as tie
 

@@ -1,9 +1,9 @@
 -- `issue_in_place` meets its contract, put together from its parts. Assumes nothing.
 use mathlib.Core.Path.{_∙_}
 use borrow.Author.Needs.{needs}
-use Rattle.acting.proofs.Verdicts.{issue-refused, issue-done}
-use Rattle.acting.proofs.in_place.issue_in_place.Statement.{statement}
-use Rattle.acting.proofs.in_place.issue_in_place.Tie as tie
+use Rattle.answers.proofs.Verdicts.{issue-refused, issue-done}
+use Rattle.acting.proofs.issue_in_place.Statement.{statement}
+use Rattle.acting.proofs.issue_in_place.Tie as tie
 
 returns : tie.Need-returns
 returns c =

@@ -2,8 +2,8 @@
 use mathlib.Core.Path.{sym, ap, _∙_}
 use borrow.Author.Needs.{needs}
 use Rattle.rules.specs.Calls.{putState, takenState, settledDone, left, issued, withdrawn, answered}
-use Rattle.acting.proofs.any_call.answer_in_place.Statement.{statement}
-use Rattle.acting.proofs.any_call.answer_in_place.Tie as tie
+use Rattle.answering.proofs.answer_in_place.Statement.{statement}
+use Rattle.answering.proofs.answer_in_place.Tie as tie
 
 returns : tie.Need-returns
 unfolding putState settledDone issued

@@ -1,11 +1,11 @@
 // A completion and an issue in one call, on the arrays of a state, in place. Specification, clauses 4.4 to 4.8.
-use crate::answers::accepted;
-use crate::answers::refused;
 use acts::enter;
 use acts::late_mark;
 use acts::leave;
 use acts::length_at;
 use acts::merge;
+use answers::accepted;
+use answers::refused;
 use placing::put_last;
 use plans::ENTRIES;
 use plans::SLOTS;

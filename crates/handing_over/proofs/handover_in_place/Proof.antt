@@ -4,9 +4,9 @@ use mathlib.Core.Path.{_∙_}
 use Prim.Native.Nat.{_<_}
 use borrow.Author.Needs.{needs}
 use Rattle.plans.specs.Entries.{slots}
-use Rattle.acting.proofs.Verdicts.{handover-refused, handover-counted, handover-done}
-use Rattle.acting.proofs.handovers.handover_in_place.Statement.{statement}
-use Rattle.acting.proofs.handovers.handover_in_place.Tie as tie
+use Rattle.answers.proofs.Verdicts.{handover-refused, handover-counted, handover-done}
+use Rattle.handing_over.proofs.handover_in_place.Statement.{statement}
+use Rattle.handing_over.proofs.handover_in_place.Tie as tie
 
 -- An accepted handover's processor is one of those that a state holds.
 counted : (c : tie.After-enum-told) → c .before .before .before .before .before .before .args .processor < slots

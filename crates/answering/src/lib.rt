@@ -1,9 +1,9 @@
 // Any call on the arrays of a state, in place.
-use crate::handovers::handover_in_place;
-use crate::in_place::complete_in_place;
-use crate::in_place::issue_in_place;
-use crate::in_place::withdraw_in_place;
+use acting::complete_in_place;
+use acting::issue_in_place;
+use acting::withdraw_in_place;
 use calls::Call;
+use handing_over::handover_in_place;
 use plans::ENTRIES;
 use plans::SLOTS;
 use rules::Changed;
