@@ -37,7 +37,8 @@ enum bittmelon_refusal {
     BITTMELON_IDLE = 14,       /* idle: a completion, a withdrawal or a handover with no active request */
     BITTMELON_UNHELD = 15,     /* unheld: a completion or a handover while the request does not hold */
     BITTMELON_ROOM = 16,       /* room: a buffer or a scratch that is too short */
-    BITTMELON_HELD = 17        /* held: a withdrawal of a request that holds */
+    BITTMELON_HELD = 17,       /* held: a withdrawal of a request that holds */
+    BITTMELON_REGISTER = 18    /* register: an offset that is not listed or may not be written, or a command above 4 */
 };
 
 /* The number of the first fault in the order of the bytes, or 0. */

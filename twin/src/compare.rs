@@ -2,6 +2,7 @@
 use crate::conflicts;
 use crate::listing::listing;
 use crate::logs;
+use crate::registers;
 use std::fs;
 use std::io::Write;
 use std::process::{Command, Stdio};
@@ -23,6 +24,7 @@ fn differs(program: &str, kind: &str, seed: u64, folder: &str) -> bool {
     let (input, mut want) = (input_of(kind, seed), Vec::new());
     match kind {
         "conflicts" => conflicts::listing(&input, &mut want),
+        "registers" => drop(registers::listing(&input, &mut want)),
         _ => listing(&input, kind == "queries", &mut want),
     }
     let fine = output_of(program, &input) == want;
@@ -34,10 +36,12 @@ fn differs(program: &str, kind: &str, seed: u64, folder: &str) -> bool {
     !fine
 }
 
-/// A log; with all queries after each call a short one; for the conflicts of a plan what the log begins with, damaged or not.
+/// A log; with all queries after each call a short one; for the conflicts of a plan what the log begins with, damaged or not;
+/// for registers a plan and operations.
 fn input_of(kind: &str, seed: u64) -> Vec<u8> {
     match kind {
         "replay" => logs::log(seed),
+        "registers" => registers::stream(seed),
         _ => logs::short(seed),
     }
 }

@@ -151,7 +151,7 @@ pub fn hostile(r: &mut Random, plan: &Plan, count: usize, also: Also) -> Vec<Cal
     }
 }
 
-fn damaged(r: &mut Random, mut bytes: Vec<u8>) -> Vec<u8> {
+pub fn damaged(r: &mut Random, mut bytes: Vec<u8>) -> Vec<u8> {
     for _ in 0..r.within(1, 4) {
         if bytes.is_empty() {
             break;

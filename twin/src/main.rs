@@ -1,11 +1,14 @@
 //! A second implementation of the specification, as plain as can be: requests are a list in order of issue, and
 //! resources are sets. It shares no code or table with the library.
 //!
-//! twin replay | queries | viewer | conflicts    a log or a plan on standard input
+//! twin replay | queries | viewer | conflicts | registers    a log, a plan, or a plan and operations on standard input
 //! twin measure LOG LISTING                  the longest waits of a listing against the plan's figures
 //! twin compare PROGRAM FROM COUNT DIR       seeded logs through a program and the twin, byte for byte
 //! twin compare-queries PROGRAM FROM COUNT DIR
 //! twin compare-conflicts PROGRAM FROM COUNT DIR
+//! twin compare-registers PROGRAM FROM COUNT DIR
+//! twin covered FROM COUNT                   whether these streams of register operations meet every case
+//! twin stream SEED COUNT                    writes a stream of so many register operations
 //! twin waits PROGRAM COUNT                  hostile logs through a program: no wait passes its figure, and how near they come
 //! twin log SEED                             writes one of the seeded logs
 //! twin calls BUSY TURNS | handovers BUSY TURNS | plans TURNS
@@ -18,6 +21,7 @@ mod logs;
 mod measure;
 mod plan;
 mod random;
+mod registers;
 mod speed;
 mod waits;
 
@@ -73,6 +77,16 @@ fn main() -> io::Result<()> {
             conflicts::listing(&stdin_bytes(), &mut out);
             true
         }
+        ["registers"] => {
+            registers::listing(&stdin_bytes(), &mut out);
+            true
+        }
+        ["covered", from, count] => {
+            let missing = registers::missing(number(from), number(count));
+            missing.iter().for_each(|name| println!("no stream has: {name}"));
+            missing.is_empty()
+        }
+        ["stream", seed, count] => out.write_all(&registers::stream_of(number(seed), number(count) as usize)).is_ok(),
         ["calls", busy, turns] => writeln!(out, "{}", speed::calls(number(busy) as u8, number(turns), false)).is_ok(),
         ["handovers", busy, turns] => writeln!(out, "{}", speed::calls(number(busy) as u8, number(turns), true)).is_ok(),
         ["plans", turns] => writeln!(out, "{}", speed::plans(number(turns))).is_ok(),
@@ -81,6 +95,7 @@ fn main() -> io::Result<()> {
         ["compare", program, from, count, dir] => compare::compare(program, "replay", number(from), number(count), dir),
         ["compare-queries", program, from, count, dir] => compare::compare(program, "queries", number(from), number(count), dir),
         ["compare-conflicts", program, from, count, dir] => compare::compare(program, "conflicts", number(from), number(count), dir),
+        ["compare-registers", program, from, count, dir] => compare::compare(program, "registers", number(from), number(count), dir),
         ["waits", program, count] => waits::waits(program, number(count)),
         _ => {
             eprintln!("usage: see the head of twin/src/main.rs");

@@ -1,12 +1,13 @@
 -- The three demands, each with the definitions that say it and the theorem or promise that meets it. Assumes nothing.
 -- Theorems that stand elsewhere and are passed on from here: the round trips of demand 2, what a handover does, demand 3,
--- freedom from deadlock, and what the list of the whole board has of each processor.
+-- freedom from deadlock, what the list of the whole board has of each processor, and runs of steps on a register block.
 pub use Rattle.plans.proofs.RoundTrip.{written-in-buffer, written-back}
 pub use Rattle.runs.proofs.Handover.{leaves-what-both-leave, grants-of-both, entitlements-of-both}
 pub use Rattle.demands.proofs.Handover.{handover-grants, handover-entitles}
 pub use Rattle.runs.proofs.refinement.WholeRuns.{whole-runs}
 pub use Rattle.freedom.proofs.Freedom.{no-deadlock}
 pub use Rattle.board_queries.proofs.WholeBoard.{part-is-queries}
+pub use Rattle.register_runs.proofs.Runs.{pending-are-grants, grant-stays, line-is-right, calls-of-run, register-runs}
 use Prim.Native.Nat.{ℕ, _<_}
 use mathlib.Core.Path.{_≡_, refl, _∙_}
 use mathlib.Core.List.{List}
@@ -56,6 +57,9 @@ use Rattle.logs.specs.Records.{fieldsIn, noFields, recordFault, readRecord}
 --   board_queries::list_board      outcomeSays r ≡ boardQuery .. board buffer, and the buffer after it ≡ boardBuffer .. board state buffer
 --   board_queries::list_board_in_place  the same, of the board and the state that it was lent
 --   contention::shared_by    sharedSays r ≡ sharedQuery board first second; what that is on a plan's board, Contention.antt says
+--   registers::read          readSays r ≡ registerRead block offset (register_block::read_register the same, of the block it is lent)
+--   commands::write          changeSays r ≡ registerWrite board state block offset value, in which a refused command changes
+--                            offset 3 alone (register_block::write_register: writeSays r and the block after it ≡ registerWrite ..)
 --   logs::read_count         countSays r ≡ readCount bytes
 --   logs::read_record        recordSays r ≡ readRecord bytes
 --   logs::check_tail         verdictNumber r ≡ tailFault bytes
@@ -186,4 +190,5 @@ accepted-record-is-read s ok = rw ok
 -- were written) and written-back (a plan that was read is written as the bytes that it was read from), above.
 
 -- Demand 3, of whole lists of calls: whole-runs, above, is the claim `WholeRuns` of runs/specs/Claim.antt, over the answers of
--- `answered`, for every accepted plan and every list of calls. Beyond the three, no-deadlock: nobody waits in a circle.
+-- `answered`, for every accepted plan and every list of calls. Beyond the three, no-deadlock: nobody waits in a circle. The
+-- commands of a register block and the calls past it are such a list: register-runs.

@@ -7,7 +7,7 @@ use native.Mathlib.Omega.{arith}
 use lib.Dec.{eqb, lit<, eqb·suc-zero}
 use borrow.Author.Tests.{ne-eqb}
 use Rattle.refusals.specs.declared.Refusal.{Refusal}
-use Rattle.refusals.specs.declared.Refusal.the-variants.{Short, Tail, Processors, Resources, Entries, Kind, Set, Length, Verb, Tick, Processor, Entry, Busy, Idle, Unheld, Room, Held}
+use Rattle.refusals.specs.declared.Refusal.the-variants.{Short, Tail, Processors, Resources, Entries, Kind, Set, Length, Verb, Tick, Processor, Entry, Busy, Idle, Unheld, Room, Held, Register}
 use Rattle.refusals.specs.declared.Verdict.{Verdict}
 use Rattle.refusals.specs.Number.{numberOf, verdictNumber}
 use Rattle.refusals.specs.Due.{due, firstOf, said}
@@ -32,6 +32,7 @@ number-positive Idle = lit< tt
 number-positive Unheld = lit< tt
 number-positive Room = lit< tt
 number-positive Held = lit< tt
+number-positive Register = lit< tt
 
 pub positive-not-zero : (n : ℕ) → 0 < n → eqb n 0 ≡ false
 positive-not-zero n h = ne-eqb n 0 (λ e. omega arith)

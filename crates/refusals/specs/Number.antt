@@ -1,7 +1,7 @@
 -- The numbers of the words of refusal. Specification, section 8.
 use Prim.Native.Nat.{ℕ}
 use Rattle.refusals.specs.declared.Refusal.{Refusal}
-use Rattle.refusals.specs.declared.Refusal.the-variants.{Short, Tail, Processors, Resources, Entries, Kind, Set, Length, Verb, Tick, Processor, Entry, Busy, Idle, Unheld, Room, Held}
+use Rattle.refusals.specs.declared.Refusal.the-variants.{Short, Tail, Processors, Resources, Entries, Kind, Set, Length, Verb, Tick, Processor, Entry, Busy, Idle, Unheld, Room, Held, Register}
 use Rattle.refusals.specs.declared.Verdict.{Verdict}
 
 -- Clause 8.1: one number for each word of the table.
@@ -23,6 +23,7 @@ numberOf Idle = 14
 numberOf Unheld = 15
 numberOf Room = 16
 numberOf Held = 17
+numberOf Register = 18
 
 -- A verdict in numbers: 0 if accepted, else the refusal's number.
 abbrev pub verdictNumber : Verdict → ℕ

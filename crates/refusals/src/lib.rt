@@ -38,6 +38,8 @@ pub enum Refusal {
     Room,
     // A withdrawal of a request that holds.
     Held,
+    // An offset that is not listed, one that may not be written, or a command above 4.
+    Register,
 }
 
 // Whether something is taken: a plan, an entry, a record, a call.
@@ -68,6 +70,7 @@ pub fn number(refusal: Refusal) -> u8
         Refusal::Unheld => 15,
         Refusal::Room => 16,
         Refusal::Held => 17,
+        Refusal::Register => 18,
     }
 }
 

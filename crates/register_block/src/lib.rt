@@ -1,0 +1,39 @@
+// The register block as a driver knows it: it lends its block and finds the change in it. Each function takes the block
+// apart, calls the one by value, and puts the block back. The arbiter's state goes in by value and comes back.
+use commands::Written;
+use commands::write;
+use plans::ENTRIES;
+use registers::Block;
+use registers::ReadAnswer;
+use registers::read;
+use states::State;
+use states::Terms;
+ghost use mathlib.Core.Path.{_≡_};
+ghost use Rattle.rules.specs.InPlace.{boardBy};
+ghost use Rattle.registers.specs.Registers.{registerRead, readSays};
+ghost use Rattle.commands.specs.Commands.{registerWrite, writeSays};
+
+// Reads an offset of the block. Refused by 18.
+pub fn read_register(block: &Block, offset: u8) -> ReadAnswer
+    ensures { λ r. ⌜ readSays r ≡ registerRead (now (block .entry)) offset ⌝ }
+{
+    read(*block, offset)
+}
+
+// Writes a byte to an offset of the block. Refused by 18; then block and state stay as they were.
+pub fn write_register(
+    block: &mut Block,
+    terms: Terms,
+    rows: &[u64; ENTRIES],
+    lengths: &[u16; ENTRIES],
+    state: State,
+    offset: u8,
+    value: u8,
+) -> Written
+    ensures { λ r. ⌜ writeSays r (now (block .exit))
+        ≡ registerWrite (boardBy terms (now (rows .entry)) (now (lengths .entry))) state (now (block .entry)) offset value ⌝ }
+{
+    let change = write(terms, rows, lengths, state, *block, offset, value);
+    *block = change.block;
+    change.written
+}

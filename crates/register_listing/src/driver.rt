@@ -1,0 +1,40 @@
+// A driver's own block, lent to the functions that read and write it.
+use commands::Change;
+use plans::ENTRIES;
+use register_block::read_register;
+use register_block::write_register;
+use registers::Block;
+use registers::ReadAnswer;
+use states::State;
+use states::Terms;
+ghost use mathlib.Core.Path.{_≡_};
+ghost use Rattle.rules.specs.InPlace.{boardBy};
+ghost use Rattle.registers.specs.Registers.{registerRead, readSays};
+ghost use Rattle.commands.specs.Commands.{registerWrite, changeSays};
+
+pub fn write_lent(
+    terms: Terms,
+    rows: &[u64; ENTRIES],
+    lengths: &[u16; ENTRIES],
+    state: State,
+    block: Block,
+    offset: u8,
+    value: u8,
+) -> Change
+    ensures { λ r. ⌜ changeSays r
+        ≡ registerWrite (boardBy terms (now (rows .entry)) (now (lengths .entry))) state block offset value ⌝ }
+{
+    let mut kept = block;
+    let written = write_register(&mut kept, terms, rows, lengths, state, offset, value);
+    Change {
+        block: kept,
+        written: written,
+    }
+}
+
+pub fn read_lent(block: Block, offset: u8) -> ReadAnswer
+    ensures { λ r. ⌜ readSays r ≡ registerRead block offset ⌝ }
+{
+    let kept = block;
+    read_register(&kept, offset)
+}

@@ -1,0 +1,127 @@
+-- The register block: what stands at which offset, what a read gives, and what a write that is no command leaves.
+-- Specification, section 10.
+use Prim.Native.Nat.{ℕ}
+use mathlib.Core.Bool.{Bool, cond, not, _&&_, _||_}
+use mathlib.Core.List.{List}
+use lib.Dec.{eqb, leb}
+use lib.ListN.{getD, set}
+use lib.Seq.{slice}
+use Rattle.masks.specs.Sets.{bit, some, maskOf}
+use Rattle.refusals.specs.Number.{numberOf}
+use Rattle.refusals.specs.Due.{Said, said}
+use Rattle.encoding.specs.Numbers.{number}
+use Rattle.registers.specs.declared.Register.{Register}
+use Rattle.registers.specs.declared.Register.the-variants.{Command, Argument, Answer, Pending, Enabled, Line, Unlisted}
+use Rattle.registers.specs.declared.Block.{Block}
+use Rattle.registers.specs.declared.ReadAnswer.{ReadAnswer}
+
+abbrev between : ℕ → ℕ → ℕ → Bool
+between first last offset = leb first offset && leb offset last
+
+-- Clause 10.2: 0 is the command; 1 the processor, 2 the entry and 4 to 8 the tick are its arguments; 3 the last refusal,
+-- 9 late, 12 to 15 granted and 16 to 19 entitled are its answer; 20 to 23 are pending, 24 to 27 enabled, 28 the line. No
+-- other offset is listed.
+unfoldable pub registerAt : ℕ → Register
+registerAt offset =
+    cond (eqb offset 0) Command
+    (cond (between 1 2 offset || between 4 8 offset) Argument
+    (cond (eqb offset 3 || (eqb offset 9 || between 12 19 offset)) Answer
+    (cond (between 20 23 offset) Pending (cond (between 24 27 offset) Enabled (cond (eqb offset 28) Line Unlisted)))))
+
+-- Clause 10.2: the numbers in the registers, low byte first, of a block's bytes.
+abbrev pub processorIn : List ℕ → ℕ
+processorIn bytes = getD bytes 1 0
+
+abbrev pub entryIn : List ℕ → ℕ
+entryIn bytes = getD bytes 2 0
+
+abbrev pub refusalIn : List ℕ → ℕ
+refusalIn bytes = getD bytes 3 0
+
+abbrev pub tickIn : List ℕ → ℕ
+tickIn bytes = number (slice 4 9 bytes)
+
+abbrev pub lateIn : List ℕ → ℕ
+lateIn bytes = getD bytes 9 0
+
+abbrev pub grantedIn : List ℕ → ℕ
+grantedIn bytes = number (slice 12 16 bytes)
+
+abbrev pub entitledIn : List ℕ → ℕ
+entitledIn bytes = number (slice 16 20 bytes)
+
+abbrev pub pendingIn : List ℕ → ℕ
+pendingIn bytes = number (slice 20 24 bytes)
+
+abbrev pub enabledIn : List ℕ → ℕ
+enabledIn bytes = number (slice 24 28 bytes)
+
+-- Clause 10.3: some bit is both pending and enabled.
+unfoldable pub raised : List ℕ → Bool
+raised bytes = some 32 (λ p. bit (pendingIn bytes) p && bit (enabledIn bytes) p)
+
+-- Clause 10.3: the line is 1 where it is raised, else 0.
+abbrev pub lineOf : List ℕ → ℕ
+lineOf bytes = cond (raised bytes) 1 0
+
+-- Clause 10.3: the block of these bytes with its line at offset 28.
+unfoldable pub withLine : List ℕ → Block
+withLine bytes = record { bytes = set bytes 28 (lineOf bytes) }
+
+-- Clause 10.4: 18 for a read of an offset that is not listed.
+abbrev pub readFault : Register → ℕ
+readFault Command = 0
+readFault Argument = 0
+readFault Answer = 0
+readFault Pending = 0
+readFault Enabled = 0
+readFault Line = 0
+readFault Unlisted = 18
+
+-- Clause 10.4: the command reads 0, the line whether it is raised, every other register its byte.
+abbrev pub shownAt : Register → List ℕ → ℕ → ℕ
+shownAt Command bytes offset = 0
+shownAt Argument bytes offset = getD bytes offset 0
+shownAt Answer bytes offset = getD bytes offset 0
+shownAt Pending bytes offset = getD bytes offset 0
+shownAt Enabled bytes offset = getD bytes offset 0
+shownAt Line bytes offset = lineOf bytes
+shownAt Unlisted bytes offset = 0
+
+-- Clause 10.4: reading an offset of a block.
+unfoldable pub registerRead : Block → ℕ → Said
+registerRead block offset = said (readFault (registerAt offset)) (shownAt (registerAt offset) (block .bytes) offset)
+
+-- Clause 10.5: 18 for a write to an answer, to the line, or to an offset that is not listed.
+abbrev pub writeFault : Register → ℕ
+writeFault Command = 0
+writeFault Argument = 0
+writeFault Answer = 18
+writeFault Pending = 0
+writeFault Enabled = 0
+writeFault Line = 18
+writeFault Unlisted = 18
+
+-- Clause 10.6: a one that is written clears its bit of a byte, a zero does not.
+unfoldable pub cleared : ℕ → ℕ → ℕ
+cleared old value = maskOf 8 (λ i. bit old i && not (bit value i))
+
+-- Clause 10.6: the byte that a write leaves: pending bits are cleared, every other register takes the value.
+abbrev pub newByte : Register → ℕ → ℕ → ℕ
+newByte Command old value = value
+newByte Argument old value = value
+newByte Answer old value = value
+newByte Pending old value = cleared old value
+newByte Enabled old value = value
+newByte Line old value = value
+newByte Unlisted old value = value
+
+-- Clause 10.6: the block after a write of a value to an argument, to pending or to enabled.
+unfoldable pub stored : Block → ℕ → ℕ → Block
+stored block offset value =
+    withLine (set (block .bytes) offset (newByte (registerAt offset) (getD (block .bytes) offset 0) value))
+
+-- A read's answer in numbers: the value, or the refusal.
+abbrev pub readSays : ReadAnswer → Said
+readSays (ReadAnswer.Value value) = record { number = 0; value = value }
+readSays (ReadAnswer.Refused r) = record { number = numberOf r; value = 0 }

@@ -1,0 +1,183 @@
+// The register block of the arbiter: 32 bytes, what stands at which offset, what a read gives, and what a write that
+// is no command leaves. Commands are in the crate `commands`.
+use encoding::byte_at;
+use encoding::read_number;
+use masks::meet64;
+use refusals::Refusal;
+ghost use mathlib.Core.Path.{_≡_};
+ghost use Prim.Native.Nat.{_^_, _<_};
+ghost use lib.ListN.{set};
+ghost use Rattle.registers.specs.Registers.{
+  registerAt,
+  tickIn,
+  pendingIn,
+  enabledIn,
+  lineOf,
+  withLine,
+  cleared,
+  newByte,
+  stored,
+  registerRead,
+  readSays,
+};
+
+// How many bytes a block has.
+pub const BLOCK: usize = 32;
+
+// Any 32 bytes are a block. Offset 0 first.
+pub struct Block {
+    pub bytes: [u8; BLOCK],
+}
+
+// What stands at an offset. Clause 10.2.
+pub enum Register {
+    // 0: a write carries a command out.
+    Command,
+    // 1, 2 and 4 to 8: the processor, the entry and the tick of the next command.
+    Argument,
+    // 3, 9 and 12 to 19: the last refusal, late, and the masks of the last accepted command.
+    Answer,
+    // 20 to 23: who was granted.
+    Pending,
+    // 24 to 27: for whom the line is raised.
+    Enabled,
+    // 28: the interrupt line.
+    Line,
+    // Every other offset.
+    Unlisted,
+}
+
+// The value of a register, or the refusal.
+pub enum ReadAnswer {
+    Value(u8),
+    Refused(Refusal),
+}
+
+// Which register an offset is.
+pub fn register_at(offset: u8) -> Register
+    ensures { λ r. ⌜ r ≡ registerAt offset ⌝ }
+{
+    if offset == 0 {
+        return Register::Command;
+    }
+    if ((1 <= offset) & (offset <= 2)) | ((4 <= offset) & (offset <= 8)) {
+        return Register::Argument;
+    }
+    if (offset == 3) | ((offset == 9) | ((12 <= offset) & (offset <= 19))) {
+        return Register::Answer;
+    }
+    if (20 <= offset) & (offset <= 23) {
+        return Register::Pending;
+    }
+    if (24 <= offset) & (offset <= 27) {
+        return Register::Enabled;
+    }
+    if offset == 28 {
+        return Register::Line;
+    }
+    Register::Unlisted
+}
+
+// The tick of the next command.
+pub fn tick_in(bytes: [u8; BLOCK]) -> u64
+    ensures { λ r. ⌜ r ≡ tickIn bytes ⌝ }
+{
+    read_number(&bytes[4..9])
+}
+
+// The processors that are pending.
+pub fn pending_in(bytes: [u8; BLOCK]) -> u64
+    ensures value { λ r. ⌜ r ≡ pendingIn bytes ⌝ }
+    ensures bound { λ r. ⌜ r < 2 ^ 32 ⌝ }
+{
+    read_number(&bytes[20..24])
+}
+
+// The processors for which the line is raised.
+fn enabled_in(bytes: [u8; BLOCK]) -> u64
+    ensures { λ r. ⌜ r ≡ enabledIn bytes ⌝ }
+{
+    read_number(&bytes[24..28])
+}
+
+// Clause 10.3: 1 where some bit is both pending and enabled.
+fn line_of(bytes: [u8; BLOCK]) -> u8
+    ensures { λ r. ⌜ r ≡ lineOf bytes ⌝ }
+{
+    if meet64(pending_in(bytes), enabled_in(bytes)) {
+        1
+    } else {
+        0
+    }
+}
+
+// The block of these bytes with its line.
+pub fn with_line(bytes: [u8; BLOCK]) -> Block
+    ensures { λ r. ⌜ r ≡ withLine bytes ⌝ }
+{
+    let mut kept = bytes;
+    kept[28] = line_of(bytes);
+    Block { bytes: kept }
+}
+
+// Clause 10.6: the bits of a byte without those that the value has.
+fn cleared_by(old: u8, value: u8) -> u8
+    ensures { λ r. ⌜ r ≡ cleared old value ⌝ }
+{
+    old & !value
+}
+
+// The bytes with one changed. Past the end nothing is.
+fn put_byte(bytes: [u8; BLOCK], place: usize, byte: u8) -> [u8; BLOCK]
+    ensures { λ r. ⌜ r ≡ set bytes place byte ⌝ }
+{
+    let mut kept = bytes;
+    if place < BLOCK {
+        kept[place] = byte;
+    }
+    kept
+}
+
+// Reads an offset of a block. Refused by 18.
+pub fn read(block: Block, offset: u8) -> ReadAnswer
+    ensures { λ r. ⌜ readSays r ≡ registerRead block offset ⌝ }
+{
+    let bytes = block.bytes;
+    let byte = byte_at(&bytes, offset as usize);
+    let register = register_at(offset);
+    match register {
+        Register::Command => ReadAnswer::Value(0),
+        Register::Argument => ReadAnswer::Value(byte),
+        Register::Answer => ReadAnswer::Value(byte),
+        Register::Pending => ReadAnswer::Value(byte),
+        Register::Enabled => ReadAnswer::Value(byte),
+        Register::Line => ReadAnswer::Value(line_of(bytes)),
+        Register::Unlisted => ReadAnswer::Refused(Refusal::Register),
+    }
+}
+
+// Clause 10.6: the byte that a write leaves at a register.
+fn new_byte(register: Register, old: u8, value: u8) -> u8
+    ensures { λ r. ⌜ r ≡ newByte register old value ⌝ }
+{
+    match register {
+        Register::Command => value,
+        Register::Argument => value,
+        Register::Answer => value,
+        Register::Pending => cleared_by(old, value),
+        Register::Enabled => value,
+        Register::Line => value,
+        Register::Unlisted => value,
+    }
+}
+
+// Clause 10.6: a write that is neither a command nor refused.
+pub fn store(block: Block, offset: u8, value: u8) -> Block
+    ensures { λ r. ⌜ r ≡ stored block offset value ⌝ }
+{
+    let bytes = block.bytes;
+    let place = offset as usize;
+    let byte = new_byte(register_at(offset), byte_at(&bytes, place), value);
+    let changed = put_byte(bytes, place, byte);
+    with_line(changed)
+}
