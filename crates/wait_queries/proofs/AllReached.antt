@@ -1,25 +1,26 @@
 -- The rows through all processors are the reach of each, and as words they are the bytes of the scratch.
 -- Assumes nothing.
-use Prim.Native.Nat.{ℕ, _≤_, _<_}
+use Prim.Native.Nat.{ℕ, _+_, _≤_, _<_}
 use mathlib.Core.Path.{_≡_, refl, sym, ap, _∙_}
 use mathlib.Core.Bool.{Bool, true, false}
 use mathlib.Core.List.{List}
 use native.Mathlib.Nat.{le-refl}
+use native.Mathlib.Omega.{arith}
 use lib.ListN.{length, getD}
 use Rattle.masks.specs.Sets.{maskOf}
 use Rattle.masks.proofs.Masks.{mask-agree}
 use Rattle.encoding.specs.Buffers.{overwritten, bufferAfter}
 use Rattle.encoding.proofs.Room.{fits-room}
-use Rattle.plans.specs.Entries.{slots}
+use Rattle.plans.specs.Entries.{slots, maskSizeFor}
 use Rattle.conflicts.specs.Conflict.{tabulate}
 use Rattle.conflicts.proofs.Tabulate.{getD-tabulate, tabulate-agree}
 use Rattle.states.specs.declared.Board.{Board}
 use Rattle.states.specs.declared.State.{State}
-use Rattle.wait_listing.specs.Listing.{maskSize}
-use Rattle.reaching.specs.Rows.{rowsThrough, wordsScratch}
+use Rattle.wait_listing.proofs.Sizes.{mask-size-small}
+use Rattle.reaching.specs.Rows.{rowsThrough, wordCount, wordsOf, wordsScratch}
 use Rattle.reaching.proofs.Words.{words-agree}
 use Rattle.reaching.proofs.Through.{via, Path, step, over, rows-via, path-via, via-gives}
-use Rattle.queries.specs.Queries.{waitsFor, Chain, direct, through, reaches, scratchSize, reachBytes}
+use Rattle.queries.specs.Queries.{waitsFor, Chain, direct, through, reaches, maskSizeOf, scratchSize, reachBytes}
 use Rattle.queries.specs.inner.Rows.{directRows}
 use Rattle.wait_queries.proofs.Waits.{waits-below}
 use Rattle.wait_queries.proofs.Chains.{chain-reaches, reaches-chain}
@@ -58,17 +59,26 @@ module _ (b : Board) (s : State) where
       ∙ tabulate-agree slots (λ p. maskOf slots (via (waitsFor b s) slots p)) (λ p. maskOf slots (reaches b s p))
       (λ p l. mask-agree slots (via (waitsFor b s) slots p) (reaches b s p) (λ q m. via-reaches p q))
 
+  -- The words of k bytes of all that each processor reaches.
+  abbrev reachedWords : ℕ → List ℕ
+  reachedWords k = wordsOf k (wordCount k) (λ p. maskOf slots (reaches b s p))
+
   module _ (rows : List ℕ) (are : rows ≡ reachedRows b s) where
     pub row-asked : (p : ℕ) → p < slots → getD rows p 0 ≡ maskOf slots (reaches b s p)
     row-asked p l =
         ap (λ (xs : List ℕ). getD xs p 0) are ∙ getD-tabulate slots (λ q. maskOf slots (reaches b s q)) p 0 l
 
-    -- What `write_rows` leaves in a scratch with room.
-    pub words-stored : (scratch after : List ℕ) → scratchSize ≤ length scratch
-        → after ≡ wordsScratch maskSize rows scratch
+    -- What `write_rows` leaves in a scratch with room. There are no more words than rows.
+    pub words-stored : (m : ℕ) → m ≡ b .terms .processors → (scratch after : List ℕ) → scratchSize m ≤ length scratch
+        → after ≡ wordsScratch (maskSizeFor m) rows scratch
         → after ≡ overwritten scratch 0 (reachBytes b s)
     unfolding reachBytes
-    words-stored scratch after room stored =
-        let words = words-agree maskSize slots (λ p. getD rows p 0) (λ p. maskOf slots (reaches b s p)) row-asked in
-        rw (fits-room scratchSize (length scratch) 0 room) at stored
+    words-stored m same scratch after room stored =
+        let k : ℕ = maskSizeFor m in
+        let fits : 0 + scratchSize m ≤ length scratch = omega (arith, room) in
+        let inside : (p : ℕ) → p < wordCount k → p < slots = λ p l. omega (arith, mask-size-small m) in
+        let words = words-agree k (wordCount k) (λ p. getD rows p 0) (λ p. maskOf slots (reaches b s p))
+        (λ p l. row-asked p (inside p l)) in
+        rw (fits-room (scratchSize m) (length scratch) 0 fits) at stored
         ∙ ap (λ (bytes : List ℕ). overwritten scratch 0 bytes) words
+        ∙ ap (λ (x : ℕ). overwritten scratch 0 (reachedWords (maskSizeFor x))) same
