@@ -15,8 +15,8 @@ use Rattle.wait_listing.specs.Listing.{inTurn}
 unfoldable pub joinedRow : List ℕ → ℕ → ℕ → ℕ
 joinedRow rows k p = cond (bit (getD rows p 0) k) (bitOr (getD rows p 0) (getD rows k 0)) (getD rows p 0)
 
--- Clause 7.3: the rows with the chains that lead through processors below k alone. That with all processors these are
--- the chains of any length is proved beside the queries.
+-- Clause 7.3: the rows with the chains that lead through processors below k alone. That with all processors of the plan
+-- these are the chains of any length is proved beside the queries.
 unfoldable pub rowsThrough : ℕ → List ℕ → List ℕ
 rowsThrough zero rows = rows
 rowsThrough (suc k) rows = tabulate slots (joinedRow (rowsThrough k rows) k)

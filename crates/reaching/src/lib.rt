@@ -7,6 +7,7 @@ use masks::has32;
 use plans::SLOTS;
 use plans::mask_size;
 use refusals::Refusal;
+use wait_listing::listed;
 use waiting::join_if;
 ghost use mathlib.Core.Path.{_≡_};
 ghost use Prim.Native.Nat.{_<_, _≤_};
@@ -16,6 +17,7 @@ ghost use Rattle.refusals.specs.Due.{said};
 ghost use Rattle.encoding.specs.Buffers.{outcomeSays};
 ghost use Rattle.plans.specs.Entries.{slots, maskSizeFor};
 ghost use Rattle.conflicts.specs.Conflict.{tabulate};
+ghost use Rattle.wait_listing.specs.Listing.{listedOf};
 ghost use Rattle.reaching.specs.Rows.{joinedRow, rowsThrough, wordCount, wordsOf};
 ghost use Rattle.reaching.specs.Rows.{wordsSize, wordsFault, wordsScratch};
 
@@ -48,14 +50,15 @@ fn join_through(rows: [u32; SLOTS], k: usize) -> [u32; SLOTS]
     next
 }
 
-// Clause 7.3: from the direct waits of all to all that each reaches. One pass for each processor that a chain may lead
-// through: the rows of those before it already have the chains through them.
-pub fn reach_rows(direct: [u32; SLOTS]) -> [u32; SLOTS]
-    ensures { λ r. ⌜ r ≡ rowsThrough slots direct ⌝ }
+// Clause 7.3: from the direct waits of all to all that each reaches, on a board with so many processors. One pass for
+// each processor that a chain may lead through: the rows of those before it already have the chains through them.
+pub fn reach_rows(processors: u8, direct: [u32; SLOTS]) -> [u32; SLOTS]
+    ensures { λ r. ⌜ r ≡ rowsThrough (listedOf processors) direct ⌝ }
 {
+    let count = listed(processors);
     let mut rows = direct;
     let mut k: usize = 0;
-    while k < SLOTS {
+    while k < count {
         let next = join_through(rows, k);
         rows = next;
         k += 1;
@@ -71,9 +74,9 @@ fn store_rows(size: usize, rows: [u32; SLOTS], scratch: &mut [u8])
         now (scratch .exit) ≡ sets (now (scratch .entry)) 0 (wordsOf size (wordCount size) (λ p. getD rows p 0))
         ⌝ }
 {
-    let count = BITS * size;
+    let words = BITS * size;
     let mut i: usize = 0;
-    while i < count {
+    while i < words {
         write_number(rows[i] as u64, size, scratch, size * i);
         i += 1;
     }
@@ -89,10 +92,10 @@ pub fn write_rows(processors: u8, rows: [u32; SLOTS], scratch: &mut [u8]) -> Out
         now (scratch .exit) ≡ wordsScratch (maskSizeFor processors) rows (now (scratch .entry))
         ⌝ }
 {
-    let size = mask_size(processors);
+    let word = mask_size(processors);
     let room = room_of(processors);
     if has_room(room, scratch.len(), 0) {
-        store_rows(size, rows, scratch);
+        store_rows(word, rows, scratch);
         Outcome::Bytes(room)
     } else {
         Outcome::Refused(Refusal::Room)

@@ -134,8 +134,8 @@ fn store_parts(
     }
 }
 
-// Clause 4.10: the processors that are listed.
-fn listed(processors: u8) -> usize
+// Clause 4.10: the processors that are listed: the plan's, and no more than a state has places for.
+pub fn listed(processors: u8) -> usize
     ensures { λ r. ⌜ r ≡ listedOf processors ⌝ }
 {
     if (processors as usize) < SLOTS {

@@ -4,11 +4,13 @@ use Prim.Native.Nat.{ℕ, _+_, _≤_, _<_}
 use mathlib.Core.Path.{_≡_, refl, sym, ap, _∙_}
 use mathlib.Core.Bool.{Bool, true, false}
 use mathlib.Core.List.{List}
-use native.Mathlib.Nat.{le-refl}
 use native.Mathlib.Omega.{arith}
+use lib.Dec.{ltb}
 use lib.ListN.{length, getD}
+use borrow.Author.Tests.{ltb-true}
 use Rattle.masks.specs.Sets.{maskOf}
 use Rattle.masks.proofs.Masks.{mask-agree}
+use Rattle.masks.proofs.Truth.{and-left, and-right}
 use Rattle.encoding.specs.Buffers.{overwritten, bufferAfter}
 use Rattle.encoding.proofs.Room.{fits-room}
 use Rattle.plans.specs.Entries.{slots, maskSizeFor}
@@ -16,13 +18,14 @@ use Rattle.conflicts.specs.Conflict.{tabulate}
 use Rattle.conflicts.proofs.Tabulate.{getD-tabulate, tabulate-agree}
 use Rattle.states.specs.declared.Board.{Board}
 use Rattle.states.specs.declared.State.{State}
+use Rattle.wait_listing.specs.Listing.{listedOf}
 use Rattle.wait_listing.proofs.Sizes.{mask-size-small}
 use Rattle.reaching.specs.Rows.{rowsThrough, wordCount, wordsOf, wordsScratch}
 use Rattle.reaching.proofs.Words.{words-agree}
 use Rattle.reaching.proofs.Through.{via, Path, step, over, rows-via, path-via, via-gives}
 use Rattle.queries.specs.Queries.{waitsFor, Chain, direct, through, reaches, maskSizeOf, scratchSize, reachBytes}
 use Rattle.queries.specs.inner.Rows.{directRows}
-use Rattle.wait_queries.proofs.Waits.{waits-below}
+use Rattle.wait_queries.proofs.Waits.{Counted, waits-counted}
 use Rattle.wait_queries.proofs.Chains.{chain-reaches, reaches-chain}
 
 -- All that each processor reaches.
@@ -39,25 +42,39 @@ module _ (b : Board) (s : State) where
   chain-join p r q (direct e) d = through e d
   chain-join p r q (through {r = x} e c) d = through e (chain-join x r q c d)
 
-  -- A chain passes only processors that a state holds.
-  chain-path : (p q : ℕ) → Chain b s p q → Path (waitsFor b s) slots p q
-  chain-path p q (direct e) = step e
-  chain-path p q (through {r = r} e c) = over e (waits-below b s p r e .1) (chain-path r q c)
+  -- The processors of the plan that a state holds.
+  abbrev m : ℕ
+  m = listedOf (b .terms .processors)
 
-  via-reaches : (p q : ℕ) → via (waitsFor b s) slots p q ≡ reaches b s p q
+  counted-listed : (p : ℕ) → Counted b s p → p < m
+  counted-listed p e =
+      let slot : p < slots = ltb-true p slots (and-left (ltb p slots) (ltb p (b .terms .processors)) e) in
+      let plans : p < b .terms .processors =
+      ltb-true p (b .terms .processors) (and-right (ltb p slots) (ltb p (b .terms .processors)) e) in
+      omega arith
+
+  -- A chain passes only these.
+  chain-path : (p q : ℕ) → Chain b s p q → Path (waitsFor b s) m p q
+  chain-path p q (direct e) = step e
+  chain-path p q (through {r = r} e c) = over e (counted-listed r (waits-counted b s p r e .1)) (chain-path r q c)
+
+  via-reaches : (p q : ℕ) → via (waitsFor b s) m p q ≡ reaches b s p q
   via-reaches p q =
       same-truth _ _
-      (λ e. chain-reaches b s p q (via-gives (waitsFor b s) (Chain b s) (λ x y. direct) chain-join slots p q e))
-      (λ e. path-via (waitsFor b s) slots p q (chain-path p q (reaches-chain b s p q e)))
+      (λ e. chain-reaches b s p q (via-gives (waitsFor b s) (Chain b s) (λ x y. direct) chain-join m p q e))
+      (λ e. path-via (waitsFor b s) m p q (chain-path p q (reaches-chain b s p q e)))
 
-  pub rows-reached : (given rows : List ℕ) → given ≡ directRows b s → rows ≡ rowsThrough slots given
+  pub rows-reached : (processors : ℕ) → processors ≡ b .terms .processors → (given rows : List ℕ)
+      → given ≡ directRows b s → rows ≡ rowsThrough (listedOf processors) given
       → rows ≡ reachedRows b s
-  rows-reached given rows are e =
+  rows-reached processors same given rows are e =
+      let places : m ≤ slots = omega arith in
       e
-      ∙ ap (rowsThrough slots) are
-      ∙ rows-via (waitsFor b s) slots (le-refl slots)
-      ∙ tabulate-agree slots (λ p. maskOf slots (via (waitsFor b s) slots p)) (λ p. maskOf slots (reaches b s p))
-      (λ p l. mask-agree slots (via (waitsFor b s) slots p) (reaches b s p) (λ q m. via-reaches p q))
+      ∙ ap (λ (x : ℕ). rowsThrough (listedOf x) given) same
+      ∙ ap (rowsThrough m) are
+      ∙ rows-via (waitsFor b s) m places
+      ∙ tabulate-agree slots (λ p. maskOf slots (via (waitsFor b s) m p)) (λ p. maskOf slots (reaches b s p))
+      (λ p l. mask-agree slots (via (waitsFor b s) m p) (reaches b s p) (λ q k. via-reaches p q))
 
   -- The words of k bytes of all that each processor reaches.
   abbrev reachedWords : ℕ → List ℕ

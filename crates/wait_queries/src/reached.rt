@@ -37,12 +37,12 @@ fn check_reach(terms: Terms, processor: u8, size: usize) -> Verdict
 // Writes the rows of all processors into the scratch, as words for so many, and answers the row asked for.
 fn write_reach(processors: u8, direct: [u32; SLOTS], processor: u8, scratch: &mut [u8]) -> u32
     requires { ⌜ (processor < slots) × (scratchSize processors ≤ length (now scratch)) ⌝ }
-    ensures mask { λ r. ⌜ ((b : Board) (s : State) → direct ≡ directRows b s
+    ensures mask { λ r. ⌜ ((b : Board) (s : State) → processors ≡ b .terms .processors → direct ≡ directRows b s
         → r ≡ maskOf slots (reaches b s processor)) ⌝ }
     ensures stored { λ _. ⌜ ((b : Board) (s : State) → processors ≡ b .terms .processors → direct ≡ directRows b s
         → now (scratch .exit) ≡ overwritten (now (scratch .entry)) 0 (reachBytes b s)) ⌝ }
 {
-    let rows = reach_rows(direct);
+    let rows = reach_rows(processors, direct);
     write_rows(processors, rows, scratch);
     rows[processor as usize]
 }
@@ -55,13 +55,9 @@ fn reach_from(terms: Terms, direct: [u32; SLOTS], processor: u8, scratch: &mut [
         → now (scratch .exit) ≡ reachScratch b s processor (now (scratch .entry))) ⌝ }
 {
     let verdict = check_reach(terms, processor, scratch.len());
+    let m = terms.processors;
     match verdict {
-        Verdict::Accepted => MaskAnswer::Mask(write_reach(
-            terms.processors,
-            direct,
-            processor,
-            scratch,
-        )),
+        Verdict::Accepted => MaskAnswer::Mask(write_reach(m, direct, processor, scratch)),
         Verdict::Refused(refusal) => MaskAnswer::Refused(refusal),
     }
 }

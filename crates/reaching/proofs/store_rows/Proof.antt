@@ -12,12 +12,12 @@ use Rattle.reaching.proofs.store_rows.Statement.{statement}
 use Rattle.reaching.proofs.store_rows.Tie as tie
 
 abbrev Inv-loop : tie.InvT-loop
-Inv-loop size scratch₀ rows count i₀ scratch i =
+Inv-loop size scratch₀ rows words i₀ scratch i =
     (i ≤ wordCount size) × (length scratch ≡ length scratch₀)
     × (scratch ≡ sets scratch₀ 0 (wordsOf size i (λ q. getD rows q 0)))
 
 abbrev μ-loop : tie.MeasureT-loop
-μ-loop size scratch₀ rows count i₀ scratch i = wordCount size - i
+μ-loop size scratch₀ rows words i₀ scratch i = wordCount size - i
 
 loop-holds : tie.Need-loop-holds Inv-loop μ-loop
 unfolding wordsOf inTurn
