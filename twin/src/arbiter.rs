@@ -29,8 +29,8 @@ pub enum Call {
 
 #[derive(Clone, Copy, PartialEq, Debug)]
 pub struct Done {
-    pub granted: u16,
-    pub entitled: u16,
+    pub granted: u32,
+    pub entitled: u32,
     pub late: bool,
 }
 
@@ -90,7 +90,7 @@ impl Arbiter {
         self.step(false, Waiting, Entitled, |a, i| a.any(i, true, Holding) && !a.any(i, true, Entitled));
     }
 
-    fn mask(requests: &[Request], phase: Phase) -> u16 {
+    fn mask(requests: &[Request], phase: Phase) -> u32 {
         requests.iter().filter(|r| r.phase == phase).fold(0, |mask, r| mask | 1 << r.processor)
     }
 
@@ -188,7 +188,7 @@ impl Arbiter {
     }
 
     /// The processors that a processor waits for directly.
-    pub fn direct(&self, processor: u8) -> Result<u16, Refusal> {
+    pub fn direct(&self, processor: u8) -> Result<u32, Refusal> {
         self.state(processor)?;
         let Some(at) = self.place(processor) else { return Ok(0) };
         let request = &self.requests[at];
@@ -203,15 +203,26 @@ impl Arbiter {
     }
 
     /// All that a processor waits for, directly or through others.
-    pub fn reach(&self, processor: u8) -> Result<u16, Refusal> {
+    pub fn reach(&self, processor: u8) -> Result<u32, Refusal> {
         let mut reached = self.direct(processor)?;
         loop {
-            let further = (0..16).filter(|&q| reached >> q & 1 == 1).fold(reached, |mask, q| mask | self.direct(q).unwrap_or(0));
+            let further = (0..32).filter(|&q| reached >> q & 1 == 1).fold(reached, |mask, q| mask | self.direct(q).unwrap_or(0));
             if further == reached {
                 return Ok(reached);
             }
             reached = further;
         }
+    }
+
+    /// The bytes of a mask, low byte first: two on a board of up to 16 processors, four on a larger one.
+    fn laid_out(&self, mask: u32) -> Vec<u8> {
+        mask.to_le_bytes()[..self.plan.mask_bytes()].to_vec()
+    }
+
+    /// The scratch after a reach: for each of 16 or 32 processors the word of all that it reaches.
+    pub fn words(&self) -> Vec<u8> {
+        let places = 8 * self.plan.mask_bytes() as u8;
+        (0..places).flat_map(|p| self.laid_out(self.reach(p).unwrap_or(0))).collect()
     }
 
     /// The whole board in bytes: m, and for each processor its state, entry, ticks waited and direct waits.
@@ -226,7 +237,7 @@ impl Arbiter {
             bytes.push(self.state(p).expect("a processor of the plan"));
             bytes.push(request.map_or(255, |r| r.entry));
             bytes.extend(waited.to_le_bytes());
-            bytes.extend(self.direct(p).expect("a processor of the plan").to_le_bytes());
+            bytes.extend(self.laid_out(self.direct(p).expect("a processor of the plan")));
         }
         bytes
     }

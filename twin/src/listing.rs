@@ -20,7 +20,12 @@ pub fn take_call(bytes: &mut &[u8]) -> Result<Call, Refusal> {
     }
 }
 
-fn call_line(call: Call, answer: Result<Done, Refusal>) -> String {
+/// A mask of a plan's processors: two hexadecimal digits for each of its bytes.
+fn mask_digits(plan: &Plan, mask: u32) -> String {
+    format!("{mask:0width$x}", width = 2 * plan.mask_bytes())
+}
+
+fn call_line(plan: &Plan, call: Call, answer: Result<Done, Refusal>) -> String {
     let head = match call {
         Call::Issue { processor, tick, .. } => format!("{tick} i {processor}"),
         Call::Complete { processor, tick } => format!("{tick} c {processor}"),
@@ -28,16 +33,20 @@ fn call_line(call: Call, answer: Result<Done, Refusal>) -> String {
         Call::Handover { processor, tick, .. } => format!("{tick} h {processor}"),
     };
     match answer {
-        Ok(done) => format!("{head} {:04x} {:04x} {}\n", done.granted, done.entitled, done.late as u8),
+        Ok(done) => {
+            let (granted, entitled) = (mask_digits(plan, done.granted), mask_digits(plan, done.entitled));
+            format!("{head} {granted} {entitled} {}\n", done.late as u8)
+        }
         Err(number) => format!("{head} refused {number}\n"),
     }
 }
 
 /// What each processor's queries answer: state, direct waits, reach.
 fn query_lines(arbiter: &Arbiter) -> String {
-    (0..17)
+    let digits = |mask| mask_digits(&arbiter.plan, mask);
+    (0..33)
         .map(|p| match (arbiter.state(p), arbiter.direct(p), arbiter.reach(p)) {
-            (Ok(state), Ok(direct), Ok(reach)) => format!("{p} {state} {direct:04x} {reach:04x}\n"),
+            (Ok(state), Ok(direct), Ok(reach)) => format!("{p} {state} {} {}\n", digits(direct), digits(reach)),
             (Err(number), _, _) | (_, Err(number), _) | (_, _, Err(number)) => format!("{p} refused {number}\n"),
         })
         .collect()
@@ -49,10 +58,9 @@ fn board_line(arbiter: &Arbiter) -> String {
     format!("board {}\n", digits_behind(&list))
 }
 
-/// The scratch after processor 0's reach: a word of two bytes for each processor, written over 170s likewise.
+/// The scratch after processor 0's reach: its words, written over 170s likewise.
 fn scratch_line(arbiter: &Arbiter) -> String {
-    let words: Vec<u8> = (0..16).flat_map(|p| arbiter.reach(p).unwrap_or(0).to_le_bytes()).collect();
-    format!("scratch {}\n", digits_behind(&words))
+    format!("scratch {}\n", digits_behind(&arbiter.words()))
 }
 
 /// The digits of bytes that were written into a buffer of 170s that is 16 bytes longer.
@@ -75,7 +83,7 @@ fn replay(bytes: &mut &[u8], queries: bool, out: &mut impl Write) -> Result<(), 
     for _ in 0..take_number(bytes, 2)? {
         let call = take_call(bytes)?;
         let answer = arbiter.call(call);
-        out.write_all(call_line(call, answer).as_bytes()).unwrap();
+        out.write_all(call_line(&arbiter.plan, call, answer).as_bytes()).unwrap();
         if queries {
             out.write_all(query_lines(&arbiter).as_bytes()).unwrap();
             out.write_all(board_line(&arbiter).as_bytes()).unwrap();

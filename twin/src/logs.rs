@@ -44,6 +44,15 @@ pub fn plan(r: &mut Random, m: u8, reads: u64) -> Plan {
     Plan { processors: m, resources, entries }
 }
 
+/// A count of processors: half of them up to 16, and often one beside the edge.
+pub fn processors(r: &mut Random) -> u8 {
+    match r.below(8) {
+        0 => r.pick(&[1, 16, 17, 32]),
+        1..=4 => r.within(1, 16) as u8,
+        _ => r.within(17, 32) as u8,
+    }
+}
+
 /// Which calls a log has beside issues and completions: withdrawals, handovers.
 #[derive(Clone, Copy)]
 pub struct Also {
@@ -176,7 +185,7 @@ pub fn log(seed: u64) -> Vec<u8> {
 /// the first block: a tail, a record that is short, a bad verb, or a completion or a withdrawal with an entry.
 fn long(seed: u64) -> Vec<u8> {
     let r = &mut Random::new(seed);
-    let m = r.within(1, 16) as u8;
+    let m = processors(r);
     let reads = r.pick(&[0, 5, 7, 10]);
     let plan = plan(r, m, reads);
     let count = r.within(500, 1500) as usize;
@@ -201,7 +210,7 @@ fn long(seed: u64) -> Vec<u8> {
 /// Log number `seed`, of at most 200 calls.
 pub fn short(seed: u64) -> Vec<u8> {
     let r = &mut Random::new(seed);
-    let m = r.within(1, 16) as u8;
+    let m = processors(r);
     let reads = r.pick(&[0, 5, 7, 10]);
     let plan = plan(r, m, reads);
     let count = r.pick(&[0, 3, 20, 60, 200]);

@@ -31,7 +31,7 @@ pub fn measure(mut log: &[u8], listing: &str) -> Result<(Plan, Measured), String
         if fields.get(3) == Some(&"refused") {
             continue;
         }
-        let granted = u16::from_str_radix(fields.get(3).unwrap_or(&""), 16).map_err(|_| format!("no mask in: {line}"))?;
+        let granted = u32::from_str_radix(fields.get(3).unwrap_or(&""), 16).map_err(|_| format!("no mask in: {line}"))?;
         // Who ends its request, and who makes one for which entry. A handover does both, in this order.
         let (tick, ends, makes) = match call {
             Call::Issue { processor, entry, tick } => (tick, None, Some((processor, entry))),

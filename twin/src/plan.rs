@@ -61,11 +61,16 @@ fn take_entry(bytes: &mut &[u8], resources: u8) -> Result<Entry, Refusal> {
 impl Plan {
     /// Takes a plan off the front of the bytes.
     pub fn take(bytes: &mut &[u8]) -> Result<Plan, Refusal> {
-        let processors = take_count(bytes, 16, 3)?;
+        let processors = take_count(bytes, 32, 3)?;
         let resources = take_count(bytes, 64, 4)?;
         let count = take_count(bytes, 64, 5)?;
         let entries = (0..count).map(|_| take_entry(bytes, resources)).collect::<Result<_, _>>()?;
         Ok(Plan { processors, resources, entries })
+    }
+
+    /// The bytes of a mask of the plan's processors, where it is laid out or printed.
+    pub fn mask_bytes(&self) -> usize {
+        if self.processors <= 16 { 2 } else { 4 }
     }
 
     fn longest(&self, write: bool) -> u64 {

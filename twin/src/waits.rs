@@ -31,7 +31,7 @@ fn longest_write(m: u8) -> Vec<u8> {
 
 fn hostile(seed: u64) -> Vec<u8> {
     let r = &mut Random::new(seed + 1_000_000);
-    let m = r.within(1, 16) as u8;
+    let m = logs::processors(r);
     let reads = r.pick(&[0, 3, 5, 8]);
     let plan = logs::plan(r, m, reads);
     let also = logs::Also { leaving: seed % 3 == 0, handing: seed % 2 == 0 };
@@ -39,7 +39,7 @@ fn hostile(seed: u64) -> Vec<u8> {
 }
 
 /// Replays a log and notes how near its waits come. False where a wait passes its figure or a holder overran.
-fn within_figures(program: &str, name: &str, log: &[u8], nearest: &mut [Nearest; 17]) -> bool {
+fn within_figures(program: &str, name: &str, log: &[u8], nearest: &mut [Nearest; 33]) -> bool {
     let text = String::from_utf8(output_of(program, log)).expect("a listing");
     let (plan, measured) = measure(log, &text).expect("a listing that fits its log");
     let (read, write) = (plan.read_figure(), plan.write_figure());
@@ -57,13 +57,13 @@ fn within_figures(program: &str, name: &str, log: &[u8], nearest: &mut [Nearest;
 /// So many hostile logs, and the logs in which a read and a write wait their longest. Those must reach the figure.
 pub fn waits(program: &str, count: u64) -> bool {
     let (mut passed, mut failed) = (0, 0);
-    let mut nearest = [[0; 3]; 17];
+    let mut nearest = [[0; 3]; 33];
     let mut note = |fine: bool| if fine { passed += 1 } else { failed += 1 };
     for seed in 0..count {
         note(within_figures(program, &format!("hostile log {seed}"), &hostile(seed), &mut nearest));
     }
-    for m in 2..=16 {
-        let mut own = [[0; 3]; 17];
+    for m in 2..=32 {
+        let mut own = [[0; 3]; 33];
         let fine = within_figures(program, &format!("longest write of {m}"), &longest_write(m), &mut own);
         note(fine && own[m as usize][1] == 100);
         if m >= 3 {

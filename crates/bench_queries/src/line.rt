@@ -4,7 +4,7 @@ use encoding::byte_at;
 use plans::ENTRIES;
 use plans::Entry;
 use plans::Plan;
-use reaching::ROOM;
+use reaching::MOST_ROOM;
 use states::Board;
 use states::State;
 use wait_queries::reach;
@@ -61,7 +61,7 @@ fn wide(byte: u8) -> u64
 
 // The checksum with the reach of a processor and a byte of the scratch, others at each turn.
 fn with_reach(board: Board, state: State, sum: u64, tick: u64) -> u64 {
-    let mut scratch = [0u8; ROOM];
+    let mut scratch = [0u8; MOST_ROOM];
     let mask = mask_number(reach(board, state, (tick % 16) as u8, &mut scratch));
     let byte = byte_at(&scratch, (tick % 32) as usize);
     (sum % 4294967296 * 31 + mask % 65536 * 256 + wide(byte)) % 4294967296

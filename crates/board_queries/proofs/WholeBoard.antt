@@ -18,17 +18,20 @@ use Rattle.rules.specs.Calls.{phasesOf}
 use Rattle.wait_listing.specs.Listing.{entryIn, waitedIn, partBytes, partIn, partSize, listBytes, listBuffer}
 use Rattle.wait_listing.proofs.InTurn.{length-part, part-at}
 use Rattle.wait_listing.proofs.Stores.{list-agree}
-use Rattle.queries.specs.Queries.{stateNumber, phaseQuery, waitsFor, waitsQuery}
+use Rattle.queries.specs.Queries.{stateNumber, phaseQuery, waitsFor, waitsQuery, maskSizeOf}
 use Rattle.board_queries.specs.WholeBoard.{listed, boardPart, boardBytes, boardBuffer}
 use Rattle.queries.specs.inner.Rows.{directRows}
 
-module _ (k : ℕ) (b : Board) (s : State) where
+module _ (b : Board) (s : State) where
+  abbrev k : ℕ
+  k = maskSizeOf b
+
   -- The part of p stands behind the count and the parts of those before it.
-  pub part-in-list : (p : ℕ) → p < listed b → take (partSize k) (drop (1 + partSize k * p) (boardBytes k b s)) ≡ boardPart k b s p
+  pub part-in-list : (p : ℕ) → p < listed b → take (partSize k) (drop (1 + partSize k * p) (boardBytes b s)) ≡ boardPart b s p
   unfolding boardPart listBytes
   part-in-list p l =
       let place : 1 + partSize k * p ≡ suc (partSize k * p) = omega arith in
-      rw place (part-at (partSize k) (boardPart k b s) (λ q. length-part k _ _ _ _) (listed b) p l)
+      rw place (part-at (partSize k) (boardPart b s) (λ q. length-part k _ _ _ _) (listed b) p l)
 
   listed-counted : (p : ℕ) → p < listed b → processorFault (b .terms) p ≡ 0
   listed-counted p l =
@@ -39,7 +42,7 @@ module _ (k : ℕ) (b : Board) (s : State) where
   -- For a processor that is listed the single queries refuse nothing, and their answers are in its part.
   pub part-is-queries : (p : ℕ) → p < listed b
       → (phaseQuery b s p .number ≡ 0) × (waitsQuery b s p .number ≡ 0)
-      × (take (partSize k) (drop (1 + partSize k * p) (boardBytes k b s))
+      × (take (partSize k) (drop (1 + partSize k * p) (boardBytes b s))
       ≡ partBytes k (phaseQuery b s p .value) (entryIn (phasesOf b s) (s .entry) p) (waitedIn (phasesOf b s) (s .last) (s .since) p)
       (waitsQuery b s p .value))
   unfolding boardPart
@@ -49,12 +52,12 @@ module _ (k : ℕ) (b : Board) (s : State) where
 
   -- The code's parts, by the phases that count and the direct waits of all.
   module _ (ph : Phases) (waits : List ℕ) (counted : ph ≡ phasesOf b s) (direct : waits ≡ directRows b s) where
-    part-found : (p : ℕ) → p < listed b → partIn k ph (s .last) (s .entry) (s .since) waits p ≡ boardPart k b s p
+    part-found : (p : ℕ) → p < listed b → partIn k ph (s .last) (s .entry) (s .since) waits p ≡ boardPart b s p
     unfolding partIn boardPart stateNumber
     part-found p l =
         let mask : getD waits p 0 ≡ maskOf slots (waitsFor b s p) =
         ap (λ ws. getD ws p 0) direct ∙ getD-tabulate slots (λ q. maskOf slots (waitsFor b s q)) p 0 (omega arith) in
         rw (mask, counted)
 
-    pub board-found : (buffer : List ℕ) → listBuffer k (listed b) (partIn k ph (s .last) (s .entry) (s .since) waits) buffer ≡ boardBuffer k b s buffer
+    pub board-found : (buffer : List ℕ) → listBuffer k (listed b) (partIn k ph (s .last) (s .entry) (s .since) waits) buffer ≡ boardBuffer b s buffer
     board-found buffer = list-agree k (listed b) _ _ buffer part-found

@@ -13,7 +13,6 @@ ghost use mathlib.Core.Path.{_≡_};
 ghost use mathlib.Core.List.{[]};
 ghost use Rattle.encoding.specs.Buffers.{outcomeSays};
 ghost use Rattle.rules.specs.InPlace.{boardBy, stateBy};
-ghost use Rattle.wait_listing.specs.Listing.{maskSize};
 ghost use Rattle.board_queries.specs.WholeBoard.{boardQuery, boardBuffer};
 
 // Fills the buffer with the list and answers how many bytes it took; bytes behind it stay. The parts of a board and a
@@ -28,8 +27,8 @@ pub fn list_board_in_place(
     buffer: &mut [u8],
 ) -> Outcome
     ensures outcome { λ r. ⌜ outcomeSays r
-        ≡ boardQuery maskSize (boardBy terms (now (rows .entry)) []) (now (buffer .entry)) ⌝ }
-    ensures bytes { λ _. ⌜ now (buffer .exit) ≡ boardBuffer maskSize
+        ≡ boardQuery (boardBy terms (now (rows .entry)) []) (now (buffer .entry)) ⌝ }
+    ensures bytes { λ _. ⌜ now (buffer .exit) ≡ boardBuffer
         (boardBy terms (now (rows .entry)) [])
         (stateBy moment (now (entries .entry)) (now (since .entry)) (now (earlier .entry)))
         (now (buffer .entry)) ⌝ }
@@ -50,8 +49,8 @@ pub fn list_board_in_place(
 
 // The same by value.
 pub fn list_board(board: Board, state: State, buffer: &mut [u8]) -> Outcome
-    ensures outcome { λ r. ⌜ outcomeSays r ≡ boardQuery maskSize board (now (buffer .entry)) ⌝ }
-    ensures bytes { λ _. ⌜ now (buffer .exit) ≡ boardBuffer maskSize board state (now (buffer .entry)) ⌝ }
+    ensures outcome { λ r. ⌜ outcomeSays r ≡ boardQuery board (now (buffer .entry)) ⌝ }
+    ensures bytes { λ _. ⌜ now (buffer .exit) ≡ boardBuffer board state (now (buffer .entry)) ⌝ }
 {
     let terms = board.terms;
     let rows = board.rows;

@@ -29,7 +29,7 @@ use Rattle.arbiter.specs.Fresh.{boardOf, blankBoard, freshBoard}
 use Rattle.rules.specs.InPlace.{boardBy, stateBy}
 use Rattle.queries.specs.Queries.{reachFault, reachBytes, reachQuery, reachScratch}
 use Rattle.wait_listing.specs.Listing.{listFault, listBuffer}
-use Rattle.board_queries.specs.WholeBoard.{listed, boardBytes, boardQuery, boardBuffer}
+use Rattle.board_queries.specs.WholeBoard.{boardBytes, boardFault, boardQuery, boardBuffer}
 use Rattle.logs.specs.Records.{fieldsIn, noFields, recordFault, readRecord}
 
 -- Demand 1. What meets no refusal condition is carried out to the end; everything else is refused by the number due in that
@@ -54,7 +54,7 @@ use Rattle.logs.specs.Records.{fieldsIn, noFields, recordFault, readRecord}
 --   queries::phase_of              phaseSays r ≡ phaseQuery board state processor
 --   wait_queries::direct_waits     maskSays r ≡ waitsQuery board state processor
 --   wait_queries::reach            maskSays r ≡ reachQuery board state processor scratch, the scratch after it ≡ reachScratch ..
---   board_queries::list_board      outcomeSays r ≡ boardQuery .. board buffer, and the buffer after it ≡ boardBuffer .. board state buffer
+--   board_queries::list_board      outcomeSays r ≡ boardQuery board buffer, and the buffer after it ≡ boardBuffer board state buffer
 --   board_queries::list_board_in_place  the same, of the board and the state that it was lent
 --   contention::shared_by    sharedSays r ≡ sharedQuery board first second; what that is on a plan's board, Contention.antt says
 --   registers::read          readSays r ≡ registerRead block offset (register_block::read_register the same, of the block it is lent)
@@ -151,19 +151,19 @@ module _ (b : Board) (s : State) where
   unfolding reachScratch
   accepted-reach-fills-scratch p scratch ok = rw ok
 
-  -- The list of the whole board, with masks of k bytes: 16 alone refuses it. Each processor's part is what the single queries
-  -- answer for it: part-is-queries, above.
-  pub refused-list-changes-nothing : (k : ℕ) (buffer : List ℕ) → 0 < listFault k (listed b) buffer
-      → (boardQuery k b buffer ≡ record { number = listFault k (listed b) buffer; value = 0 })
-      × (boardBuffer k b s buffer ≡ buffer)
+  -- The list of the whole board: 16 alone refuses it. Each processor's part is what the single queries answer for it:
+  -- part-is-queries, above.
+  pub refused-list-changes-nothing : (buffer : List ℕ) → 0 < boardFault b buffer
+      → (boardQuery b buffer ≡ record { number = boardFault b buffer; value = 0 })
+      × (boardBuffer b s buffer ≡ buffer)
   unfolding listBuffer
-  refused-list-changes-nothing k buffer due =
-      (said-refusal (listFault k (listed b) buffer) _ due, rw (positive-not-zero (listFault k (listed b) buffer) due))
+  refused-list-changes-nothing buffer due =
+      (said-refusal (boardFault b buffer) _ due, rw (positive-not-zero (boardFault b buffer) due))
 
-  pub accepted-list-fills-buffer : (k : ℕ) (buffer : List ℕ) → listFault k (listed b) buffer ≡ 0
-      → boardBuffer k b s buffer ≡ overwritten buffer 0 (boardBytes k b s)
+  pub accepted-list-fills-buffer : (buffer : List ℕ) → boardFault b buffer ≡ 0
+      → boardBuffer b s buffer ≡ overwritten buffer 0 (boardBytes b s)
   unfolding listBuffer
-  accepted-list-fills-buffer k buffer ok = rw ok
+  accepted-list-fills-buffer buffer ok = rw ok
 
 pub refused-record-gives-number-only : (s : List ℕ) → 0 < recordFault s
     → readRecord s ≡ record { number = recordFault s; fields = noFields }

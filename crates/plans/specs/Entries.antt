@@ -10,7 +10,7 @@ use Rattle.plans.specs.declared.Plan.{Plan}
 
 -- Clauses 1.1 and 2.3: the most processors of a plan. A state has a place for each, and so has a mask.
 abbrev pub slots : ℕ
-slots = 16
+slots = 32
 
 -- Clauses 7.4, 7.7 and 9.9: the bytes of a mask by the plan's processors, where it is printed or laid out: 2 for up to
 -- 16, and 4 for more.

@@ -13,7 +13,7 @@ pub use shape::mask_size;
 pub use shape::plan_size;
 
 // The most processors of a plan: so many requests a state holds.
-pub const SLOTS: usize = 16;
+pub const SLOTS: usize = 32;
 
 // The most resources that a plan has.
 pub const RESOURCES: usize = 64;

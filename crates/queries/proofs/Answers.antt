@@ -3,6 +3,7 @@
 use Prim.Native.Nat.{ℕ, _<_, _≤_}
 use mathlib.Core.Path.{_≡_, refl, ap, _∙_}
 use mathlib.Core.List.{List}
+use native.Mathlib.Omega.{arith}
 use lib.Dec.{ltb, lit<}
 use borrow.Author.Tests.{ltb-true, lt-ltb}
 use Rattle.masks.specs.Sets.{maskOf}
@@ -43,11 +44,12 @@ pub processor-below : (terms : Terms) (p : ℕ) → processorFault terms p ≡ 0
 processor-below terms p e =
     ltb-true p slots (and-left (ltb p slots) (ltb p (terms .processors)) (due-accepted (hasProcessor terms p) 11 (lit< tt) e))
 
-pub reach-accepted : (terms : Terms) (p size : ℕ) → firstOf (processorFault terms p) (roomFault scratchSize size 0) ≡ 0
-    → (p < slots) × (scratchSize ≤ size)
+pub reach-accepted : (terms : Terms) (p size : ℕ)
+    → firstOf (processorFault terms p) (roomFault (scratchSize (terms .processors)) size 0) ≡ 0
+    → (p < slots) × (scratchSize (terms .processors) ≤ size)
 reach-accepted terms p size e =
     let both = first-accepted (processorFault terms p) _ e in
-    (processor-below terms p (both .first), room-fits scratchSize size 0 (both .later))
+    (processor-below terms p (both .first), omega (arith, room-fits (scratchSize (terms .processors)) size 0 (both .later)))
 
 -- ---- direct waits with the phases of the requests that count
 

@@ -8,13 +8,13 @@ use Rattle.masks.specs.Sets.{some, maskOf}
 use Rattle.refusals.specs.Number.{numberOf}
 use Rattle.refusals.specs.Due.{Said, firstOf, said}
 use Rattle.encoding.specs.Buffers.{roomFault, bufferAfter}
-use Rattle.plans.specs.Entries.{slots}
+use Rattle.plans.specs.Entries.{slots, maskSizeFor}
 use Rattle.states.specs.declared.Board.{Board}
 use Rattle.states.specs.declared.State.{State}
 use Rattle.states.specs.Faults.{processorFault}
 use Rattle.rules.specs.Calls.{factsOf, phasesOf}
-use Rattle.wait_listing.specs.Listing.{stateIn, maskSize}
-use Rattle.reaching.specs.Rows.{wordsOf, wordsSize}
+use Rattle.wait_listing.specs.Listing.{stateIn}
+use Rattle.reaching.specs.Rows.{wordCount, wordsOf, wordsSize}
 use Rattle.waiting.specs.Waits.{waitsIn}
 use Rattle.queries.specs.declared.Phase.{Phase}
 use Rattle.queries.specs.declared.PhaseAnswer.{PhaseAnswer}
@@ -67,22 +67,28 @@ chained b s (suc n) p q = waitsFor b s p q || some slots (λ r. waitsFor b s p r
 unfoldable pub reaches : Board → State → ℕ → ℕ → Bool
 reaches b s p q = chained b s slots p q
 
--- Clause 7.4: the scratch has a word for each processor, of as many bytes as a mask takes: in word p bit q is set where
--- p reaches q, else clear.
-abbrev pub scratchSize : ℕ
-scratchSize = wordsSize maskSize
+-- Clauses 7.4 and 7.7: the bytes of a mask, on a board.
+abbrev pub maskSizeOf : Board → ℕ
+maskSizeOf b = maskSizeFor (b .terms .processors)
 
+-- Clause 7.4: how many bytes of scratch m processors need: 32 for up to 16, 128 for more.
+abbrev pub scratchSize : ℕ → ℕ
+scratchSize m = wordsSize (maskSizeFor m)
+
+-- Clause 7.4: the scratch has a word for each processor that has a bit in a word, and a word has as many bytes as a mask:
+-- in word p bit q is set where p reaches q, else clear.
 unfoldable pub reachBytes : Board → State → List ℕ
-reachBytes b s = wordsOf maskSize slots (λ p. maskOf slots (reaches b s p))
+reachBytes b s = wordsOf (maskSizeOf b) (wordCount (maskSizeOf b)) (λ p. maskOf slots (reaches b s p))
 
--- Clauses 7.5, 7.4 and 8.2: first 11 for the processor, then 16 for a scratch of fewer than 32 bytes.
+-- Clauses 7.5, 7.4 and 8.2: first 11 for the processor, then 16 for a scratch that is too short.
 unfoldable pub reachFault : Board → ℕ → List ℕ → ℕ
-reachFault b p scratch = firstOf (processorFault (b .terms) p) (roomFault scratchSize (length scratch) 0)
+reachFault b p scratch =
+    firstOf (processorFault (b .terms) p) (roomFault (scratchSize (b .terms .processors)) (length scratch) 0)
 
 -- Clause 7.3: the mask of all that processor p reaches.
 abbrev pub reachQuery : Board → State → ℕ → List ℕ → Said
 reachQuery b s p scratch = said (reachFault b p scratch) (maskOf slots (reaches b s p))
 
--- Clauses 7.4 and 7.5: the scratch after the query. Bytes behind the first 32 stay, and on a refusal all do.
+-- Clauses 7.4 and 7.5: the scratch after the query. Bytes behind the words stay, and on a refusal all do.
 unfoldable pub reachScratch : Board → State → ℕ → List ℕ → List ℕ
 reachScratch b s p scratch = bufferAfter (reachFault b p scratch) (reachBytes b s) scratch 0

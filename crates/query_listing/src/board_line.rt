@@ -5,11 +5,12 @@ use libc::STDOUT_FILENO;
 use plans::SLOTS;
 use states::Board;
 use states::State;
+use wait_listing::list_size;
 ghost use mathlib.Core.Path.{_≡_};
 ghost use Prim.Native.Nat.{_≤_};
 
 // The bytes of the longest list, and of what is behind it.
-const MOST: usize = 17 + 8 * SLOTS;
+const MOST: usize = 17 + 10 * SLOTS;
 
 fn wide(byte: u8) -> u64
     ensures { λ r. ⌜ r ≡ byte ⌝ }
@@ -19,13 +20,9 @@ fn wide(byte: u8) -> u64
 
 // The bytes of a list of so many processors, and 16 more.
 fn size_of(processors: u8) -> usize
-    ensures { λ r. ⌜ r ≤ 145 ⌝ }
+    ensures { λ r. ⌜ r ≤ 337 ⌝ }
 {
-    if (processors as usize) < SLOTS {
-        17 + 8 * processors as usize
-    } else {
-        MOST
-    }
+    list_size(processors) + 16
 }
 
 // Two hexadecimal digits for each byte.

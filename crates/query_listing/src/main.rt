@@ -16,9 +16,10 @@ use logs::COUNT_BYTES;
 use logs::CountAnswer;
 use logs::RECORD_BYTES;
 use plans::SLOTS;
+use plans::mask_size;
 use queries::MaskAnswer;
 use queries::PhaseAnswer;
-use reaching::ROOM;
+use reaching::MOST_ROOM;
 use refusals::Refusal;
 use replay::RanBlock;
 use states::Board;
@@ -38,11 +39,16 @@ fn print_refusal(refusal: Refusal) {
     io::print_decimal(STDOUT_FILENO, refusals::number(refusal) as u64);
 }
 
-fn print_mask(answer: MaskAnswer) {
+// The digits of a mask, two for each of its bytes.
+fn digits_of(processors: u8) -> usize {
+    2 * mask_size(processors)
+}
+
+fn print_mask(answer: MaskAnswer, digits: usize) {
     match answer {
         MaskAnswer::Mask(mask) => {
             io::write_all(STDOUT_FILENO, b" ");
-            io::print_hex(STDOUT_FILENO, mask as u64, 4);
+            io::print_hex(STDOUT_FILENO, mask as u64, digits);
         }
         MaskAnswer::Refused(refusal) => print_refusal(refusal),
     }
@@ -50,15 +56,19 @@ fn print_mask(answer: MaskAnswer) {
 
 // The scratch is as large as a reach needs, so that none is refused for it.
 fn print_query(board: Board, state: State, processor: u8) {
-    let mut scratch = [0u8; ROOM];
+    let mut scratch = [0u8; MOST_ROOM];
+    let digits = digits_of(board.terms.processors);
     io::print_decimal(STDOUT_FILENO, processor as u64);
     let phase = queries::phase_of(board, state, processor);
     match phase {
         PhaseAnswer::Is(is) => {
             io::write_all(STDOUT_FILENO, b" ");
             io::print_decimal(STDOUT_FILENO, queries::phase_number(is) as u64);
-            print_mask(wait_queries::direct_waits(board, state, processor));
-            print_mask(wait_queries::reach(board, state, processor, &mut scratch));
+            print_mask(wait_queries::direct_waits(board, state, processor), digits);
+            print_mask(
+                wait_queries::reach(board, state, processor, &mut scratch),
+                digits,
+            );
         }
         PhaseAnswer::Refused(refusal) => print_refusal(refusal),
     }

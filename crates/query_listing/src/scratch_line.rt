@@ -2,15 +2,32 @@
 // digits. It is filled with 170 before and is 16 bytes longer than needed; these are printed too.
 use crate::board_line::print_bytes;
 use libc::STDOUT_FILENO;
-use reaching::ROOM;
+use reaching::MOST_ROOM;
+use reaching::room_of;
 use states::Board;
 use states::State;
 use wait_queries::reach;
+ghost use Prim.Native.Nat.{_≤_};
+
+// The bytes of the longest scratch, and of what is behind it.
+const MOST: usize = MOST_ROOM + 16;
+
+// The bytes of a scratch for so many processors, and 16 more.
+fn size_of(processors: u8) -> usize
+    ensures { λ r. ⌜ r ≤ 144 ⌝ }
+{
+    room_of(processors) + 16
+}
+
+fn print_scratch(board: Board, state: State, scratch: &mut [u8]) {
+    reach(board, state, 0, scratch);
+    io::write_all(STDOUT_FILENO, b"scratch ");
+    print_bytes(scratch);
+    io::write_all(STDOUT_FILENO, b"\n");
+}
 
 pub fn print_scratch_line(board: Board, state: State) {
-    let mut scratch = [170u8; ROOM + 16];
-    reach(board, state, 0, &mut scratch);
-    io::write_all(STDOUT_FILENO, b"scratch ");
-    print_bytes(&scratch);
-    io::write_all(STDOUT_FILENO, b"\n");
+    let mut scratch = [170u8; MOST];
+    let size = size_of(board.terms.processors);
+    print_scratch(board, state, &mut scratch[..size]);
 }

@@ -2,7 +2,7 @@
 use Prim.Native.Nat.{ℕ, suc, _+_, _*_, _≤_, _<_}
 use mathlib.Core.Path.{_≡_, ap, _∙_}
 use mathlib.Core.List.{List}
-use native.Mathlib.Nat.{mul-le-mul-left}
+use native.Mathlib.Nat.{mul-le-mul-left, mul-le-mul-right}
 use native.Mathlib.Omega.{arith}
 use lib.ListN.{length}
 use lib.Seq.{sets, length-sets}
@@ -11,7 +11,19 @@ use Rattle.encoding.specs.Buffers.{roomFault, bufferAfter}
 use Rattle.encoding.proofs.Numbers.{length-bytesOf}
 use Rattle.encoding.proofs.Room.{stored-where-fits}
 use Rattle.wait_listing.proofs.InTurn.{in-turn-agree, length-in-turn, turn-stores}
-use Rattle.reaching.specs.Rows.{wordsOf}
+use Rattle.reaching.specs.Rows.{wordCount, wordsSize, wordsOf}
+
+-- Words of at most four bytes take at most 128.
+pub words-small : (k : ℕ) → k ≤ 4 → wordsSize k ≤ 128
+words-small k few =
+    let count : wordCount k ≤ 32 = omega arith in
+    omega (arith, mul-le-mul-left k count)
+
+-- A word lies within those that have it.
+pub word-inside : (k i : ℕ) → i < wordCount k → k * i ≤ wordsSize k
+word-inside k i low =
+    let below : i ≤ wordCount k = omega arith in
+    mul-le-mul-left k below
 
 module _ (k : ℕ) (f : ℕ → ℕ) where
   pub length-words : (n : ℕ) → length (wordsOf k n f) ≡ k * n

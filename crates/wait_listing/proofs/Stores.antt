@@ -64,20 +64,19 @@ module _ (k : ℕ) (f : ℕ → List ℕ) (size : (p : ℕ) → length (f p) ≡
       let whole : 0 + length (m ∷ inTurn m f) ≤ length l = omega (arith, length-in-turn (partSize k) f size m) in
       sets-overwritten l 0 (m ∷ inTurn m f) whole
 
-  -- What is answered, and what the buffer holds, with room and without. The code's count is m.
-  module _ (m count : ℕ) (are : count ≡ m) (verdict : Verdict) (checked : verdictNumber verdict ≡ roomFault (listSize k count) (length l) 0) where
+  -- What is answered, and what the buffer holds, with room and without.
+  module _ (m : ℕ) (verdict : Verdict) (checked : verdictNumber verdict ≡ roomFault (listSize k m) (length l) 0) where
     due-here : (n : ℕ) → verdictNumber verdict ≡ n → listFault k m l ≡ n
     unfolding listFault
-    due-here n e = ap (λ (x : ℕ). roomFault (listSize k x) (length l) 0) (sym are) ∙ sym checked ∙ e
+    due-here n e = sym checked ∙ e
 
-    pub list-written : verdict ≡ Verdict.Accepted → (after : List ℕ) → after ≡ sets (set l 0 count) 1 (inTurn count f)
-        → (_≡_ {A = Said} (record { number = 0; value = listSize k count }) (said (listFault k m l) (listSize k m)))
+    pub list-written : verdict ≡ Verdict.Accepted → (after : List ℕ) → after ≡ sets (set l 0 m) 1 (inTurn m f)
+        → (_≡_ {A = Said} (record { number = 0; value = listSize k m }) (said (listFault k m l) (listSize k m)))
         × (after ≡ listBuffer k m f l)
     unfolding listBuffer
     list-written e after stored =
         let none : listFault k m l ≡ 0 = due-here 0 (ap verdictNumber e) in
-        let full = stored ∙ list-stores count (room-for-list k count (length l) verdict checked e) ∙ ap (λ (x : ℕ). overwritten l 0 (listBytes x f)) are in
-        rw (none, ← are) (refl, rw are full)
+        rw none (refl, stored ∙ list-stores m (room-for-list k m (length l) verdict checked e))
 
     pub list-refused : (r : Refusal) → verdict ≡ Verdict.Refused r
         → (_≡_ {A = Said} (record { number = numberOf r; value = 0 }) (said (listFault k m l) (listSize k m)))

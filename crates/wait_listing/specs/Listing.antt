@@ -25,10 +25,6 @@ entryIn ph entry p = cond (active ph p) (getD entry p 0) 255
 unfoldable pub waitedIn : Phases → ℕ → List ℕ → ℕ → ℕ
 waitedIn ph last since p = cond (unsatisfied ph p) (min 4294967295 (last - getD since p 0)) 0
 
--- Clause 7.7: the bytes of a mask.
-abbrev pub maskSize : ℕ
-maskSize = 2
-
 -- Clauses 7.7 and 4.10: the processors that are listed: the plan's, and no more than a state has places for.
 abbrev pub listedOf : ℕ → ℕ
 listedOf processors = min slots processors

@@ -5,6 +5,7 @@ use encoding::check_room;
 use encoding::write_number;
 use masks::has32;
 use plans::SLOTS;
+use plans::mask_size;
 use refusals::Verdict;
 use settling::Phases;
 ghost use mathlib.Core.Path.{_≡_};
@@ -14,15 +15,13 @@ ghost use lib.ListN.{length};
 ghost use lib.Seq.{sets};
 ghost use Rattle.refusals.specs.Due.{said};
 ghost use Rattle.encoding.specs.Buffers.{outcomeSays};
-ghost use Rattle.plans.specs.Entries.{slots};
+ghost use Rattle.plans.specs.Entries.{slots, maskSizeFor};
 ghost use Rattle.settling.specs.Requests.{unsatisfied, active};
-ghost use Rattle.wait_listing.specs.Listing.{stateIn, maskSize, listedOf, partBytes, partIn, inTurn};
+ghost use Rattle.wait_listing.specs.Listing.{stateIn, listedOf, partBytes, partIn, inTurn};
 ghost use Rattle.wait_listing.specs.Listing.{partSize, listSize, listFault, listBuffer};
 
-// The bytes of a mask, of a part, and the most ticks that four bytes show.
-pub const MASK_BYTES: usize = 2;
-
-const PART_BYTES: usize = 6 + MASK_BYTES;
+// The bytes of a part before its mask, and the most ticks that four bytes show.
+const HEAD_BYTES: usize = 6;
 
 const MOST_TICKS: u64 = 4294967295;
 
@@ -79,21 +78,30 @@ fn waited_at(phases: Phases, last: u64, since: u64, p: u32) -> u64
     }
 }
 
-// Clause 7.7: stores a processor's part from position at.
-fn store_part(state: u8, entry: u8, waited: u64, waits: u32, buffer: &mut [u8], at: usize)
-    requires { ⌜ at + partSize maskSize ≤ length (now buffer) ⌝ }
+// Clause 7.7: stores a processor's part from position at, with its direct waits in so many bytes.
+fn store_part(
+    size: usize,
+    state: u8,
+    entry: u8,
+    waited: u64,
+    waits: u32,
+    buffer: &mut [u8],
+    at: usize,
+)
+    requires { ⌜ at + partSize size ≤ length (now buffer) ⌝ }
     ensures { λ _. ⌜
-        now (buffer .exit) ≡ sets (now (buffer .entry)) at (partBytes maskSize state entry waited waits)
+        now (buffer .exit) ≡ sets (now (buffer .entry)) at (partBytes size state entry waited waits)
         ⌝ }
 {
     buffer[at] = state;
     buffer[at + 1] = entry;
     write_number(waited, 4, buffer, at + 2);
-    write_number(waits as u64, MASK_BYTES, buffer, at + 6);
+    write_number(waits as u64, size, buffer, at + HEAD_BYTES);
 }
 
 // Stores the parts of the first count processors, from byte 1.
 fn store_parts(
+    size: usize,
     count: usize,
     phases: Phases,
     last: u64,
@@ -102,10 +110,10 @@ fn store_parts(
     waits: &[u32; SLOTS],
     buffer: &mut [u8],
 )
-    requires { ⌜ (count ≤ slots) × (listSize maskSize count ≤ length (now buffer)) ⌝ }
+    requires { ⌜ (size ≤ 4) × (count ≤ slots) × (listSize size count ≤ length (now buffer)) ⌝ }
     ensures { λ _. ⌜ now (buffer .exit) ≡ sets (now (buffer .entry)) 1
         (inTurn count
-        (partIn maskSize phases last (now (entries .entry)) (now (since .entry)) (now (waits .entry)))) ⌝ }
+        (partIn size phases last (now (entries .entry)) (now (since .entry)) (now (waits .entry)))) ⌝ }
 {
     let mut i: usize = 0;
     while i < count {
@@ -113,13 +121,21 @@ fn store_parts(
         let state = state_at(phases, p);
         let entry = entry_at(phases, entries[i], p);
         let waited = waited_at(phases, last, since[i], p);
-        store_part(state, entry, waited, waits[i], buffer, 1 + PART_BYTES * i);
+        store_part(
+            size,
+            state,
+            entry,
+            waited,
+            waits[i],
+            buffer,
+            1 + (HEAD_BYTES + size) * i,
+        );
         i += 1;
     }
 }
 
-// Clause 4.10: the processors that are listed.
-fn listed(processors: u8) -> usize
+// Clause 4.10: the processors that are listed: the plan's, and no more than a state has places for.
+pub fn listed(processors: u8) -> usize
     ensures { λ r. ⌜ r ≡ listedOf processors ⌝ }
 {
     if (processors as usize) < SLOTS {
@@ -127,6 +143,13 @@ fn listed(processors: u8) -> usize
     } else {
         SLOTS
     }
+}
+
+// Clause 7.7: how many bytes the list of a board with so many processors takes.
+pub fn list_size(processors: u8) -> usize
+    ensures { λ r. ⌜ r ≡ listSize (maskSizeFor processors) (listedOf processors) ⌝ }
+{
+    1 + (HEAD_BYTES + mask_size(processors)) * listed(processors)
 }
 
 // Writes the list from the start of the buffer and answers how many bytes it took; those behind it stay. Refuses by 16
@@ -141,20 +164,22 @@ pub fn write(
     buffer: &mut [u8],
 ) -> Outcome
     ensures outcome { λ r. ⌜ outcomeSays r ≡ said
-        (listFault maskSize (listedOf processors) (now (buffer .entry)))
-        (listSize maskSize (listedOf processors)) ⌝ }
-    ensures bytes { λ _. ⌜ now (buffer .exit) ≡ listBuffer maskSize (listedOf processors)
-        (partIn maskSize phases last (now (entries .entry)) (now (since .entry)) (now (waits .entry)))
+        (listFault (maskSizeFor processors) (listedOf processors) (now (buffer .entry)))
+        (listSize (maskSizeFor processors) (listedOf processors)) ⌝ }
+    ensures bytes { λ _. ⌜ now (buffer .exit) ≡ listBuffer (maskSizeFor processors) (listedOf processors)
+        (partIn (maskSizeFor processors) phases last
+        (now (entries .entry)) (now (since .entry)) (now (waits .entry)))
         (now (buffer .entry)) ⌝ }
 {
+    let size = mask_size(processors);
     let count = listed(processors);
-    let size = 1 + PART_BYTES * count;
-    let verdict = check_room(size, buffer.len(), 0);
+    let needed = list_size(processors);
+    let verdict = check_room(needed, buffer.len(), 0);
     match verdict {
         Verdict::Accepted => {
             buffer[0] = count as u8;
-            store_parts(count, phases, last, entries, since, waits, buffer);
-            Outcome::Bytes(size)
+            store_parts(size, count, phases, last, entries, since, waits, buffer);
+            Outcome::Bytes(needed)
         }
         Verdict::Refused(refusal) => Outcome::Refused(refusal),
     }

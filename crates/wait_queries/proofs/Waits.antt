@@ -1,19 +1,21 @@
--- Who waits for whom: the four ways, and that both are processors that a state holds, on every board and state. Assumes nothing.
+-- Who waits for whom: the four ways, and that both are processors of the plan that a state holds, on every board and state.
+-- Assumes nothing.
 use Prim.Native.Nat.{ℕ, _<_}
 use mathlib.Core.Path.{_≡_, sym, _∙_}
 use mathlib.Core.Bool.{Bool, true, not, _&&_, _||_}
 use mathlib.Core.Logic.{⊎-elim}
 use lib.Dec.{ltb}
+use lib.ListN.{getD}
 use borrow.Author.Tests.{ltb-true}
 use Rattle.masks.specs.Sets.{bit, maskOf}
 use Rattle.masks.proofs.Masks.{bit-mask}
-use Rattle.masks.proofs.Truth.{and-left, and-three, and-all-three, or-cases, or-left, or-right}
+use Rattle.masks.proofs.Truth.{and-left, and-right, and-three, and-all-three, or-cases, or-left, or-right}
 use Rattle.plans.specs.Entries.{slots}
 use Rattle.settling.specs.declared.Phases.{Phases}
 use Rattle.settling.specs.Requests.{Facts, isWriter, isEarlier, conflicts, unsatisfied, active, holdingRead, holdingWrite, entitledRead, entitledWrite, waitingRead, waitingWrite}
 use Rattle.states.specs.declared.Board.{Board}
 use Rattle.states.specs.declared.State.{State}
-use Rattle.states.specs.Requests.{isHolding, isEntitled, isWaiting, cleaned}
+use Rattle.states.specs.Requests.{hasProcessor, inPlan, isHolding, isEntitled, isWaiting, cleaned}
 use Rattle.rules.specs.Calls.{factsOf, phasesOf}
 use Rattle.waiting.specs.Waits.{waitsIn}
 use Rattle.queries.specs.Queries.{waitsFor}
@@ -78,10 +80,10 @@ module _ (f : Facts) (ph : Phases) (p q : ℕ) where
       let earlier : earlierWrite ≡ true = and-all-three (isEarlier f q p) (active ph q) (isWriter f q) before a w in
       or-right way1 _ (or-right way2 _ (or-right way3 way4 (and-all-three (waitingWrite f ph p) earlierWrite c h earlier x)))
 
--- ---- both are among those that a state holds
+-- ---- both are the plan's, and among those that a state holds
 
-marked-below : (w : ℕ) (test : ℕ → Bool) (k : ℕ) → bit (maskOf w test) k ≡ true → k < w
-marked-below w test k e = ltb-true k w (and-left (ltb k w) (test k) (sym (bit-mask w test k) ∙ e))
+marked-passes : (w : ℕ) (test : ℕ → Bool) (k : ℕ) → bit (maskOf w test) k ≡ true → test k ≡ true
+marked-passes w test k e = and-right (ltb k w) (test k) (sym (bit-mask w test k) ∙ e)
 
 module _ (b : Board) (s : State) where
   abbrev f : Facts
@@ -90,30 +92,48 @@ module _ (b : Board) (s : State) where
   abbrev ph : Phases
   ph = phasesOf b s
 
-  waiting-below : (p : ℕ) → bit (ph .waiting) p ≡ true → p < slots
-  unfolding cleaned
-  waiting-below p = marked-below slots (isWaiting (b .terms) (s .entry) (s .phases)) p
+  abbrev pub Counted : ℕ → Type 0
+  Counted p = hasProcessor (b .terms) p ≡ true
 
-  entitled-below : (p : ℕ) → bit (ph .entitled) p ≡ true → p < slots
-  unfolding cleaned
-  entitled-below p = marked-below slots (isEntitled (b .terms) (s .entry) (s .phases)) p
+  in-plan-counted : (p : ℕ) (t : Bool) → (inPlan (b .terms) (s .entry) p && t) ≡ true → Counted p
+  in-plan-counted p t e =
+      and-left (hasProcessor (b .terms) p) (ltb (getD (s .entry) p 0) (b .terms .count))
+      (and-left (inPlan (b .terms) (s .entry) p) t e)
 
-  holding-below : (p : ℕ) → bit (ph .holding) p ≡ true → p < slots
-  unfolding cleaned
-  holding-below p = marked-below slots (isHolding (b .terms) (s .entry) (s .phases)) p
+  waiting-counted : (p : ℕ) → bit (ph .waiting) p ≡ true → Counted p
+  unfolding cleaned isWaiting
+  waiting-counted p e = in-plan-counted p _ (marked-passes slots (isWaiting (b .terms) (s .entry) (s .phases)) p e)
+
+  entitled-counted : (p : ℕ) → bit (ph .entitled) p ≡ true → Counted p
+  unfolding cleaned isEntitled
+  entitled-counted p e = in-plan-counted p _ (marked-passes slots (isEntitled (b .terms) (s .entry) (s .phases)) p e)
+
+  holding-counted : (p : ℕ) → bit (ph .holding) p ≡ true → Counted p
+  unfolding cleaned isHolding
+  holding-counted p e = in-plan-counted p _ (marked-passes slots (isHolding (b .terms) (s .entry) (s .phases)) p e)
+
+  unsatisfied-counted : (p : ℕ) → unsatisfied ph p ≡ true → Counted p
+  unsatisfied-counted p e =
+      ⊎-elim (waiting-counted p) (entitled-counted p) (or-cases (bit (ph .waiting) p) (bit (ph .entitled) p) e)
+
+  active-counted : (p : ℕ) → active ph p ≡ true → Counted p
+  active-counted p e = ⊎-elim (unsatisfied-counted p) (holding-counted p) (or-cases (unsatisfied ph p) (bit (ph .holding) p) e)
+
+  pub waits-counted : (p q : ℕ) → waitsFor b s p q ≡ true → Counted p × Counted q
+  unfolding waitsFor
+  waits-counted p q e = go (waits-reason f ph p q e)
+    where
+      go : Reason f ph p q → Counted p × Counted q
+      go (entitled-read h k c) = (entitled-counted p (and-left _ (not (isWriter f p)) h), holding-counted q (and-left _ (isWriter f q) k))
+      go (waiting-read h k c) = (waiting-counted p (and-left _ (not (isWriter f p)) h), entitled-counted q (and-left _ (isWriter f q) k))
+      go (entitled-write h k c) = (entitled-counted p (and-left _ (isWriter f p) h), holding-counted q (and-left _ (not (isWriter f q)) k))
+      go (waiting-write h before a w c) = (waiting-counted p (and-left _ (isWriter f p) h), active-counted q a)
+
+  counted-below : (p : ℕ) → Counted p → p < slots
+  counted-below p e = ltb-true p slots (and-left (ltb p slots) (ltb p (b .terms .processors)) e)
 
   pub unsatisfied-below : (p : ℕ) → unsatisfied (phasesOf b s) p ≡ true → p < slots
-  unsatisfied-below p e = ⊎-elim (waiting-below p) (entitled-below p) (or-cases (bit (ph .waiting) p) (bit (ph .entitled) p) e)
-
-  active-below : (p : ℕ) → active ph p ≡ true → p < slots
-  active-below p e = ⊎-elim (unsatisfied-below p) (holding-below p) (or-cases (unsatisfied ph p) (bit (ph .holding) p) e)
+  unsatisfied-below p e = counted-below p (unsatisfied-counted p e)
 
   pub waits-below : (p q : ℕ) → waitsFor b s p q ≡ true → (p < slots) × (q < slots)
-  unfolding waitsFor
-  waits-below p q e = go (waits-reason f ph p q e)
-    where
-      go : Reason f ph p q → (p < slots) × (q < slots)
-      go (entitled-read h k c) = (entitled-below p (and-left _ (not (isWriter f p)) h), holding-below q (and-left _ (isWriter f q) k))
-      go (waiting-read h k c) = (waiting-below p (and-left _ (not (isWriter f p)) h), entitled-below q (and-left _ (isWriter f q) k))
-      go (entitled-write h k c) = (entitled-below p (and-left _ (isWriter f p) h), holding-below q (and-left _ (not (isWriter f q)) k))
-      go (waiting-write h before a w c) = (waiting-below p (and-left _ (isWriter f p) h), active-below q a)
+  waits-below p q e = (counted-below p (waits-counted p q e .0), counted-below q (waits-counted p q e .1))

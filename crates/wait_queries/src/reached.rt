@@ -4,8 +4,8 @@ use encoding::check_room;
 use plans::SLOTS;
 use queries::MaskAnswer;
 use queries::check_processor;
-use reaching::ROOM;
 use reaching::reach_rows;
+use reaching::room_of;
 use reaching::write_rows;
 use refusals::Verdict;
 use refusals::first_of;
@@ -26,23 +26,24 @@ ghost use Rattle.queries.specs.inner.Rows.{directRows};
 
 // Refuses by 11, then by 16 a scratch that is too short.
 fn check_reach(terms: Terms, processor: u8, size: usize) -> Verdict
-    ensures { λ r. ⌜ verdictNumber r ≡ firstOf (processorFault terms processor) (roomFault scratchSize size 0) ⌝ }
+    ensures { λ r. ⌜ verdictNumber r
+        ≡ firstOf (processorFault terms processor) (roomFault (scratchSize (terms .processors)) size 0) ⌝ }
 {
     let counted = check_processor(terms, processor);
-    let room = check_room(ROOM, size, 0);
+    let room = check_room(room_of(terms.processors), size, 0);
     first_of(counted, room)
 }
 
-// Writes the rows of all processors into the scratch and answers the one asked for.
-fn write_reach(direct: [u32; SLOTS], processor: u8, scratch: &mut [u8]) -> u32
-    requires { ⌜ (processor < slots) × (scratchSize ≤ length (now scratch)) ⌝ }
-    ensures mask { λ r. ⌜ ((b : Board) (s : State) → direct ≡ directRows b s
+// Writes the rows of all processors into the scratch, as words for so many, and answers the row asked for.
+fn write_reach(processors: u8, direct: [u32; SLOTS], processor: u8, scratch: &mut [u8]) -> u32
+    requires { ⌜ (processor < slots) × (scratchSize processors ≤ length (now scratch)) ⌝ }
+    ensures mask { λ r. ⌜ ((b : Board) (s : State) → processors ≡ b .terms .processors → direct ≡ directRows b s
         → r ≡ maskOf slots (reaches b s processor)) ⌝ }
-    ensures stored { λ _. ⌜ ((b : Board) (s : State) → direct ≡ directRows b s
+    ensures stored { λ _. ⌜ ((b : Board) (s : State) → processors ≡ b .terms .processors → direct ≡ directRows b s
         → now (scratch .exit) ≡ overwritten (now (scratch .entry)) 0 (reachBytes b s)) ⌝ }
 {
-    let rows = reach_rows(direct);
-    write_rows(rows, scratch);
+    let rows = reach_rows(processors, direct);
+    write_rows(processors, rows, scratch);
     rows[processor as usize]
 }
 
@@ -54,8 +55,9 @@ fn reach_from(terms: Terms, direct: [u32; SLOTS], processor: u8, scratch: &mut [
         → now (scratch .exit) ≡ reachScratch b s processor (now (scratch .entry))) ⌝ }
 {
     let verdict = check_reach(terms, processor, scratch.len());
+    let m = terms.processors;
     match verdict {
-        Verdict::Accepted => MaskAnswer::Mask(write_reach(direct, processor, scratch)),
+        Verdict::Accepted => MaskAnswer::Mask(write_reach(m, direct, processor, scratch)),
         Verdict::Refused(refusal) => MaskAnswer::Refused(refusal),
     }
 }

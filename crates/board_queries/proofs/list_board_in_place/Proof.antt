@@ -2,7 +2,6 @@
 use mathlib.Core.Path.{_∙_}
 use mathlib.Core.List.{[]}
 use Rattle.rules.specs.InPlace.{boardBy, stateBy}
-use Rattle.wait_listing.specs.Listing.{maskSize}
 use Rattle.queries.proofs.Answers.{rows-counted}
 use Rattle.board_queries.proofs.WholeBoard.{board-found}
 use borrow.Author.Needs.{needs}
@@ -19,7 +18,7 @@ returns c =
     let s = stateBy (a .moment) (a .entries .now) (a .since .now) (a .earlier .now) in
     let counted = cleaned .clean .ensures in (
       written .write .ensures .0,
-      written .write .ensures .1 ∙ board-found maskSize b s _ _ counted (rows-counted b s _ counted _ (found .waits-of-all .ensures)) (a .buffer .now),
+      written .write .ensures .1 ∙ board-found b s _ _ counted (rows-counted b s _ counted _ (found .waits-of-all .ensures)) (a .buffer .now),
     )
 
 pub list-board-in-place-spec : {M : Type 1} → statement M

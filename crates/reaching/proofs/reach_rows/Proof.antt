@@ -12,20 +12,23 @@ use Rattle.reaching.proofs.reach_rows.Statement.{statement}
 use Rattle.reaching.proofs.reach_rows.Tie as tie
 
 abbrev Inv-loop : tie.InvT-loop
-Inv-loop direct k₀ rows k = (k ≤ slots) × (rows ≡ rowsThrough k direct)
+Inv-loop processors count rows₀ k₀ rows k = (k ≤ count) × (rows ≡ rowsThrough k rows₀)
 
 abbrev μ-loop : tie.MeasureT-loop
-μ-loop direct k₀ rows k = slots - k
+μ-loop processors count rows₀ k₀ rows k = count - k
 
 loop-holds : tie.Need-loop-holds Inv-loop μ-loop
 unfolding rowsThrough
 loop-holds c = (omega arith, refl)
 
+join-through-requires : tie.Need-join-through-requires Inv-loop μ-loop
+join-through-requires c κs = omega (arith, c .before .before .listed .ensures)
+
 loop-again : tie.Need-loop-again Inv-loop μ-loop
 unfolding rowsThrough
 loop-again c =
     let loop = c .before .before .loop in
-    let direct : List ℕ = c .before .before .before .args .direct in (
+    let direct : List ℕ = c .before .before .before .before .args .direct in (
       omega arith,
       c .join-through .ensures
           ∙ ap (λ (xs : List ℕ). tabulate slots (joinedRow xs (loop .k))) (loop .inv .1)
@@ -34,8 +37,9 @@ loop-again c =
 
 returns : tie.Need-returns Inv-loop μ-loop
 returns c =
-    let last : c .before .loop .k ≡ slots = omega arith in
-    rw last at (c .before .loop .inv .1)
+    let counted = c .before .before in
+    let last : c .before .loop .k ≡ counted .listed .result = omega arith in
+    rw (last, counted .listed .ensures) at (c .before .loop .inv .1)
 
 pub reach-rows-spec : {M : Type 1} → statement M
 reach-rows-spec =
@@ -43,9 +47,10 @@ reach-rows-spec =
     (tie.spec
     Inv-loop
     μ-loop
-    loop-holds
     (λ c κs. search needs)
-    (λ c. omega arith)
+    loop-holds
+    join-through-requires
+    (λ c. omega (arith, c .before .before .before .listed .ensures))
     (λ c. omega arith)
     loop-again
     returns)

@@ -2,7 +2,6 @@
 use mathlib.Core.Path.{_∙_}
 use native.Mathlib.Omega.{arith}
 use lib.ListN.{length-set}
-use Rattle.wait_listing.specs.Listing.{maskSize}
 use Rattle.wait_listing.proofs.Stores.{part-written}
 use borrow.Author.Needs.{needs}
 use Rattle.wait_listing.proofs.store_part.Statement.{statement}
@@ -21,7 +20,7 @@ returns c =
     let first = c .before .before .before .before .before .before in
     let start = first .before .before .before in
     let a = start .args in
-    part-written maskSize (a .state) (a .entry) (a .waited) (a .waits) (a .buffer .now) (a .at) _ _ (start .pre)
+    part-written (a .size) (a .state) (a .entry) (a .waited) (a .waits) (a .buffer .now) (a .at) _ _ (start .pre)
     (first .write-number .ensures .1) (c .before .before .write-number2 .ensures .1)
 
 pub store-part-spec : {M : Type 1} → statement M

@@ -6,19 +6,20 @@ use native.Mathlib.Omega.{arith}
 use lib.ListN.{length}
 use lib.Seq.{sets, length-sets}
 use Rattle.plans.specs.Entries.{slots}
-use Rattle.wait_listing.specs.Listing.{maskSize, entryIn, waitedIn, partIn, inTurn, partSize, listSize}
+use Rattle.wait_listing.specs.Listing.{entryIn, waitedIn, partIn, inTurn, partSize, listSize}
 use Rattle.wait_listing.proofs.InTurn.{length-part, turn-stores}
+use Rattle.wait_listing.proofs.Sizes.{part-inside, list-small}
 use borrow.Author.Needs.{needs}
 use Rattle.wait_listing.proofs.store_parts.Statement.{statement}
 use Rattle.wait_listing.proofs.store_parts.Tie as tie
 
 abbrev Inv-loop : tie.InvT-loop
-Inv-loop count phases last entries since waits buffer₀ i₀ buffer i =
+Inv-loop size count phases last entries since waits buffer₀ i₀ buffer i =
     (i ≤ count) × (length buffer ≡ length buffer₀)
-    × (buffer ≡ sets buffer₀ 1 (inTurn i (partIn maskSize phases last entries since waits)))
+    × (buffer ≡ sets buffer₀ 1 (inTurn i (partIn size phases last entries since waits)))
 
 abbrev μ-loop : tie.MeasureT-loop
-μ-loop count phases last entries since waits buffer₀ i₀ buffer i = count - i
+μ-loop size count phases last entries since waits buffer₀ i₀ buffer i = count - i
 
 loop-holds : tie.Need-loop-holds Inv-loop μ-loop
 unfolding inTurn
@@ -36,10 +37,33 @@ loop-again c =
     let part = stored .store-part .ensures in (
       omega arith,
       ap length part ∙ simp length-sets (loop .inv .1),
-      turn-stores (partSize maskSize) (partIn maskSize (a .phases) (a .last) (a .entries .now) (a .since .now) (a .waits .now))
-          (λ p. length-part maskSize _ _ _ _) 1 (loop .i) (a .buffer .now) (loop .buffer) _ (loop .inv .2)
+      turn-stores (partSize (a .size)) (partIn (a .size) (a .phases) (a .last) (a .entries .now) (a .since .now) (a .waits .now))
+          (λ p. length-part (a .size) _ _ _ _) 1 (loop .i) (a .buffer .now) (loop .buffer) _ (loop .inv .2)
           (rw (state .state-at .ensures, entry .entry-at .ensures, waited .waited-at .ensures) at part),
     )
+
+mul-store-part-2 : tie.Need-mul-store-part-2 Inv-loop μ-loop
+mul-store-part-2 c =
+    let loop = c .before .before .before .before .before .before .before .before .loop in
+    let a = c .before .before .before .before .before .before .before .before .before .before .args in
+    let below : loop .i ≤ slots = omega arith in
+    let small : a .size ≤ 4 = omega arith in
+    omega (arith, list-small (a .size) (loop .i) small below)
+
+add-store-part-2 : tie.Need-add-store-part-2 Inv-loop μ-loop
+add-store-part-2 c =
+    let loop = c .before .before .before .before .before .before .before .before .loop in
+    let a = c .before .before .before .before .before .before .before .before .before .before .args in
+    let below : loop .i ≤ slots = omega arith in
+    let small : a .size ≤ 4 = omega arith in
+    omega (arith, list-small (a .size) (loop .i) small below)
+
+store-part-requires : tie.Need-store-part-requires Inv-loop μ-loop
+store-part-requires c κs =
+    let loop = c .before .before .before .before .before .before .before .before .loop in
+    let a = c .before .before .before .before .before .before .before .before .before .before .args in
+    let below : loop .i < a .count = omega arith in
+    omega (arith, part-inside (a .size) (loop .i) (a .count) below)
 
 same-length : tie.Need-same-length Inv-loop μ-loop
 same-length c = c .before .loop .inv .1
@@ -66,8 +90,9 @@ store-parts-spec =
     (λ c. omega arith)
     (λ c. omega arith)
     (λ c. omega arith)
-    (λ c. omega arith)
-    (λ c κs. omega arith)
+    mul-store-part-2
+    add-store-part-2
+    store-part-requires
     (λ c. omega arith)
     (λ c. omega arith)
     loop-again

@@ -2,8 +2,10 @@
 use mathlib.Core.Path.{_∙_}
 use native.Mathlib.Omega.{arith}
 use lib.ListN.{length, length-set}
-use Rattle.wait_listing.specs.Listing.{maskSize, partIn}
+use Rattle.plans.specs.Entries.{maskSizeFor}
+use Rattle.wait_listing.specs.Listing.{listedOf, partIn}
 use Rattle.wait_listing.proofs.InTurn.{length-part}
+use Rattle.wait_listing.proofs.Sizes.{mask-size-small}
 use Rattle.wait_listing.proofs.Stores.{room-for-list, list-written, list-refused}
 use borrow.Author.Needs.{needs}
 use Rattle.wait_listing.proofs.write.Statement.{statement}
@@ -12,22 +14,31 @@ use Rattle.wait_listing.proofs.write.Tie as tie
 slice-write-buffer : tie.Need-slice-write-buffer
 slice-write-buffer c =
     let looked = c .before .before in
-    let a = looked .before .before .before .args in
+    let sized = looked .before in
+    let a = sized .before .before .before .before .args in
     omega (
       arith,
-      room-for-list maskSize (looked .before .listed .result) (length (a .buffer .now)) _ (looked .check-room .ensures)
-          (c .enum-told .given .1),
+      room-for-list (maskSizeFor (a .processors)) (listedOf (a .processors)) (length (a .buffer .now)) _
+          (rw (sized .list-size .ensures) at (looked .check-room .ensures)) (c .enum-told .given .1),
     )
 
 store-parts-requires : tie.Need-store-parts-requires
 store-parts-requires c κs =
-    let looked = c .before .before .before in (
-      omega (arith, looked .before .listed .ensures),
-      simp length-set (room-for-list maskSize _ _ _ (looked .check-room .ensures) (c .before .enum-told .given .1)),
+    let looked = c .before .before .before in
+    let sized = looked .before in
+    let counted = sized .before in
+    let masked = counted .before in
+    let a = masked .before .before .args in
+    let room =
+    room-for-list (maskSizeFor (a .processors)) (listedOf (a .processors)) (length (a .buffer .now)) _
+    (rw (sized .list-size .ensures) at (looked .check-room .ensures)) (c .before .enum-told .given .1) in (
+      omega (arith, masked .mask-size .ensures, mask-size-small (a .processors)),
+      omega (arith, counted .listed .ensures),
+      simp length-set (rw (masked .mask-size .ensures, counted .listed .ensures) room),
     )
 
 same-length : tie.Need-same-length
-same-length c = c .before .before .store-parts .kept .1 .1 .1 .1 .1 .1 .0 ∙ simp length-set
+same-length c = c .before .before .store-parts .kept .1 .1 .1 .1 .1 .1 .1 .0 ∙ simp length-set
 
 returns : tie.Need-returns
 unfolding partIn
@@ -35,15 +46,24 @@ returns c =
     let stored = c .before .before in
     let told = stored .before .before in
     let looked = told .before .before in
-    let counted = looked .before in
-    list-written maskSize _ (λ p. length-part maskSize _ _ _ _) _ _ _ (counted .listed .ensures) _ (looked .check-room .ensures)
-    (told .enum-told .given .1) _ (stored .store-parts .ensures)
+    let sized = looked .before in
+    let counted = sized .before in
+    let masked = counted .before in
+    let a = masked .before .before .args in
+    rw (sized .list-size .ensures)
+    (list-written (maskSizeFor (a .processors)) _ (λ p. length-part (maskSizeFor (a .processors)) _ _ _ _) _
+    (listedOf (a .processors)) _ (rw (sized .list-size .ensures) at (looked .check-room .ensures))
+    (told .enum-told .given .1) _
+    (rw (masked .mask-size .ensures, counted .listed .ensures) at (stored .store-parts .ensures)))
 
 returns-2 : tie.Need-returns-2
 unfolding partIn
 returns-2 c =
     let looked = c .before .before .before in
-    list-refused maskSize _ (λ p. length-part maskSize _ _ _ _) _ _ _ (looked .before .listed .ensures) _ (looked .check-room .ensures)
+    let sized = looked .before in
+    let a = sized .before .before .before .before .args in
+    list-refused (maskSizeFor (a .processors)) _ (λ p. length-part (maskSizeFor (a .processors)) _ _ _ _) _
+    (listedOf (a .processors)) _ (rw (sized .list-size .ensures) at (looked .check-room .ensures))
     _ (c .before .verdict .given .1)
 
 pub write-spec : {M : Type 1} → statement M
@@ -51,8 +71,8 @@ write-spec =
     tie.close
     (tie.spec
     (λ c κs. search needs)
-    (λ c. search needs)
-    (λ c. search needs)
+    (λ c κs. search needs)
+    (λ c κs. search needs)
     (λ c κs. search needs)
     (λ c. search needs)
     (λ c. search needs)

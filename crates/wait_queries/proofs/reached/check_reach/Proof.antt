@@ -5,19 +5,17 @@ use borrow.Author.Needs.{needs}
 use Rattle.wait_queries.proofs.reached.check_reach.Statement.{statement}
 use Rattle.wait_queries.proofs.reached.check_reach.Tie as tie
 
-check-processor-requires : tie.Need-check-processor-requires
-check-processor-requires c κs = search needs
-
-check-room-requires : tie.Need-check-room-requires
-check-room-requires c κs = search needs
-
-first-of-requires : tie.Need-first-of-requires
-first-of-requires c κs = search needs
-
 returns : tie.Need-returns
 returns c =
-    c .first-of .ensures ∙ ap₂ firstOf (c .before .before .check-processor .ensures) (c .before .check-room .ensures)
+    let room = rw (c .before .before .room-of .ensures) at (c .before .check-room .ensures) in
+    c .first-of .ensures ∙ ap₂ firstOf (c .before .before .before .check-processor .ensures) room
 
 pub check-reach-spec : {M : Type 1} → statement M
 check-reach-spec =
-    tie.close (tie.spec check-processor-requires check-room-requires first-of-requires returns)
+    tie.close
+    (tie.spec
+    (λ c κs. search needs)
+    (λ c κs. search needs)
+    (λ c κs. search needs)
+    (λ c κs. search needs)
+    returns)

@@ -9,8 +9,8 @@ returns c =
     let stored = c .before .before in
     let rows = stored .before .before in
     let start = rows .before .before in (
-      λ b s are. row-asked b s _ (rows-reached b s _ _ are (rows .reach-rows .ensures)) _ (start .pre .0),
-      λ b s are. words-stored b s _ (rows-reached b s _ _ are (rows .reach-rows .ensures)) _ _ (start .pre .1)
+      λ b s same are. row-asked b s _ (rows-reached b s _ same _ _ are (rows .reach-rows .ensures)) _ (start .pre .0),
+      λ b s same are. words-stored b s _ (rows-reached b s _ same _ _ are (rows .reach-rows .ensures)) _ same _ _ (start .pre .1)
           (stored .write-rows .ensures .1),
     )
 
