@@ -23,7 +23,7 @@ enum bittmelon_refusal {
     BITTMELON_ACCEPTED = 0,
     BITTMELON_SHORT = 1,       /* short: bytes end before a count, an entry or a call that is due */
     BITTMELON_TAIL = 2,        /* tail: bytes behind the last call of a log */
-    BITTMELON_PROCESSORS = 3,  /* processors: the count is not 1 to 16 */
+    BITTMELON_PROCESSORS = 3,  /* processors: the count is not 1 to 32 */
     BITTMELON_RESOURCES = 4,   /* resources: the count is not 1 to 64 */
     BITTMELON_ENTRIES = 5,     /* entries: the count is not 1 to 64 */
     BITTMELON_KIND = 6,        /* kind: neither 0 nor 1 */

@@ -63,7 +63,7 @@ def refusals():
     yield "refused_02_tail", log(F, F_CALLS[:3]) + b"\0"
     yield "refused_02_no_calls", log(F, []) + b"\7"
     yield "refused_03_none", plan(0, 1, [read([0], 1)])
-    yield "refused_03_seventeen", plan(17, 1, [read([0], 1)])
+    yield "refused_03_thirty_three", plan(33, 1, [read([0], 1)])
     yield "refused_04_none", plan(1, 0, [read([0], 1)])
     yield "refused_04_sixty_five", plan(1, 65, [read([0], 1)])
     yield "refused_05_none", bytes([1, 1, 0])
@@ -129,9 +129,24 @@ def boards():
     yield "readers_share", log(plan(3, 1, [read([0], 4), write([0], 4)]), [issue(0, 0, 1), issue(1, 0, 2), issue(2, 1, 3), complete(0, 4), complete(1, 5), complete(2, 6)])
     yield from withdrawals()
     yield from handovers()
+    yield from wide_boards(entries)
     rng = random.Random(7)
     for size in (60, 300):
         yield f"busy_board_{size}", log(full, busy(rng, 16, entries, size))
+
+
+def wide_boards(entries):
+    """Boards of more than 16 processors: masks have eight digits, whatever is in them."""
+    for m in (17, 32):
+        wide = plan(m, 1, [write([0], 1), read([0], 2)])
+        calls = [issue(p, p % 2, p) for p in range(m)]
+        order = [0] + [p for p in range(m) if p % 2] + [p for p in range(2, m, 2)]
+        calls += [complete(p, 40 + i) for i, p in enumerate(order)]
+        yield f"{m}_processors", log(wide, calls)
+        yield f"{m}_processors_low_masks", log(wide, [issue(0, 0, 1), issue(m - 1, 0, 2), issue(m, 0, 3), complete(0, 4), issue(255, 0, 4)])
+    rng = random.Random(8)
+    for m, size in ((24, 300), (32, 300)):
+        yield f"busy_board_of_{m}", log(plan(m, 64, entries), busy(rng, m, entries, size))
 
 
 def withdrawals():

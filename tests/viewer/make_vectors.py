@@ -12,7 +12,7 @@ SHORT, PROCESSORS, RESOURCES, ENTRIES, KIND, SET, LENGTH = 1, 3, 4, 5, 6, 7, 8
 
 def read(data):
     """The refusal number, the read figure and the write figure of plan bytes."""
-    limits = ((PROCESSORS, 16), (RESOURCES, 64), (ENTRIES, 64))
+    limits = ((PROCESSORS, 32), (RESOURCES, 64), (ENTRIES, 64))
     counts = []
     for place, (number, most) in enumerate(limits):
         if place >= len(data):
@@ -55,7 +55,7 @@ def by_hand():
     for end in range(len(f)):
         yield f"plan F cut after {end} bytes", f[:end], (1, 0, 0)
     yield "nothing", b"", (1, 0, 0)
-    for m, answer in ((0, (3, 0, 0)), (1, (0, 7, 0)), (2, (0, 7, 7)), (16, (0, 7, 105)), (17, (3, 0, 0)), (255, (3, 0, 0))):
+    for m, answer in ((0, (3, 0, 0)), (1, (0, 7, 0)), (2, (0, 7, 7)), (16, (0, 7, 105)), (17, (0, 7, 112)), (32, (0, 7, 217)), (33, (3, 0, 0)), (255, (3, 0, 0))):
         yield f"{m} processors", plan(m, 1, [one]), answer
     for n, answer in ((0, (4, 0, 0)), (1, (0, 7, 7)), (64, (0, 7, 7)), (65, (4, 0, 0)), (255, (4, 0, 0))):
         yield f"{n} resources", plan(2, n, [one]), answer
@@ -79,7 +79,7 @@ def by_hand():
     for ticks, answer in ((0, (8, 0, 0)), (1, (0, 1, 1)), (255, (0, 255, 255)), (256, (0, 256, 256)), (65535, (0, 65535, 65535))):
         yield f"length {ticks}", plan(2, 1, [entry(0, 1, ticks)]), answer
     largest = [entry(0, 1, 65535), entry(1, 1, 65535)]
-    yield "largest figures", plan(16, 1, largest), (0, 131070, 1966050)
+    yield "largest figures", plan(32, 1, largest), (0, 131070, 4063170)
     yield "3 before 4", bytes([0, 0, 0]), (3, 0, 0)
     yield "4 before 5", bytes([1, 0, 0]), (4, 0, 0)
     yield "3 before short", bytes([0]), (3, 0, 0)
@@ -104,10 +104,10 @@ def at_random(count):
             entry(rng.randint(0, 1), rng.randint(1, (1 << resources) - 1), rng.randint(1, 65535))
             for _ in range(rng.choice((1, 2, 5, 20, 64)))
         ]
-        data = bytearray(plan(rng.randint(1, 16), resources, entries))
+        data = bytearray(plan(rng.randint(1, 32), resources, entries))
         if i % 2:
             for _ in range(rng.randint(1, 3)):
-                data[rng.randrange(len(data))] = rng.choice((0, 1, 2, 17, 65, 255))
+                data[rng.randrange(len(data))] = rng.choice((0, 1, 2, 33, 65, 255))
             if rng.random() < 0.3:
                 del data[rng.randrange(len(data)) :]
         yield f"random {i}", bytes(data), read(data)

@@ -12,7 +12,7 @@ use Rattle.plans.specs.declared.Plan.{Plan}
 abbrev pub within : ℕ → ℕ → ℕ → Bool
 within low high n = leb low n && leb n high
 
--- Clause 2.3: 3 for a count of processors that is not 1 to 16.
+-- Clause 2.3: 3 for a count of processors that is not 1 to 32.
 abbrev pub processorsFault : ℕ → ℕ
 processorsFault m = due (within 1 slots m) 3
 

@@ -26,9 +26,9 @@ fn print_reply(reply: Reply) {
             entitled,
             late,
         } => {
-            io::print_hex(STDOUT_FILENO, granted as u64, 4);
+            io::print_hex(STDOUT_FILENO, granted as u64, 8);
             io::write_all(STDOUT_FILENO, b" ");
-            io::print_hex(STDOUT_FILENO, entitled as u64, 4);
+            io::print_hex(STDOUT_FILENO, entitled as u64, 8);
             io::write_all(STDOUT_FILENO, b" ");
             io::print_decimal(STDOUT_FILENO, late as u64);
             io::write_all(STDOUT_FILENO, b"\n");
@@ -95,7 +95,7 @@ fn plan(processors: u8) -> Plan {
     }
 }
 
-// Clauses 2.3 and 4.5: plans of 1 and of 16 processors, and none of 0 or 17; the highest issues, the next is refused.
+// Clauses 2.3 and 4.5: plans of 1, 16, 17 and 32 processors, and none of 0 or 33; the highest issues, the next is refused.
 fn counts(processors: u8) {
     let fresh = arbiter::fresh_of(plan(processors));
     let verdict = fresh.verdict;
@@ -267,6 +267,8 @@ fn main() {
     counts(1);
     counts(16);
     counts(17);
+    counts(32);
+    counts(33);
     let fresh = arbiter::fresh_of(plan(4));
     let board = fresh.board;
     let state = fresh.state;
