@@ -24,7 +24,7 @@ fn print_outcome(outcome: Outcome) {
     ;
 }
 
-fn print_hex(bytes: &[u8]) {
+pub fn print_hex(bytes: &[u8]) {
     let mut i = 0;
     while i < bytes.len() {
         io::print_hex(STDOUT_FILENO, wide(bytes[i]), 2);
@@ -33,7 +33,7 @@ fn print_hex(bytes: &[u8]) {
 }
 
 // The answer, and the buffer after it.
-fn print_list(board: Board, state: State, buffer: &mut [u8]) {
+pub fn print_list(board: Board, state: State, buffer: &mut [u8]) {
     print_outcome(list_board(board, state, buffer));
     io::write_all(STDOUT_FILENO, b" ");
     print_hex(buffer);
@@ -87,6 +87,6 @@ pub fn print_lists(board: Board, state: State) {
     print_list(board, at_tick(state, 4294967296), &mut long);
     print_list(board, at_tick(state, 4294967298), &mut long);
     print_list(board, at_tick(state, 1), &mut long);
-    let mut whole = [7u8; 130];
+    let mut whole = [7u8; 322];
     print_list(with_processors(board, 200), state, &mut whole);
 }

@@ -1,5 +1,6 @@
 // The edges of the queries' rules, run against the library. The file `stdout` has the answers due.
 mod lists;
+mod wide;
 
 use libc::STDOUT_FILENO;
 use plans::ENTRIES;
@@ -29,7 +30,7 @@ fn print_phase(answer: PhaseAnswer) {
     }
 }
 
-fn print_mask(answer: MaskAnswer) {
+pub fn print_mask(answer: MaskAnswer) {
     match answer {
         MaskAnswer::Mask(mask) => {
             io::print_hex(STDOUT_FILENO, mask as u64, 4);
@@ -49,8 +50,8 @@ fn print_all(board: Board, state: State, processor: u8, scratch: &mut [u8]) {
     io::write_all(STDOUT_FILENO, b"\n");
 }
 
-// Plan F: writes {2}, {1,2}, {0}, reads {0,1}, {2}.
-fn plan() -> Plan {
+// Plan F with so many processors: writes {2}, {1,2}, {0}, reads {0,1}, {2}.
+pub fn plan(processors: u8) -> Plan {
     let mut entries = [Entry {
         kind: 0,
         set: 0,
@@ -82,7 +83,7 @@ fn plan() -> Plan {
         length: 5,
     };
     Plan {
-        processors: 4,
+        processors: processors,
         resources: 3,
         count: 5,
         entries: entries,
@@ -128,12 +129,12 @@ fn print_scratches(board: Board, state: State) {
     print_byte(long[31]);
     print_byte(long[32]);
     io::write_all(STDOUT_FILENO, b"\n");
-    print_mask(wait_queries::reach(board, state, 16, &mut long));
+    print_mask(wait_queries::reach(board, state, 32, &mut long));
     io::write_all(STDOUT_FILENO, b"\n");
 }
 
 fn main() {
-    let fresh = arbiter::fresh_of(plan());
+    let fresh = arbiter::fresh_of(plan(4));
     let board = fresh.board;
     let start = fresh.state;
     let state = four_calls(board, start);
@@ -146,4 +147,5 @@ fn main() {
     print_bytes(&scratch);
     print_scratches(board, state);
     lists::print_lists(board, state);
+    wide::print_wide();
 }
