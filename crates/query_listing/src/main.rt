@@ -16,6 +16,7 @@ use logs::COUNT_BYTES;
 use logs::CountAnswer;
 use logs::RECORD_BYTES;
 use plans::SLOTS;
+use plans::mask_size;
 use queries::MaskAnswer;
 use queries::PhaseAnswer;
 use reaching::ROOM;
@@ -38,11 +39,12 @@ fn print_refusal(refusal: Refusal) {
     io::print_decimal(STDOUT_FILENO, refusals::number(refusal) as u64);
 }
 
-fn print_mask(answer: MaskAnswer) {
+// A mask has two digits for each of its bytes, and as many bytes as in a listing.
+fn print_mask(processors: u8, answer: MaskAnswer) {
     match answer {
         MaskAnswer::Mask(mask) => {
             io::write_all(STDOUT_FILENO, b" ");
-            io::print_hex(STDOUT_FILENO, mask as u64, 4);
+            io::print_hex(STDOUT_FILENO, mask as u64, 2 * mask_size(processors));
         }
         MaskAnswer::Refused(refusal) => print_refusal(refusal),
     }
@@ -51,14 +53,21 @@ fn print_mask(answer: MaskAnswer) {
 // The scratch is as large as a reach needs, so that none is refused for it.
 fn print_query(board: Board, state: State, processor: u8) {
     let mut scratch = [0u8; ROOM];
+    let processors = board.terms.processors;
     io::print_decimal(STDOUT_FILENO, processor as u64);
     let phase = queries::phase_of(board, state, processor);
     match phase {
         PhaseAnswer::Is(is) => {
             io::write_all(STDOUT_FILENO, b" ");
             io::print_decimal(STDOUT_FILENO, queries::phase_number(is) as u64);
-            print_mask(wait_queries::direct_waits(board, state, processor));
-            print_mask(wait_queries::reach(board, state, processor, &mut scratch));
+            print_mask(
+                processors,
+                wait_queries::direct_waits(board, state, processor),
+            );
+            print_mask(
+                processors,
+                wait_queries::reach(board, state, processor, &mut scratch),
+            );
         }
         PhaseAnswer::Refused(refusal) => print_refusal(refusal),
     }
