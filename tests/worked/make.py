@@ -26,7 +26,7 @@ UNFOLDED = {
     "rules.specs.Calls": "putState takenState done settledDone issued left completed withdrawn both handedOver",
     "arbiter.specs.Fresh": "boardOf",
     "logs.specs.Records": "fieldsIn recordFault",
-    "digits.specs.Digits": "digits hex4",
+    "digits.specs.Digits": "digits maskIn",
     "lines.specs.Lines": "furtherFields refusalLine",
     "listings.specs.Lines": "firstLine callLine",
     "whole_listing.specs.Listing": "callsListing listingOf",

@@ -1,14 +1,14 @@
--- The table of pairs: one law carries its rule to each entry, and a mask by the table is the mask's four digits. That the
+-- The table of pairs: one law carries its rule to each entry, and a mask by the table is the mask's digits. That the
 -- code's table is this one is one computed test over all entries (`hex_pairs/Proof.antt`). Assumes nothing.
 use Prim.Native.Nat.{ℕ, zero, suc, _+_, _*_, _/_, _%_, _<_}
 use native.Mathlib.Omega.{arith}
 use mathlib.Core.Path.{_≡_, refl, _∙_}
 use mathlib.Core.Bool.{Bool, true, false, cond}
-use mathlib.Core.List.{List, [], _∷_, _++_}
+use mathlib.Core.List.{List, [], _∷_, _++_, append-assoc}
 use lib.Dec.{ltb}
 use lib.ListN.{getD}
 use Rattle.encoding.specs.Numbers.{number, bytesOf}
-use Rattle.digits.specs.Digits.{hexDigit, hexPair, pairsFrom, hexPairs, hex4, maskBy}
+use Rattle.digits.specs.Digits.{hexDigit, hexPair, pairsFrom, hexPairs, maskIn, hexMask, maskBy}
 
 from : (b n k : ℕ) → k < n → getD (pairsFrom b n) k 0 ≡ number (hexPair (b + k))
 unfolding pairsFrom
@@ -44,14 +44,17 @@ entry-digits b h =
     let f : b % 16 < 16 = omega arith in
     rw (entry b h) (two-bytes (hexDigit (b / 16)) (hexDigit (b % 16)) (hex-small (b / 16) d) (hex-small (b % 16) f))
 
--- A mask by the table is its four digits.
-pub mask-digits : (mask : ℕ) → maskBy hexPairs mask ≡ hex4 mask
-unfolding maskBy hex4
-mask-digits mask =
-    let h : mask / 256 % 256 < 256 = omega arith in
-    let l : mask % 256 < 256 = omega arith in
-    let first : mask / 256 % 256 / 16 ≡ mask / 4096 % 16 = omega arith in
-    let second : mask / 256 % 256 % 16 ≡ mask / 256 % 16 = omega arith in
-    let third : mask % 256 / 16 ≡ mask / 16 % 16 = omega arith in
-    let fourth : mask % 256 % 16 ≡ mask % 16 = omega arith in
-    rw (entry-digits (mask / 256 % 256) h, entry-digits (mask % 256) l) (rw (first, second, third, fourth) refl)
+-- A mask by the table is its digits, of however many bytes.
+pub mask-digits : (n mask : ℕ) → maskBy hexPairs n mask ≡ hexMask n mask
+unfolding maskIn
+mask-digits zero mask = refl
+mask-digits (suc n) mask =
+    let low : mask % 256 < 256 = omega arith in
+    rw (mask-digits n (mask / 256), entry-digits (mask % 256) low) refl
+
+-- Four bytes are two, and the two below them.
+pub mask-halves : (pair : ℕ → List ℕ) (mask : ℕ) → maskIn pair 4 mask ≡ maskIn pair 2 (mask / 65536) ++ maskIn pair 2 mask
+unfolding maskIn
+mask-halves pair mask =
+    let third : mask / 256 / 256 ≡ mask / 65536 = omega arith in
+    rw (third, append-assoc) refl

@@ -19,14 +19,18 @@ decimal n = digits 20 n
 abbrev pub hexDigit : ℕ → ℕ
 hexDigit d = cond (ltb d 10) (48 + d) (87 + d)
 
--- Clause 9.9: a mask in four hexadecimal digits.
-unfoldable pub hex4 : ℕ → List ℕ
-hex4 mask =
-    hexDigit (mask / 4096 % 16) ∷ hexDigit (mask / 256 % 16) ∷ hexDigit (mask / 16 % 16) ∷ hexDigit (mask % 16) ∷ []
-
 -- Clause 9.9: a byte in two hexadecimal digits, higher first.
 abbrev pub hexPair : ℕ → List ℕ
 hexPair byte = hexDigit (byte / 16) ∷ hexDigit (byte % 16) ∷ []
+
+-- Clause 9.9: the n low bytes of a mask, the highest first, each in the digits that are given for it.
+unfoldable pub maskIn : (ℕ → List ℕ) → ℕ → ℕ → List ℕ
+maskIn pair zero mask = []
+maskIn pair (suc n) mask = maskIn pair n (mask / 256) ++ pair (mask % 256)
+
+-- Clause 9.9: a mask of n bytes in hexadecimal digits.
+abbrev pub hexMask : ℕ → ℕ → List ℕ
+hexMask n mask = maskIn hexPair n mask
 
 -- The pairs of n bytes from b on, each as a number of two bytes (clause 2.1); and the table, that of all 256 bytes.
 unfoldable pub pairsFrom : ℕ → ℕ → List ℕ
@@ -36,6 +40,6 @@ pairsFrom b (suc n) = number (hexPair b) ∷ pairsFrom (suc b) n
 unfoldable pub hexPairs : List ℕ
 hexPairs = pairsFrom 0 256
 
--- A mask in four digits that a table of pairs has for its two bytes.
-unfoldable pub maskBy : List ℕ → ℕ → List ℕ
-maskBy pairs mask = bytesOf 2 (getD pairs (mask / 256 % 256) 0) ++ bytesOf 2 (getD pairs (mask % 256) 0)
+-- A mask of n bytes in the digits that a table of pairs has for them.
+abbrev pub maskBy : List ℕ → ℕ → ℕ → List ℕ
+maskBy pairs n mask = maskIn (λ byte. bytesOf 2 (getD pairs byte 0)) n mask

@@ -8,7 +8,8 @@ use lib.ListN.{length, getD, set, drop, length-append}
 use lib.Seq.{sets, length-sets, set-comm, drop-cons, drop-length}
 use Rattle.encoding.specs.Numbers.{bytesOf}
 use Rattle.encoding.proofs.Stores.{sets-append}
-use Rattle.digits.specs.Digits.{maskBy}
+use Rattle.digits.specs.Digits.{maskIn, maskBy}
+use Rattle.digits.proofs.Table.{mask-halves}
 use Rattle.lines.specs.Lines.{furtherFields, fieldsLine}
 use Rattle.lines.specs.inner.Stored.{Stored, callLead}
 
@@ -66,13 +67,28 @@ pair-stored l at pair h =
     let small : pair / 256 % 256 ≡ pair / 256 = omega arith in
     rw small (two-stored l at (pair % 256) (pair / 256))
 
--- The digits of a mask are those of its two bytes.
-pub mask-stored : (pairs l a b : List ℕ) (at mask : ℕ)
-    → a ≡ sets (set l at 32) (at + 1) (bytesOf 2 (getD pairs (mask / 256 % 256) 0))
-    → b ≡ sets a (at + 3) (bytesOf 2 (getD pairs (mask % 256) 0))
-    → Stored (32 ∷ maskBy pairs mask) l at (at + 5) b
-unfolding maskBy bytesOf
-mask-stored pairs l a b at mask ea eb =
-    let one : at + 1 ≡ suc at = omega arith in
-    let three : at + 3 ≡ suc (suc (suc at)) = omega arith in
-    record { place = refl; stores = eb ∙ rw (ea, one, three) refl }
+-- The digits of a mask's two low bytes, byte by byte.
+pub half-stored : (pairs l a b : List ℕ) (at mask : ℕ)
+    → a ≡ sets l at (bytesOf 2 (getD pairs (mask / 256 % 256) 0))
+    → b ≡ sets a (at + 2) (bytesOf 2 (getD pairs (mask % 256) 0))
+    → Stored (maskBy pairs 2 mask) l at (at + 4) b
+unfolding maskIn bytesOf
+half-stored pairs l a b at mask ea eb =
+    let two : at + 2 ≡ suc (suc at) = omega arith in
+    record { place = refl; stores = eb ∙ rw (ea, two) refl }
+
+module _ (pairs l : List ℕ) (at mask : ℕ) where
+  -- A space and a mask of two bytes.
+  pub narrow-stored : (n : ℕ) → n ≡ 2 → {next : ℕ} {b : List ℕ}
+      → Stored (maskBy pairs 2 mask) (set l at 32) (at + 1) next b
+      → Stored (32 ∷ maskBy pairs n mask) l at next b
+  narrow-stored n e s = rw e (then-stored (one-stored l at 32) s)
+
+  -- A space and a mask of four: its upper half, and then its lower.
+  pub wide-stored : (n : ℕ) → n ≡ 4 → {next end : ℕ} {a b : List ℕ}
+      → Stored (maskBy pairs 2 (mask / 65536)) (set l at 32) (at + 1) next a
+      → Stored (maskBy pairs 2 mask) a next end b
+      → Stored (32 ∷ maskBy pairs n mask) l at end b
+  wide-stored n e s t =
+      rw (e, mask-halves (λ byte. bytesOf 2 (getD pairs byte 0)) mask)
+      (then-stored (one-stored l at 32) (then-stored s t))

@@ -1,12 +1,14 @@
 // Words, decimal numbers and masks, stored from a position on where they fit. Each gives the position after it.
 use digits::digit_count;
 use digits::pair_at;
+use plans::mask_size;
 ghost use mathlib.Core.Path.{_≡_};
 ghost use mathlib.Core.List.{[], _∷_, _++_};
-ghost use Prim.Native.Nat.{_+_, _/_, _%_, _≤_, _<_};
+ghost use Prim.Native.Nat.{_+_, _*_, _/_, _%_, _≤_, _<_};
 ghost use lib.ListN.{length, getD};
 ghost use lib.Seq.{sets};
 ghost use Rattle.encoding.specs.Numbers.{bytesOf};
+ghost use Rattle.plans.specs.Entries.{maskSizeFor};
 ghost use Rattle.digits.specs.Digits.{decimal, maskBy};
 ghost use Rattle.lines.specs.inner.Stored.{Stored};
 
@@ -70,17 +72,32 @@ fn write_byte(pairs: &[u16], byte: u8, buffer: &mut [u8], at: usize)
     write_pair(pair_at(pairs, byte), buffer, at)
 }
 
-// A space and the four digits of a mask, byte by byte.
-pub fn write_mask(pairs: &[u16], mask: u32, buffer: &mut [u8], at: usize) -> usize
-    requires { ⌜ at + 5 ≤ length (now buffer) ⌝ }
+// The four digits of a mask's two low bytes.
+fn write_half(pairs: &[u16], mask: u32, buffer: &mut [u8], at: usize) -> usize
+    requires { ⌜ at + 4 ≤ length (now buffer) ⌝ }
+    ensures { λ r. ⌜ Stored (maskBy (now (pairs .entry)) 2 mask) (now (buffer .entry)) at r (now (buffer .exit)) ⌝ }
+{
+    write_byte(pairs, (mask / 256 % 256) as u8, buffer, at);
+    write_byte(pairs, (mask % 256) as u8, buffer, at + 2);
+    at + 4
+}
+
+// A space and the digits of a mask, byte by byte. How many bytes is the plan's matter, whatever the mask.
+pub fn write_mask(pairs: &[u16], processors: u8, mask: u32, buffer: &mut [u8], at: usize) -> usize
+    requires { ⌜ at + 1 + 2 * maskSizeFor processors ≤ length (now buffer) ⌝ }
     ensures { λ r. ⌜
-        Stored (32 ∷ maskBy (now (pairs .entry)) mask) (now (buffer .entry)) at r (now (buffer .exit))
+        Stored (32 ∷ maskBy (now (pairs .entry)) (maskSizeFor processors) mask)
+        (now (buffer .entry)) at r (now (buffer .exit))
         ⌝ }
 {
     buffer[at] = 32;
-    write_byte(pairs, (mask / 256 % 256) as u8, buffer, at + 1);
-    write_byte(pairs, (mask % 256) as u8, buffer, at + 3);
-    at + 5
+    let size = mask_size(processors);
+    if size == 2 {
+        write_half(pairs, mask, buffer, at + 1)
+    } else {
+        let next = write_half(pairs, mask / 65536, buffer, at + 1);
+        write_half(pairs, mask, buffer, next)
+    }
 }
 
 // ---- words

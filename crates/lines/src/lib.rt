@@ -7,12 +7,14 @@ use fields::write_digits;
 use fields::write_labelled;
 use fields::write_last;
 use fields::write_mask;
+use plans::mask_size;
 use refusals::Refusal;
 ghost use mathlib.Core.Path.{_≡_};
 ghost use mathlib.Core.List.{[], _∷_};
-ghost use Prim.Native.Nat.{_+_, _≤_};
+ghost use Prim.Native.Nat.{_+_, _*_, _≤_};
 ghost use lib.ListN.{length};
 ghost use Rattle.encoding.specs.Buffers.{outcomeSays};
+ghost use Rattle.plans.specs.Entries.{maskSizeFor};
 ghost use Rattle.digits.specs.Digits.{decimal, maskBy};
 ghost use Rattle.lines.specs.Lines.{entriesWord, readWord, writeWord, furtherFields, numbersLine, refusalLine};
 ghost use Rattle.lines.specs.Lines.{fieldsLine, doneFields, refusedFields, lineSays, lineBuffer};
@@ -128,26 +130,29 @@ fn write_call(
 // What stands after the processor where the call is accepted.
 fn write_done(
     pairs: &[u16],
+    processors: u8,
     granted: u32,
     entitled: u32,
     late: u8,
     buffer: &mut [u8],
     at: usize,
 ) -> usize
-    requires { ⌜ at + 12 + length (decimal late) ≤ length (now buffer) ⌝ }
+    requires { ⌜ at + 4 + 4 * maskSizeFor processors + length (decimal late) ≤ length (now buffer) ⌝ }
     ensures { λ r. ⌜
-        Stored (furtherFields (doneFields (maskBy (now (pairs .entry))) granted entitled late))
+        Stored (furtherFields (doneFields (maskBy (now (pairs .entry)) (maskSizeFor processors)) granted entitled late))
         (now (buffer .entry)) at r (now (buffer .exit))
         ⌝ }
 {
-    let second = write_mask(pairs, granted, buffer, at);
-    let third = write_mask(pairs, entitled, buffer, second);
+    let second = write_mask(pairs, processors, granted, buffer, at);
+    let third = write_mask(pairs, processors, entitled, buffer, second);
     write_last(b" ", late as u64, buffer, third)
 }
 
-// Clause 9.7: the line of an accepted call, with the digits of masks from a lent table.
+// Clauses 9.7 and 9.9: the line of an accepted call of a plan with so many processors, with the digits of masks from a
+// lent table.
 pub fn done_line(
     pairs: &[u16],
+    processors: u8,
     letter: u8,
     processor: u8,
     tick: u64,
@@ -159,18 +164,25 @@ pub fn done_line(
 ) -> Outcome
     ensures outcome { λ r. ⌜
         outcomeSays r
-        ≡ lineSays (fieldsLine letter processor tick (doneFields (maskBy (now (pairs .entry))) granted entitled late)) (length (now (buffer .entry))) at
+        ≡ lineSays
+        (fieldsLine letter processor tick
+        (doneFields (maskBy (now (pairs .entry)) (maskSizeFor processors)) granted entitled late))
+        (length (now (buffer .entry))) at
         ⌝ }
     ensures bytes { λ _. ⌜
         now (buffer .exit)
-        ≡ lineBuffer (fieldsLine letter processor tick (doneFields (maskBy (now (pairs .entry))) granted entitled late)) (now (buffer .entry)) at
+        ≡ lineBuffer
+        (fieldsLine letter processor tick
+        (doneFields (maskBy (now (pairs .entry)) (maskSizeFor processors)) granted entitled late))
+        (now (buffer .entry)) at
         ⌝ }
 {
     let size = digit_count(tick);
-    let needed = size + 15 + digit_count(processor as u64) + digit_count(late as u64);
+    let masks = 4 * mask_size(processors);
+    let needed = size + 7 + masks + digit_count(processor as u64) + digit_count(late as u64);
     if has_room(needed, buffer.len(), at) {
         let second = write_call(letter, processor, tick, size, buffer, at);
-        write_done(pairs, granted, entitled, late, buffer, second);
+        write_done(pairs, processors, granted, entitled, late, buffer, second);
         Outcome::Bytes(needed)
     } else {
         Outcome::Refused(Refusal::Room)

@@ -8,6 +8,7 @@ use Rattle.refusals.proofs.Numbers.{number-not-zero}
 use Rattle.calls.specs.declared.Reply.{Reply}
 use Rattle.calls.specs.declared.Call.{Call}
 use Rattle.calls.specs.Replies.{Response, replySays}
+use Rattle.plans.specs.Entries.{maskSizeFor}
 use Rattle.digits.specs.Digits.{hexPairs}
 use Rattle.digits.proofs.Table.{mask-digits}
 use Rattle.lines.specs.Lines.{doneFields, refusedFields}
@@ -23,6 +24,7 @@ module _ (mask : ℕ → List ℕ) (reply : Reply) where
   refused-fields r e = rw (e, number-not-zero r)
 
 -- By the table of all bytes a call's line is the call's line.
-pub line-by-table : (c : Call) (reply : Response) → callLineBy hexPairs c reply ≡ callLine c reply
+pub line-by-table : (m : ℕ) (c : Call) (reply : Response) → callLineBy hexPairs m c reply ≡ callLine m c reply
 unfolding callLineBy callLine
-line-by-table c reply = rw (mask-digits (reply .granted), mask-digits (reply .entitled)) refl
+line-by-table m c reply =
+    rw (mask-digits (maskSizeFor m) (reply .granted), mask-digits (maskSizeFor m) (reply .entitled)) refl

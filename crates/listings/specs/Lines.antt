@@ -4,11 +4,12 @@ use mathlib.Core.Bool.{cond}
 use mathlib.Core.List.{List}
 use lib.Dec.{eqb}
 use Rattle.plans.specs.declared.Plan.{Plan}
+use Rattle.plans.specs.Entries.{maskSizeFor}
 use Rattle.plans.specs.Figures.{readFigure, writeFigure}
 use Rattle.calls.specs.declared.Call.{Call}
 use Rattle.calls.specs.Calls.{callSays}
 use Rattle.calls.specs.Replies.{Response}
-use Rattle.digits.specs.Digits.{hex4, maskBy}
+use Rattle.digits.specs.Digits.{hexMask, maskBy}
 use Rattle.lines.specs.Lines.{numbersLine, doneFields, refusedFields, fieldsLine}
 
 -- Clause 9.6: the first line has the plan's counts and its two figures.
@@ -28,11 +29,12 @@ letterOf (Call.Complete p t) = 99
 letterOf (Call.Withdraw p t) = 119
 letterOf (Call.Handover p e t) = 104
 
--- Clause 9.7: a call's line, with masks in hexadecimal digits.
-unfoldable pub callLine : Call → Response → List ℕ
-callLine c reply = fieldsLine (letterOf c) (callSays c .processor) (callSays c .tick) (replyFields hex4 reply)
+-- Clauses 9.7 and 9.9: the line of a call of a plan with m processors. By m masks have four hexadecimal digits or eight.
+unfoldable pub callLine : ℕ → Call → Response → List ℕ
+callLine m c reply =
+    fieldsLine (letterOf c) (callSays c .processor) (callSays c .tick) (replyFields (hexMask (maskSizeFor m)) reply)
 
 -- The same with the digits of masks from a table of pairs.
-unfoldable pub callLineBy : List ℕ → Call → Response → List ℕ
-callLineBy pairs c reply =
-    fieldsLine (letterOf c) (callSays c .processor) (callSays c .tick) (replyFields (maskBy pairs) reply)
+unfoldable pub callLineBy : List ℕ → ℕ → Call → Response → List ℕ
+callLineBy pairs m c reply =
+    fieldsLine (letterOf c) (callSays c .processor) (callSays c .tick) (replyFields (maskBy pairs (maskSizeFor m)) reply)

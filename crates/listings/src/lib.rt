@@ -17,6 +17,7 @@ ghost use lib.ListN.{length};
 ghost use Rattle.refusals.specs.Number.{numberOf};
 ghost use Rattle.encoding.specs.Buffers.{outcomeSays};
 ghost use Rattle.calls.specs.Replies.{replySays};
+ghost use Rattle.plans.specs.Entries.{maskSizeFor};
 ghost use Rattle.digits.specs.Digits.{maskBy};
 ghost use Rattle.lines.specs.Lines.{fieldsLine, refusalLine, lineSays, lineBuffer};
 ghost use Rattle.listings.specs.Lines.{firstLine, replyFields, callLine, callLineBy};
@@ -41,6 +42,7 @@ pub fn first_line(plan: Plan, buffer: &mut [u8], at: usize) -> Outcome
 // A call's line from its letter, its numbers and the reply.
 fn reply_line(
     pairs: &[u16],
+    processors: u8,
     letter: u8,
     processor: u8,
     tick: u64,
@@ -50,11 +52,17 @@ fn reply_line(
 ) -> Outcome
     ensures outcome { λ r. ⌜
         outcomeSays r
-        ≡ lineSays (fieldsLine letter processor tick (replyFields (maskBy (now (pairs .entry))) (replySays reply))) (length (now (buffer .entry))) at
+        ≡ lineSays
+        (fieldsLine letter processor tick
+        (replyFields (maskBy (now (pairs .entry)) (maskSizeFor processors)) (replySays reply)))
+        (length (now (buffer .entry))) at
         ⌝ }
     ensures bytes { λ _. ⌜
         now (buffer .exit)
-        ≡ lineBuffer (fieldsLine letter processor tick (replyFields (maskBy (now (pairs .entry))) (replySays reply))) (now (buffer .entry)) at
+        ≡ lineBuffer
+        (fieldsLine letter processor tick
+        (replyFields (maskBy (now (pairs .entry)) (maskSizeFor processors)) (replySays reply)))
+        (now (buffer .entry)) at
         ⌝ }
 {
     match reply {
@@ -64,6 +72,7 @@ fn reply_line(
             late,
         } => done_line(
             pairs,
+            processors,
             letter,
             processor,
             tick,
@@ -79,9 +88,11 @@ fn reply_line(
     }
 }
 
-// Clause 9.7: a call's line, with the digits of masks from a lent table. A loop of calls lends that of `hex_pairs`.
+// Clauses 9.7 and 9.9: the line of a call of a plan with so many processors, with the digits of masks from a lent table.
+// A loop of calls lends that of `hex_pairs`.
 pub fn call_line_by(
     pairs: &[u16],
+    processors: u8,
     call: Call,
     reply: Reply,
     buffer: &mut [u8],
@@ -89,11 +100,11 @@ pub fn call_line_by(
 ) -> Outcome
     ensures outcome { λ r. ⌜
         outcomeSays r
-        ≡ lineSays (callLineBy (now (pairs .entry)) call (replySays reply)) (length (now (buffer .entry))) at
+        ≡ lineSays (callLineBy (now (pairs .entry)) processors call (replySays reply)) (length (now (buffer .entry))) at
         ⌝ }
     ensures bytes { λ _. ⌜
         now (buffer .exit)
-        ≡ lineBuffer (callLineBy (now (pairs .entry)) call (replySays reply)) (now (buffer .entry)) at
+        ≡ lineBuffer (callLineBy (now (pairs .entry)) processors call (replySays reply)) (now (buffer .entry)) at
         ⌝ }
 {
     match call {
@@ -101,32 +112,32 @@ pub fn call_line_by(
             processor,
             entry,
             tick,
-        } => reply_line(pairs, b'i', processor, tick, reply, buffer, at),
+        } => reply_line(pairs, processors, b'i', processor, tick, reply, buffer, at),
         Call::Complete { processor, tick } => {
-            reply_line(pairs, b'c', processor, tick, reply, buffer, at)
+            reply_line(pairs, processors, b'c', processor, tick, reply, buffer, at)
         }
         Call::Withdraw { processor, tick } => {
-            reply_line(pairs, b'w', processor, tick, reply, buffer, at)
+            reply_line(pairs, processors, b'w', processor, tick, reply, buffer, at)
         }
         Call::Handover {
             processor,
             entry,
             tick,
-        } => reply_line(pairs, b'h', processor, tick, reply, buffer, at),
+        } => reply_line(pairs, processors, b'h', processor, tick, reply, buffer, at),
     }
 }
 
-// Clause 9.7: a call's line.
-pub fn call_line(call: Call, reply: Reply, buffer: &mut [u8], at: usize) -> Outcome
+// Clauses 9.7 and 9.9: the line of a call of a plan with so many processors.
+pub fn call_line(processors: u8, call: Call, reply: Reply, buffer: &mut [u8], at: usize) -> Outcome
     ensures outcome { λ r. ⌜
-        outcomeSays r ≡ lineSays (callLine call (replySays reply)) (length (now (buffer .entry))) at
+        outcomeSays r ≡ lineSays (callLine processors call (replySays reply)) (length (now (buffer .entry))) at
         ⌝ }
     ensures bytes { λ _. ⌜
-        now (buffer .exit) ≡ lineBuffer (callLine call (replySays reply)) (now (buffer .entry)) at
+        now (buffer .exit) ≡ lineBuffer (callLine processors call (replySays reply)) (now (buffer .entry)) at
         ⌝ }
 {
     let pairs = hex_pairs();
-    call_line_by(&pairs, call, reply, buffer, at)
+    call_line_by(&pairs, processors, call, reply, buffer, at)
 }
 
 // Clause 9.8: the line of a fault of the bytes.

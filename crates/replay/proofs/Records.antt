@@ -23,7 +23,7 @@ use Rattle.logs.proofs.Answers.{record-is, record-refused}
 use Rattle.lines.specs.Lines.{refusalLine, lineSays, lineBuffer}
 use Rattle.listings.specs.Lines.{callLine}
 use Rattle.lines.proofs.Room.{fitting-line, fitting-buffer}
-use Rattle.listings.proofs.LongestCall.{any-call, any-refusal}
+use Rattle.listings.proofs.LongestCall.{any-plans-call, any-refusal}
 use Rattle.replay.specs.Blocks.{Ran, callIn, oneMore, ran, lineRoom}
 use Rattle.replay.specs.inner.Parts.{Stands, carried}
 
@@ -46,7 +46,7 @@ stopped st number = record { lines = refusalLine number; state = st; calls = 0; 
 module _ (b : Board) (st : State) (s : List ℕ) where
   -- The line of the call in the record, and the state after it.
   abbrev pub lineIn : List ℕ
-  lineIn = callLine (callIn s) (answered b st (callIn s) .reply)
+  lineIn = callLine (b .terms .processors) (callIn s) (answered b st (callIn s) .reply)
 
   abbrev pub stateIn : State
   stateIn = answered b st (callIn s) .state
@@ -66,15 +66,15 @@ module _ (b : Board) (st : State) (s : List ℕ) where
 
   -- The same of a call that is known.
   pub one-known-call : (c : Call) → recordFault s ≡ 0 → callIn s ≡ c
-      → ran b st 1 s ≡ record { lines = callLine c (answered b st c .reply); state = answered b st c .state; calls = 1; ended = false }
+      → ran b st 1 s ≡ record { lines = callLine (b .terms .processors) c (answered b st c .reply); state = answered b st c .state; calls = 1; ended = false }
   one-known-call c e is =
-      one-call e ∙ ap (λ x. record { lines = callLine x (answered b st x .reply); state = answered b st x .state; calls = 1; ended = false }) is
+      one-call e ∙ ap (λ x. record { lines = callLine (b .terms .processors) x (answered b st x .reply); state = answered b st x .state; calls = 1; ended = false }) is
 
   -- A record's line has room.
   pub one-line-room : length (ran b st 1 s .lines) ≤ lineRoom
   one-line-room =
       elim (found s) [
-        | call e ↦ rw (one-call e) (omega (arith, any-call (callIn s) (answered b st (callIn s) .reply)))
+        | call e ↦ rw (one-call e) (omega (arith, any-plans-call (b .terms .processors) (callIn s) (answered b st (callIn s) .reply)))
         | refused e ↦ rw (ran-refused 0 e) (omega (arith, any-refusal (recordFault s)))
       ]
 
@@ -93,13 +93,13 @@ module _ (b : Board) (st : State) (s out : List ℕ) (at : ℕ) (room : at + lin
   pub call-carried : (a : RecordAnswer) (c : Call) → recordSays a ≡ readRecord s → a ≡ RecordAnswer.Is c → (reply : Response) (after : State)
       → reply ≡ answered b st c .reply
       → after ≡ answered b st c .state
-      → outcomeSays la ≡ lineSays (callLine c reply) (length out) at
-      → out′ ≡ lineBuffer (callLine c reply) out at
+      → outcomeSays la ≡ lineSays (callLine (b .terms .processors) c reply) (length out) at
+      → out′ ≡ lineBuffer (callLine (b .terms .processors) c reply) out at
       → (_≡_ {A = Stands} (record { state = after; written = n; ended = false }) (carried (ran b st 1 s)))
       × (out′ ≡ overwritten out at (ran b st 1 s .lines))
   call-carried a c read is reply after er es says put =
       let e = record-is a s read c is in
-      let line = line-put (callLine c reply) out at la out′ n (omega (arith, any-call c reply)) says put size in
+      let line = line-put (callLine (b .terms .processors) c reply) out at la out′ n (omega (arith, any-plans-call (b .terms .processors) c reply)) says put size in
       rw (one-known-call b st s c (e .0) (e .1), ← er, ← es) (λ i. record { state = after; written = line .0 i; ended = false }, line .1)
 
   pub refusal-carried : (a : RecordAnswer) (r : Refusal) → recordSays a ≡ readRecord s → a ≡ RecordAnswer.Refused r

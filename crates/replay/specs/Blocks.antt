@@ -35,13 +35,13 @@ unfoldable pub ran : Board → State → ℕ → List ℕ → Ran
 ran b st zero s = record { lines = []; state = st; calls = 0; ended = false }
 ran b st (suc k) s =
     cond (eqb (recordFault s) 0)
-    (oneMore (callLine (callIn s) (answered b st (callIn s) .reply))
+    (oneMore (callLine (b .terms .processors) (callIn s) (answered b st (callIn s) .reply))
     (ran b (answered b st (callIn s) .state) k (drop recordSize s)))
     (record { lines = refusalLine (recordFault s); state = st; calls = 0; ended = true })
 
--- The longest line of a call or a refusal, rounded up.
+-- The longest line of a call, whatever the plan, or of a refusal, rounded up.
 abbrev pub lineRoom : ℕ
-lineRoom = 80
+lineRoom = 88
 
 -- How many records a block carries out: those that are left, are whole in the bytes, and have room for their lines.
 abbrev pub budget : ℕ → List ℕ → ℕ → ℕ

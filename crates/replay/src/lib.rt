@@ -25,8 +25,8 @@ ghost use Rattle.digits.specs.Digits.{hexPairs};
 ghost use Rattle.replay.specs.Blocks.{lineRoom, ran, budget, ranBlock};
 ghost use Rattle.replay.specs.inner.Parts.{carried, carriedBy};
 
-// The room that a line needs: the longest of a call or a refusal, rounded up.
-const LINE_ROOM: usize = 80;
+// The room that a line needs: the longest of a call, whatever the plan, or of a refusal, rounded up.
+const LINE_ROOM: usize = 88;
 
 // What one record did beside the arrays of the state: the moment after it, how many bytes its line took, and whether it
 // ended the replay.
@@ -99,7 +99,7 @@ fn replay_record(
             );
             let reply = changed.reply;
             let after = changed.moment;
-            let size = line_size(call_line_by(pairs, call, reply, out, at));
+            let size = line_size(call_line_by(pairs, terms.processors, call, reply, out, at));
             Carried {
                 moment: after,
                 written: size,

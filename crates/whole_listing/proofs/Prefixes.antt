@@ -58,7 +58,7 @@ module _ (closed : Bool) (b : Board) where
           elim (found s) [
             | Found.call h ↦ begins-by _ _ _ _
                 (listed-call closed b st (s ++ u) n longer (fault-in-front s u one ∙ h)
-                ∙ ap (λ (f : Fields). callLine (callOf f) (answered b st (callOf f) .reply) ++ callsBy closed b (answered b st (callOf f) .state) n (drop 8 (s ++ u))) (fields-in-front s u one)
+                ∙ ap (λ (f : Fields). callLine (b .terms .processors) (callOf f) (answered b st (callOf f) .reply) ++ callsBy closed b (answered b st (callOf f) .state) n (drop 8 (s ++ u))) (fields-in-front s u one)
                 ∙ ap (λ d. lineIn b st s ++ callsBy closed b (stateIn b st s) n d) (drop-append-le 8 s u one))
                 (listed-call false b st s n one h)
                 (behind (lineIn b st s) _ _ later)

@@ -21,7 +21,7 @@ unfoldable pub callsListing : Board → State → ℕ → List ℕ → List ℕ
 callsListing b st zero s = faultLine (tailFault s)
 callsListing b st (suc n) s =
     cond (eqb (recordFault s) 0)
-    (callLine (callIn s) (answered b st (callIn s) .reply)
+    (callLine (b .terms .processors) (callIn s) (answered b st (callIn s) .reply)
     ++ callsListing b (answered b st (callIn s) .state) n (drop recordSize s))
     (refusalLine (recordFault s))
 

@@ -29,7 +29,7 @@ callsSoFar b st zero s = faultLine (tailFault s)
 callsSoFar b st (suc n) s =
     cond (leb recordSize (length s))
     (cond (eqb (recordFault s) 0)
-    (callLine (callIn s) (answered b st (callIn s) .reply)
+    (callLine (b .terms .processors) (callIn s) (answered b st (callIn s) .reply)
     ++ callsSoFar b (answered b st (callIn s) .state) n (drop recordSize s))
     (refusalLine (recordFault s)))
     []

@@ -16,7 +16,7 @@ use Rattle.rules.specs.Acts.{putIn, putLast, takenOut, stamped}
 use Rattle.rules.specs.Calls.{putState, takenState, done, settledDone, issued, left, completed, withdrawn, both, handedOver}
 use Rattle.arbiter.specs.Fresh.{boardOf}
 use Rattle.logs.specs.Records.{fieldsIn, recordFault}
-use Rattle.digits.specs.Digits.{digits, hex4}
+use Rattle.digits.specs.Digits.{digits, maskIn}
 use Rattle.lines.specs.Lines.{furtherFields, refusalLine}
 use Rattle.listings.specs.Lines.{firstLine, callLine}
 use Rattle.whole_listing.specs.Listing.{callsListing, listingOf}
@@ -135,5 +135,5 @@ pub table : List Worked
 table = plan-f ∷ empty ∷ refused-02-tail ∷ refused-07-not-counted ∷ refused-09-verb ∷ refused-15-entitled ∷ order-10-before-11 ∷ read-of-a-widened-resource ∷ two-issues-at-one-tick ∷ one-processor ∷ hold-of-20-and-21 ∷ readers-share ∷ repeated-tick ∷ withdrawn-write-leaves-reads ∷ handover-settles-twice ∷ []
 
 pub listings-are-as-printed : map (λ w. listingOf (w .log)) table ≡ map (λ w. w .listing) table
-unfolding table bit some maskOf number countsFault entryFault entriesFault planFault longest entryIn entriesIn sectionFault readFault planIn planRead widen widenedSet shared conflict inConflict tabulate conflictsOf test1 step1 test2 step2 test3 step3 test4 step4 settled isHolding isEntitled isWaiting cleaned issueFault completeFault withdrawFault handoverFault putIn putLast takenOut stamped putState takenState done settledDone issued left completed withdrawn both handedOver boardOf fieldsIn recordFault digits hex4 furtherFields refusalLine firstLine callLine callsListing listingOf
+unfolding table bit some maskOf number countsFault entryFault entriesFault planFault longest entryIn entriesIn sectionFault readFault planIn planRead widen widenedSet shared conflict inConflict tabulate conflictsOf test1 step1 test2 step2 test3 step3 test4 step4 settled isHolding isEntitled isWaiting cleaned issueFault completeFault withdrawFault handoverFault putIn putLast takenOut stamped putState takenState done settledDone issued left completed withdrawn both handedOver boardOf fieldsIn recordFault digits maskIn furtherFields refusalLine firstLine callLine callsListing listingOf
 listings-are-as-printed = refl

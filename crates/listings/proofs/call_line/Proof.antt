@@ -8,7 +8,7 @@ use Rattle.listings.proofs.call_line.Tie as tie
 returns : tie.Need-returns
 returns c =
     let a = c .before .before .before .before .before .before .before .args in
-    rw (c .before .before .before .before .before .hex-pairs .ensures, line-by-table (a .call) (replySays (a .reply))) at (c .before .before .call-line-by .ensures)
+    rw (c .before .before .before .before .before .hex-pairs .ensures, line-by-table (a .processors) (a .call) (replySays (a .reply))) at (c .before .before .call-line-by .ensures)
 
 pub call-line-spec : {M : Type 1} → statement M
 call-line-spec =

@@ -14,7 +14,7 @@ returns c =
     let read = carried .before .before .before .before .before .before .before in
     let asked = read .before .before .before .before .pre in
     let says = carried .answer-in-place .ensures in
-    let line = rw (asked .0, line-by-table _ _) at (called .call-line-by .ensures) in
+    let line = rw (asked .0, line-by-table _ _ _) at (called .call-line-by .ensures) in
     call-carried _ _ _ _ _ (asked .1) (called .call-line-by .result) _ _ (c .line-size .ensures) _ _ (read .read-record .ensures) (carried .before .before .before .before .before .found .given .1) _ _
     (ap (λ (a : Answer). a .reply) says)
     (ap (λ (a : Answer). a .state) says)
