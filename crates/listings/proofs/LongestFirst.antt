@@ -94,7 +94,7 @@ longest-accepted p f e =
     let fr : p .resources < 10 ^ 2 = omega (arith, c .resources) in
     let fc : p .count < 10 ^ 2 = omega (arith, c .count) in
     let read : readFigure p < 10 ^ 6 = omega (arith, read-small p f) in
-    let write : writeFigure p < 10 ^ 7 = omega (arith, write-small p 15 f (c .processors)) in
+    let write : writeFigure p < 10 ^ 7 = omega (arith, write-small p 31 f (c .processors)) in
     omega (arith, first-length p, most-digits 1 _ fp, most-digits 1 _ fr, most-digits 1 _ fc, most-digits 5 _ read, most-digits 6 _ write)
 
 -- Sixteen processors, ten resources, ten entries, and lengths of 65,535.
