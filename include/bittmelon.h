@@ -12,7 +12,7 @@
 #include <stdint.h>
 
 /* The number in the file VERSION. */
-#define BITTMELON_VERSION "2.0.0"
+#define BITTMELON_VERSION "3.0.0"
 
 #ifdef __cplusplus
 extern "C" {
