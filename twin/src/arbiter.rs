@@ -206,7 +206,8 @@ impl Arbiter {
     pub fn reach(&self, processor: u8) -> Result<u32, Refusal> {
         let mut reached = self.direct(processor)?;
         loop {
-            let further = (0..32).filter(|&q| reached >> q & 1 == 1).fold(reached, |mask, q| mask | self.direct(q).unwrap_or(0));
+            let among = (0..32).filter(|&q| reached >> q & 1 == 1);
+            let further = among.fold(reached, |mask, q| mask | self.direct(q).unwrap_or(0));
             if further == reached {
                 return Ok(reached);
             }

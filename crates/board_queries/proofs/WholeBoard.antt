@@ -27,7 +27,8 @@ module _ (b : Board) (s : State) where
   k = maskSizeOf b
 
   -- The part of p stands behind the count and the parts of those before it.
-  pub part-in-list : (p : ℕ) → p < listed b → take (partSize k) (drop (1 + partSize k * p) (boardBytes b s)) ≡ boardPart b s p
+  pub part-in-list : (p : ℕ) → p < listed b
+      → take (partSize k) (drop (1 + partSize k * p) (boardBytes b s)) ≡ boardPart b s p
   unfolding boardPart listBytes
   part-in-list p l =
       let place : 1 + partSize k * p ≡ suc (partSize k * p) = omega arith in
@@ -59,5 +60,6 @@ module _ (b : Board) (s : State) where
         ap (λ ws. getD ws p 0) direct ∙ getD-tabulate slots (λ q. maskOf slots (waitsFor b s q)) p 0 (omega arith) in
         rw (mask, counted)
 
-    pub board-found : (buffer : List ℕ) → listBuffer k (listed b) (partIn k ph (s .last) (s .entry) (s .since) waits) buffer ≡ boardBuffer b s buffer
+    pub board-found : (buffer : List ℕ)
+        → listBuffer k (listed b) (partIn k ph (s .last) (s .entry) (s .since) waits) buffer ≡ boardBuffer b s buffer
     board-found buffer = list-agree k (listed b) _ _ buffer part-found

@@ -54,7 +54,7 @@ use Rattle.logs.specs.Records.{fieldsIn, noFields, recordFault, readRecord}
 --   queries::phase_of              phaseSays r ≡ phaseQuery board state processor
 --   wait_queries::direct_waits     maskSays r ≡ waitsQuery board state processor
 --   wait_queries::reach            maskSays r ≡ reachQuery board state processor scratch, the scratch after it ≡ reachScratch ..
---   board_queries::list_board      outcomeSays r ≡ boardQuery board buffer, and the buffer after it ≡ boardBuffer board state buffer
+--   board_queries::list_board      outcomeSays r ≡ boardQuery board buffer, the buffer after it ≡ boardBuffer ..
 --   board_queries::list_board_in_place  the same, of the board and the state that it was lent
 --   contention::shared_by    sharedSays r ≡ sharedQuery board first second; what that is on a plan's board, Contention.antt says
 --   registers::read          readSays r ≡ registerRead block offset (register_block::read_register the same, of the block it is lent)

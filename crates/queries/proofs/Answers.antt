@@ -49,7 +49,8 @@ pub reach-accepted : (terms : Terms) (p size : ℕ)
     → (p < slots) × (scratchSize (terms .processors) ≤ size)
 reach-accepted terms p size e =
     let both = first-accepted (processorFault terms p) _ e in
-    (processor-below terms p (both .first), omega (arith, room-fits (scratchSize (terms .processors)) size 0 (both .later)))
+    let room = room-fits (scratchSize (terms .processors)) size 0 (both .later) in
+    (processor-below terms p (both .first), omega (arith, room))
 
 -- ---- direct waits with the phases of the requests that count
 

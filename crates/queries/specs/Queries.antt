@@ -75,8 +75,8 @@ maskSizeOf b = maskSizeFor (b .terms .processors)
 abbrev pub scratchSize : ℕ → ℕ
 scratchSize m = wordsSize (maskSizeFor m)
 
--- Clause 7.4: the scratch has a word for each processor that has a bit in a word, and a word has as many bytes as a mask:
--- in word p bit q is set where p reaches q, else clear.
+-- Clause 7.4: the scratch has a word for each processor that has a bit in a word, and a word has as many bytes as a
+-- mask: in word p bit q is set where p reaches q, else clear.
 unfoldable pub reachBytes : Board → State → List ℕ
 reachBytes b s = wordsOf (maskSizeOf b) (wordCount (maskSizeOf b)) (λ p. maskOf slots (reaches b s p))
 

@@ -30,7 +30,7 @@ fn print_phase(answer: PhaseAnswer) {
     }
 }
 
-pub fn print_mask(answer: MaskAnswer) {
+fn print_mask(answer: MaskAnswer) {
     match answer {
         MaskAnswer::Mask(mask) => {
             io::print_hex(STDOUT_FILENO, mask as u64, 4);
@@ -51,7 +51,7 @@ fn print_all(board: Board, state: State, processor: u8, scratch: &mut [u8]) {
 }
 
 // Plan F with so many processors: writes {2}, {1,2}, {0}, reads {0,1}, {2}.
-pub fn plan(processors: u8) -> Plan {
+fn plan(processors: u8) -> Plan {
     let mut entries = [Entry {
         kind: 0,
         set: 0,

@@ -25,7 +25,8 @@ fn print_reach(board: Board, state: State, scratch: &mut [u8]) {
     io::write_all(STDOUT_FILENO, b"\n");
 }
 
-// A board with processors 0 to last. The first list and the first scratch are a byte short, the others of just the size.
+// A board with processors 0 to last. The first list and the first scratch are a byte short, the others of just the
+// size.
 fn print_board(
     processors: u8,
     last: u8,

@@ -1,5 +1,5 @@
--- A mask of direct waits, or of reach, fits into the bytes in which it is laid out, two or four by the plan's processors:
--- read back they give the mask. So on every board and state. Assumes nothing.
+-- A mask of direct waits, or of reach, fits into the bytes in which it is laid out, two or four by the plan's
+-- processors: read back they give the mask. So on every board and state. Assumes nothing.
 use Prim.Native.Nat.{ℕ, _≤_, _<_, _^_}
 use mathlib.Core.Path.{_≡_, refl, sym, _∙_}
 use mathlib.Core.Bool.{Bool, true, false, cond}
@@ -35,7 +35,9 @@ module _ (b : Board) (s : State) where
     none-past-sixteen : m ≤ 16 → (k : ℕ) → 16 ≤ k → bit (maskOf slots test) k ≡ false
     none-past-sixteen few k past =
         never-true (bit (maskOf slots test) k)
-        (λ e. omega (arith, counted-below-m k (counted k (and-right (ltb k slots) (test k) (sym (bit-mask slots test k) ∙ e)))))
+        (λ e.
+        let passes = and-right (ltb k slots) (test k) (sym (bit-mask slots test k) ∙ e) in
+        omega (arith, counted-below-m k (counted k passes)))
 
     mask-fits : maskOf slots test < 256 ^ maskSizeOf b
     mask-fits = go (leb m 16) refl

@@ -1,5 +1,5 @@
--- Who waits for whom: the four ways, and that both are processors of the plan that a state holds, on every board and state.
--- Assumes nothing.
+-- Who waits for whom: the four ways, and that both are processors of the plan that a state holds, on every board and
+-- state. Assumes nothing.
 use Prim.Native.Nat.{ℕ, _<_}
 use mathlib.Core.Path.{_≡_, sym, _∙_}
 use mathlib.Core.Bool.{Bool, true, not, _&&_, _||_}
@@ -117,16 +117,20 @@ module _ (b : Board) (s : State) where
       ⊎-elim (waiting-counted p) (entitled-counted p) (or-cases (bit (ph .waiting) p) (bit (ph .entitled) p) e)
 
   active-counted : (p : ℕ) → active ph p ≡ true → Counted p
-  active-counted p e = ⊎-elim (unsatisfied-counted p) (holding-counted p) (or-cases (unsatisfied ph p) (bit (ph .holding) p) e)
+  active-counted p e =
+      ⊎-elim (unsatisfied-counted p) (holding-counted p) (or-cases (unsatisfied ph p) (bit (ph .holding) p) e)
 
   pub waits-counted : (p q : ℕ) → waitsFor b s p q ≡ true → Counted p × Counted q
   unfolding waitsFor
   waits-counted p q e = go (waits-reason f ph p q e)
     where
       go : Reason f ph p q → Counted p × Counted q
-      go (entitled-read h k c) = (entitled-counted p (and-left _ (not (isWriter f p)) h), holding-counted q (and-left _ (isWriter f q) k))
-      go (waiting-read h k c) = (waiting-counted p (and-left _ (not (isWriter f p)) h), entitled-counted q (and-left _ (isWriter f q) k))
-      go (entitled-write h k c) = (entitled-counted p (and-left _ (isWriter f p) h), holding-counted q (and-left _ (not (isWriter f q)) k))
+      go (entitled-read h k c) =
+          (entitled-counted p (and-left _ (not (isWriter f p)) h), holding-counted q (and-left _ (isWriter f q) k))
+      go (waiting-read h k c) =
+          (waiting-counted p (and-left _ (not (isWriter f p)) h), entitled-counted q (and-left _ (isWriter f q) k))
+      go (entitled-write h k c) =
+          (entitled-counted p (and-left _ (isWriter f p) h), holding-counted q (and-left _ (not (isWriter f q)) k))
       go (waiting-write h before a w c) = (waiting-counted p (and-left _ (isWriter f p) h), active-counted q a)
 
   counted-below : (p : ℕ) → Counted p → p < slots

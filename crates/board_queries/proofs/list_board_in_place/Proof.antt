@@ -18,7 +18,8 @@ returns c =
     let s = stateBy (a .moment) (a .entries .now) (a .since .now) (a .earlier .now) in
     let counted = cleaned .clean .ensures in (
       written .write .ensures .0,
-      written .write .ensures .1 ∙ board-found b s _ _ counted (rows-counted b s _ counted _ (found .waits-of-all .ensures)) (a .buffer .now),
+      written .write .ensures .1
+          ∙ board-found b s _ _ counted (rows-counted b s _ counted _ (found .waits-of-all .ensures)) (a .buffer .now),
     )
 
 pub list-board-in-place-spec : {M : Type 1} → statement M

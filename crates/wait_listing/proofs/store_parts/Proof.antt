@@ -37,7 +37,8 @@ loop-again c =
     let part = stored .store-part .ensures in (
       omega arith,
       ap length part ∙ simp length-sets (loop .inv .1),
-      turn-stores (partSize (a .size)) (partIn (a .size) (a .phases) (a .last) (a .entries .now) (a .since .now) (a .waits .now))
+      turn-stores (partSize (a .size))
+          (partIn (a .size) (a .phases) (a .last) (a .entries .now) (a .since .now) (a .waits .now))
           (λ p. length-part (a .size) _ _ _ _) 1 (loop .i) (a .buffer .now) (loop .buffer) _ (loop .inv .2)
           (rw (state .state-at .ensures, entry .entry-at .ensures, waited .waited-at .ensures) at part),
     )

@@ -21,7 +21,9 @@ returns c =
     let written = c .before .before in
     let checked = written .before .before .before .before .check-reach .ensures in
     let accepted = written .before .before .enum-told .given .1 in (
-      λ b s same are. accepted-says _ _ _ _ (rw same at checked) accepted (written .write-reach .ensures .0 b s (ap (λ t. t .processors) same) are),
+      λ b s same are.
+          accepted-says _ _ _ _ (rw same at checked) accepted
+          (written .write-reach .ensures .0 b s (ap (λ t. t .processors) same) are),
       λ b s same are. rw (← rw same at checked, accepted)
           (written .write-reach .ensures .1 b s (ap (λ t. t .processors) same) are),
     )

@@ -10,7 +10,8 @@ returns c =
     let rows = stored .before .before in
     let start = rows .before .before in (
       λ b s same are. row-asked b s _ (rows-reached b s _ same _ _ are (rows .reach-rows .ensures)) _ (start .pre .0),
-      λ b s same are. words-stored b s _ (rows-reached b s _ same _ _ are (rows .reach-rows .ensures)) _ same _ _ (start .pre .1)
+      λ b s same are.
+          words-stored b s _ (rows-reached b s _ same _ _ are (rows .reach-rows .ensures)) _ same _ _ (start .pre .1)
           (stored .write-rows .ensures .1),
     )
 
