@@ -29,8 +29,8 @@ pub enum Call {
 
 #[derive(Clone, Copy, PartialEq, Debug)]
 pub struct Done {
-    pub granted: u16,
-    pub entitled: u16,
+    pub granted: u32,
+    pub entitled: u32,
     pub late: bool,
 }
 
@@ -90,7 +90,7 @@ impl Arbiter {
         self.step(false, Waiting, Entitled, |a, i| a.any(i, true, Holding) && !a.any(i, true, Entitled));
     }
 
-    fn mask(requests: &[Request], phase: Phase) -> u16 {
+    fn mask(requests: &[Request], phase: Phase) -> u32 {
         requests.iter().filter(|r| r.phase == phase).fold(0, |mask, r| mask | 1 << r.processor)
     }
 

@@ -61,7 +61,7 @@ fn take_entry(bytes: &mut &[u8], resources: u8) -> Result<Entry, Refusal> {
 impl Plan {
     /// Takes a plan off the front of the bytes.
     pub fn take(bytes: &mut &[u8]) -> Result<Plan, Refusal> {
-        let processors = take_count(bytes, 16, 3)?;
+        let processors = take_count(bytes, 32, 3)?;
         let resources = take_count(bytes, 64, 4)?;
         let count = take_count(bytes, 64, 5)?;
         let entries = (0..count).map(|_| take_entry(bytes, resources)).collect::<Result<_, _>>()?;
