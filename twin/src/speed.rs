@@ -2,9 +2,9 @@
 use crate::arbiter::{Arbiter, Call, Phase};
 use crate::plan::Plan;
 
-/// The benchmark's plan: 16 processors, 64 resources and 64 entries, every third a write.
-fn plan_bytes() -> Vec<u8> {
-    let mut bytes = vec![16, 64, 64];
+/// The benchmark's plan: 64 resources and 64 entries, every third a write.
+fn plan_bytes(processors: u8) -> Vec<u8> {
+    let mut bytes = vec![processors, 64, 64];
     for i in 0..64u64 {
         let set: u64 = 1 << (i * 7 % 64) | 1 << (i * 11 % 64) | 1 << (i * 5 % 16);
         bytes.push((i % 3 == 0) as u8);
@@ -21,16 +21,17 @@ fn holder_from(arbiter: &Arbiter, place: u8) -> u8 {
 }
 
 /// Each turn completes a holder and issues again at once, on a board with so many busy processors: two calls, or one
-/// where `handing`.
+/// where `handing`. The plan has 16 processors for up to 16 busy ones, else 32.
 pub fn calls(busy: u8, turns: u64, handing: bool) -> u64 {
-    let mut arbiter = Arbiter::new(Plan::take(&mut &plan_bytes()[..]).expect("an accepted plan"));
+    let processors = if busy > 16 { 32 } else { 16 };
+    let mut arbiter = Arbiter::new(Plan::take(&mut &plan_bytes(processors)[..]).expect("an accepted plan"));
     let (mut seed, mut sum) = (1u64, 0u64);
     for p in 0..busy {
-        arbiter.call(Call::Issue { processor: p, entry: p * 3, tick: 0 }).expect("accepted");
+        arbiter.call(Call::Issue { processor: p, entry: p * 3 % 64, tick: 0 }).expect("accepted");
     }
     for tick in 1..=turns {
         seed = (seed * 1_103_515_245 + 12_345) % 2_147_483_648;
-        let processor = holder_from(&arbiter, (seed / 65_536 % 16) as u8);
+        let processor = holder_from(&arbiter, (seed % 1_048_576 * processors as u64 / 1_048_576) as u8);
         let entry = (seed / 1_048_576 % 64) as u8;
         let two = [Call::Complete { processor, tick }, Call::Issue { processor, entry, tick }];
         let one = [Call::Handover { processor, entry, tick }];
@@ -44,7 +45,7 @@ pub fn calls(busy: u8, turns: u64, handing: bool) -> u64 {
 
 /// Reads the plan's bytes, the length of one entry another at each turn.
 pub fn plans(turns: u64) -> u64 {
-    let mut bytes = plan_bytes();
+    let mut bytes = plan_bytes(16);
     let mut sum = 0u64;
     for turn in 0..turns {
         let i = (turn % 64) as usize;

@@ -7,6 +7,9 @@ pub const PLAIN: u8 = 1;
 /// Lean, and as the library's settling first was: a set of entries for each write in line, and no early exit.
 pub const FIRST: u8 = 2;
 
+/// How many processors a state holds.
+pub const SLOTS: usize = 32;
+
 #[derive(Clone, Copy)]
 pub struct Entry {
     pub write: bool,
@@ -27,9 +30,9 @@ pub struct State {
     pub waiting: u32,
     pub entitled: u32,
     pub holding: u32,
-    pub entry: [u8; 16],
-    pub since: [u64; 16],
-    pub earlier: [u32; 16],
+    pub entry: [u8; SLOTS],
+    pub since: [u64; SLOTS],
+    pub earlier: [u32; SLOTS],
 }
 
 #[derive(Clone, Copy)]
@@ -88,7 +91,7 @@ impl State {
     /// Drops the requests of entries and processors that the plan does not have, and keeps one phase of each processor.
     fn clean(&mut self, board: &Board) {
         let mut counted = 0u32;
-        for p in 0..16u8 {
+        for p in 0..SLOTS as u8 {
             counted |= ((p < board.processors && self.entry[p as usize] < board.count) as u32) << p;
         }
         self.holding &= counted;
@@ -97,7 +100,7 @@ impl State {
     }
 
     pub fn fresh() -> State {
-        State { last: 0, waiting: 0, entitled: 0, holding: 0, entry: [0; 16], since: [0; 16], earlier: [0; 16] }
+        State { last: 0, waiting: 0, entitled: 0, holding: 0, entry: [0; SLOTS], since: [0; SLOTS], earlier: [0; SLOTS] }
     }
 
     fn row<const KIND: u8>(&self, board: &Board, p: usize) -> u64 {
@@ -118,14 +121,14 @@ impl State {
     }
 
     fn entries_of<const KIND: u8>(&self, among: u32) -> u64 {
-        Bits(among & 65535).fold(0, |set, p| set | self.place::<KIND>(p))
+        Bits(among).fold(0, |set, p| set | self.place::<KIND>(p))
     }
 
     fn conflicts_in_line<const KIND: u8>(&self, row: u64, among: u32) -> bool {
         if KIND == FIRST {
             row & self.entries_of::<KIND>(among) != 0
         } else {
-            Bits(among & 65535).any(|q| row & self.place::<KIND>(q) != 0)
+            Bits(among).any(|q| row & self.place::<KIND>(q) != 0)
         }
     }
 
@@ -208,7 +211,7 @@ impl State {
         if t < self.last || t > 1_099_511_627_775 {
             return Err(10);
         }
-        if p >= board.processors || p >= 16 {
+        if p >= board.processors || p as usize >= SLOTS {
             return Err(11);
         }
         if e >= board.count {
@@ -222,7 +225,7 @@ impl State {
         self.last = t;
         self.entry[p] = e;
         self.since[p] = t;
-        for q in 0..16 {
+        for q in 0..SLOTS {
             self.earlier[q] &= !(1 << p);
         }
         self.earlier[p] = active;
@@ -241,7 +244,7 @@ impl State {
         if t < self.last || t > 1_099_511_627_775 {
             return Err(10);
         }
-        if p >= board.processors || p >= 16 {
+        if p >= board.processors || p as usize >= SLOTS {
             return Err(11);
         }
         if (self.waiting | self.entitled | self.holding) >> p & 1 == 0 {

@@ -1,6 +1,6 @@
 //! The list of the whole board, as the library makes it: on any state value, with what is the same for all processors
 //! worked out once.
-use crate::arbiter::{Bits, Board, State};
+use crate::arbiter::{Bits, Board, State, SLOTS};
 
 /// The processors of a mask whose entry is in the row; every entry is below 64.
 fn in_row(state: &State, among: u32, row: u64) -> u32 {
@@ -9,9 +9,9 @@ fn in_row(state: &State, among: u32, row: u64) -> u32 {
 
 /// The phases of the requests that count: waiting, entitled, holding; and the direct waits of every processor.
 #[inline(always)]
-pub fn phases_and_waits(board: &Board, state: &State) -> ([u32; 3], [u32; 16]) {
+pub fn phases_and_waits(board: &Board, state: &State) -> ([u32; 3], [u32; SLOTS]) {
     let (mut counted, mut known) = (0u32, 0u32);
-    for p in 0..16u8 {
+    for p in 0..SLOTS as u8 {
         counted |= ((p < board.processors && state.entry[p as usize] < board.count) as u32) << p;
         known |= ((state.entry[p as usize] < 64) as u32) << p;
     }
@@ -21,10 +21,10 @@ pub fn phases_and_waits(board: &Board, state: &State) -> ([u32; 3], [u32; 16]) {
     let active = waiting | entitled | holding;
     let w = in_row(state, known, board.writes);
     let r = known & !w;
-    let mut waits = [0u32; 16];
+    let mut waits = [0u32; SLOTS];
     let mut join = |candidates: u32, others: u32, in_line: bool| {
         for p in Bits(candidates) {
-            let before = if in_line { state.earlier[p] } else { 65535 };
+            let before = if in_line { state.earlier[p] } else { u32::MAX };
             waits[p] |= in_row(state, before & others, board.rows[state.entry[p] as usize & 63]);
         }
     };
@@ -35,21 +35,27 @@ pub fn phases_and_waits(board: &Board, state: &State) -> ([u32; 3], [u32; 16]) {
     ([waiting, entitled, holding], waits)
 }
 
+/// The bytes of a mask on a board with so many processors.
+pub fn mask_size(processors: u8) -> usize {
+    if processors > 16 { 4 } else { 2 }
+}
+
 /// Fills the buffer with the list and gives the number of its bytes, or 16 where it has no room.
 pub fn list(board: &Board, state: &State, buffer: &mut [u8]) -> Result<usize, u8> {
-    let m = board.processors.min(16) as usize;
-    let size = 1 + 8 * m;
+    let m = (board.processors as usize).min(SLOTS);
+    let mask = mask_size(board.processors);
+    let size = 1 + (6 + mask) * m;
     let buffer = buffer.get_mut(..size).ok_or(16)?;
     let ([waiting, entitled, holding], waits) = phases_and_waits(board, state);
     let active = waiting | entitled | holding;
     buffer[0] = m as u8;
-    for (p, part) in buffer[1..].chunks_exact_mut(8).enumerate() {
+    for (p, part) in buffer[1..].chunks_exact_mut(6 + mask).enumerate() {
         let is = |mask: u32| mask >> p & 1 == 1;
         let waited = if is(waiting | entitled) { state.last.saturating_sub(state.since[p]).min(4_294_967_295) as u32 } else { 0 };
         part[0] = if is(holding) { 3 } else if is(entitled) { 2 } else { is(waiting) as u8 };
         part[1] = if is(active) { state.entry[p] } else { 255 };
         part[2..6].copy_from_slice(&waited.to_le_bytes());
-        part[6..8].copy_from_slice(&(waits[p] as u16).to_le_bytes());
+        part[6..].copy_from_slice(&waits[p].to_le_bytes()[..mask]);
     }
     Ok(size)
 }

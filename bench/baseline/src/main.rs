@@ -31,18 +31,29 @@ fn holder_from(holding: u32, from: u32) -> u32 {
     if above != 0 { above.trailing_zeros() } else { holding.trailing_zeros() }
 }
 
+/// The plan has 16 processors for up to 16 busy ones, else 32.
+fn processors_for(busy: u8) -> u8 {
+    if busy > 16 { 32 } else { 16 }
+}
+
+/// A place on the board: the seed's digits below the twentieth, as a part of all places.
+fn place(seed: u64, processors: u8) -> u32 {
+    (seed % 1_048_576 * processors as u64 / 1_048_576) as u32
+}
+
 /// Each turn completes a holder and issues again at once, on a board with so many busy processors. After it the whole
 /// board is listed, where that is asked for.
 fn calls<const KIND: u8>(busy: u8, listed: bool, turns: u64) -> u64 {
-    let board = board_of(16, &entries());
+    let processors = processors_for(busy);
+    let board = board_of(processors, &entries());
     let mut state = State::fresh();
     let (mut seed, mut sum) = (1u64, 0u64);
     for p in 0..busy {
-        state.issue::<KIND>(&board, p, p * 3, 0).ok();
+        state.issue::<KIND>(&board, p, p * 3 % 64, 0).ok();
     }
     for tick in 1..=turns {
         seed = (seed * 1_103_515_245 + 12_345) % 2_147_483_648;
-        let p = holder_from(state.holding, (seed / 65_536 % 16) as u32) as u8;
+        let p = holder_from(state.holding, place(seed, processors)) as u8;
         let e = (seed / 1_048_576 % 64) as u8;
         for done in [state.complete::<KIND>(&board, p, tick), state.issue::<KIND>(&board, p, e, tick)].into_iter().flatten() {
             sum = (sum * 31 + (done.granted as u64) * 65_536 + (done.entitled as u64) * 2 + done.late as u64) % 4_294_967_296;

@@ -33,7 +33,7 @@ fn entry_of(bytes: &[u8], resources: u8) -> Result<Entry, u8> {
 
 /// The plan at the start of the bytes and how many bytes it takes, or the refusal.
 pub fn read(bytes: &[u8]) -> Result<(usize, Plan), u8> {
-    let processors = counted(bytes, 0, 16, 3)?;
+    let processors = counted(bytes, 0, 32, 3)?;
     let resources = counted(bytes, 1, 64, 4)?;
     let count = counted(bytes, 2, 64, 5)?;
     let mut entries = [Entry { write: false, set: 0, length: 0 }; 64];

@@ -1,23 +1,24 @@
 //! Reach as the library works it out: on any state value, rows of masks, one pass for each processor that a chain may
 //! lead through, and all rows as words in the scratch.
-use crate::arbiter::{board_of, Board, Entry, State, PLAIN};
-use crate::list::phases_and_waits;
+use crate::arbiter::{board_of, Board, Entry, State, PLAIN, SLOTS};
+use crate::list::{mask_size, phases_and_waits};
 
 /// The reach of a processor, or 11 or 16.
 pub fn reach(board: &Board, state: &State, processor: u8, scratch: &mut [u8]) -> Result<u32, u8> {
-    if processor >= board.processors.min(16) {
+    if processor as usize >= (board.processors as usize).min(SLOTS) {
         return Err(11);
     }
-    let scratch = scratch.get_mut(..32).ok_or(16)?;
+    let size = mask_size(board.processors);
+    let scratch = scratch.get_mut(..size * 8 * size).ok_or(16)?;
     let (_, mut rows) = phases_and_waits(board, state);
-    for k in 0..16 {
+    for k in 0..SLOTS {
         let row = rows[k];
         for mine in &mut rows {
             *mine = if *mine >> k & 1 == 1 { *mine | row } else { *mine };
         }
     }
-    for (word, row) in scratch.chunks_exact_mut(2).zip(rows) {
-        word.copy_from_slice(&(row as u16).to_le_bytes());
+    for (word, row) in scratch.chunks_exact_mut(size).zip(rows) {
+        word.copy_from_slice(&row.to_le_bytes()[..size]);
     }
     Ok(rows[processor as usize])
 }

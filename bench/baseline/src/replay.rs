@@ -1,5 +1,6 @@
 //! A log to its listing in plain Rust, with the algorithm of the library.
 use crate::arbiter::{board_of, Done, State, LEAN};
+use crate::list::mask_size;
 use crate::plan::{self, number};
 use std::io::{self, Read, Write};
 
@@ -36,18 +37,19 @@ fn push_decimal(out: &mut Vec<u8>, mut n: u64) {
     out.extend_from_slice(&digits[at..]);
 }
 
-fn push_mask(out: &mut Vec<u8>, mask: u32) {
-    let [high, low] = (mask as u16).to_be_bytes();
-    out.extend_from_slice(&HEX_PAIRS[high as usize]);
-    out.extend_from_slice(&HEX_PAIRS[low as usize]);
+/// The digits of a mask of so many bytes.
+fn push_mask(out: &mut Vec<u8>, mask: u32, size: usize) {
+    for &byte in &mask.to_be_bytes()[4 - size..] {
+        out.extend_from_slice(&HEX_PAIRS[byte as usize]);
+    }
 }
 
-fn push_answer(out: &mut Vec<u8>, answer: Result<Done, u8>) {
+fn push_answer(out: &mut Vec<u8>, answer: Result<Done, u8>, size: usize) {
     match answer {
         Ok(done) => {
-            push_mask(out, done.granted);
+            push_mask(out, done.granted, size);
             out.push(b' ');
-            push_mask(out, done.entitled);
+            push_mask(out, done.entitled, size);
             out.push(b' ');
             push_decimal(out, done.late as u64);
         }
@@ -81,7 +83,7 @@ pub fn replay() -> io::Result<()> {
         push_decimal(&mut out, call[1] as u64);
         out.push(b' ');
         let answer = if call[0] == 0 { state.issue::<LEAN>(&board, call[1], call[2], tick) } else { state.complete::<LEAN>(&board, call[1], tick) };
-        push_answer(&mut out, answer);
+        push_answer(&mut out, answer, mask_size(processors));
         if out.len() > 60000 {
             stdout.write_all(&out)?;
             out.clear();

@@ -30,15 +30,15 @@ fn number_of(i: usize, other: u64) -> u64
     sum
 }
 
-fn at_most_16(n: u64) -> u8
-    ensures { λ r. ⌜ r ≤ 16 ⌝ }
+fn at_most_32(n: u64) -> u8
+    ensures { λ r. ⌜ r ≤ 32 ⌝ }
 {
-    if n < 16 { n as u8 } else { 16 }
+    if n < 32 { n as u8 } else { 32 }
 }
 
 fn main() {
     let turns = number_of(2, TURNS);
-    let sum = turns::sum_of(at_most_16(number_of(1, BUSY)), turns);
+    let sum = turns::sum_of(at_most_32(number_of(1, BUSY)), turns);
     io::print_decimal(STDOUT_FILENO, sum);
     io::write_all(STDOUT_FILENO, b"\n");
 }

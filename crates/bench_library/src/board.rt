@@ -1,4 +1,4 @@
-// The plan of the benchmarks: 16 processors, 64 resources and 64 entries, a third of them writes.
+// The plan of the benchmarks: 64 resources and 64 entries, a third of them writes.
 use plans::ENTRIES;
 use plans::Entry;
 use plans::Plan;
@@ -18,7 +18,7 @@ fn entry(i: u64) -> Entry
     }
 }
 
-pub fn plan() -> Plan {
+pub fn plan(processors: u8) -> Plan {
     let mut entries = [Entry {
         kind: 0,
         set: 0,
@@ -30,7 +30,7 @@ pub fn plan() -> Plan {
         i += 1;
     }
     Plan {
-        processors: 16,
+        processors: processors,
         resources: 64,
         count: 64,
         entries: entries,

@@ -40,6 +40,6 @@ pub fn sum_of(turns: u64) -> u64
     requires { ⌜ turns < 1000000000 ⌝ }
 {
     let mut bytes = [0; 707];
-    plan_writer::write(plan(), &mut bytes, 0);
+    plan_writer::write(plan(16), &mut bytes, 0);
     sum_over(&mut bytes, turns)
 }

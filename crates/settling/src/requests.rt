@@ -1,10 +1,11 @@
 // What settling reads of the requests. The masks that are walked through are of processors whose entries are below 64:
 // no walk looks up any other, and none compares a processor or an entry with anything.
+use crate::ALL;
 use plans::ENTRIES;
 use plans::SLOTS;
 ghost use mathlib.Core.Path.{_≡_};
 ghost use mathlib.Core.Bool.{cond, _&&_};
-ghost use Prim.Native.Nat.{ℕ, _<_, _^_, _/_, _%_};
+ghost use Prim.Native.Nat.{ℕ, _<_, _≤_, _^_, _/_, _%_};
 ghost use lib.Dec.{eqb, ltb};
 ghost use lib.ListN.{length, getD};
 ghost use Rattle.masks.specs.Sets.{bit, added, meets, maskOf};
@@ -37,9 +38,8 @@ pub fn row_at(rows: &[u64; ENTRIES], entry: &[u8; SLOTS], p: u32) -> u64
 
 // ---- reads and writes
 
-// The processors whose requests' entries are below the count. Nothing else in the loop: compiled, it is one comparison
-// of all of them.
-pub fn entries_below(count: u8, entry: [u8; SLOTS]) -> u32
+// The processors whose requests' entries are below the count, one after the other.
+fn each_below(count: u8, entry: [u8; SLOTS]) -> u32
     ensures { λ r. ⌜ r ≡ maskOf slots (λ p. ltb (getD entry p 0) count) ⌝ }
 {
     let mut out: u32 = 0;
@@ -49,6 +49,36 @@ pub fn entries_below(count: u8, entry: [u8; SLOTS]) -> u32
         p += 1;
     }
     out
+}
+
+fn larger(a: u8, b: u8) -> u8
+    ensures { λ r. ⌜ (a ≤ r) × (b ≤ r) ⌝ }
+{
+    if a < b { b } else { a }
+}
+
+// No request's entry is above it. Nothing else in the loop: compiled, it compares 16 of them at once.
+fn largest(entry: [u8; SLOTS]) -> u8
+    ensures { λ r. ⌜ ((p : ℕ) → p < slots → getD entry p 0 ≤ r) ⌝ }
+{
+    let mut most: u8 = 0;
+    let mut p: usize = 0;
+    while p < SLOTS {
+        most = larger(most, entry[p]);
+        p += 1;
+    }
+    most
+}
+
+// The processors whose requests' entries are below the count. On a board that was made from a plan all are, and a call
+// pays for one comparison.
+pub fn entries_below(count: u8, entry: [u8; SLOTS]) -> u32
+    ensures { λ r. ⌜ r ≡ maskOf slots (λ p. ltb (getD entry p 0) count) ⌝ }
+{
+    if largest(entry) < count {
+        return ALL;
+    }
+    each_below(count, entry)
 }
 
 // The processors whose requests' entries have a row, which is for every entry below 64.

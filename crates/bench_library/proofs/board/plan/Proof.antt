@@ -7,10 +7,10 @@ use Rattle.bench_library.proofs.board.plan.Statement.{statement}
 use Rattle.bench_library.proofs.board.plan.Tie as tie
 
 abbrev Inv-loop : tie.InvT-loop
-Inv-loop entries₀ i₀ entries i = (i ≤ 64) × (length entries ≡ 64)
+Inv-loop processors entries₀ i₀ entries i = (i ≤ 64) × (length entries ≡ 64)
 
 abbrev μ-loop : tie.MeasureT-loop
-μ-loop entries₀ i₀ entries i = 64 - i
+μ-loop processors entries₀ i₀ entries i = 64 - i
 
 loop-holds : tie.Need-loop-holds Inv-loop μ-loop
 loop-holds c = search needs
