@@ -1,0 +1,130 @@
+// A fresh arbiter from the bytes of a plan, into the caller's memory. Specification, clauses 2.9, 2.10 and 4.3.
+use crate::Told;
+use crate::store_moment;
+use arbiter::fresh_of;
+use encoding::Outcome;
+use plans::ENTRIES;
+use plans::SLOTS;
+use states::Board;
+use states::Moment;
+use states::State;
+ghost use mathlib.Core.Path.{_≡_};
+ghost use Rattle.plans.specs.Reading.{readSays};
+ghost use Rattle.rules.specs.InPlace.{stateBy};
+ghost use Rattle.c_boards.specs.Parts.{termsBy, momentBy};
+ghost use Rattle.c_boards.specs.Answers.{toldSays};
+ghost use Rattle.c_boards.specs.Fresh.{boardIn, boardAfter, stateAfter};
+
+// Puts a board into the caller's memory.
+fn store_board(
+    board: Board,
+    processors: &mut u8,
+    entries: &mut u8,
+    writes: &mut u64,
+    lengths: &mut [u16; ENTRIES],
+    names: &mut [u64; ENTRIES],
+    widened: &mut [u64; ENTRIES],
+    rows: &mut [u64; ENTRIES],
+)
+    ensures { λ _. ⌜ boardIn (termsBy (now (processors .exit)) (now (entries .exit)) (now (writes .exit)))
+        (now (lengths .exit)) (now (names .exit)) (now (widened .exit)) (now (rows .exit)) ≡ board ⌝ }
+{
+    let terms = board.terms;
+    *processors = terms.processors;
+    *entries = terms.count;
+    *writes = terms.writes;
+    let new_lengths = board.lengths;
+    let new_names = board.names;
+    let new_widened = board.widened;
+    let new_rows = board.rows;
+    *lengths = new_lengths;
+    *names = new_names;
+    *widened = new_widened;
+    *rows = new_rows;
+}
+
+// Puts a state into the caller's memory.
+fn store_state(
+    state: State,
+    last: &mut u64,
+    phases: &mut [u32; 3],
+    entry: &mut [u8; SLOTS],
+    since: &mut [u64; SLOTS],
+    earlier: &mut [u32; SLOTS],
+)
+    ensures { λ _. ⌜ stateBy (momentBy (now (last .exit)) (now (phases .exit)))
+        (now (entry .exit)) (now (since .exit)) (now (earlier .exit)) ≡ state ⌝ }
+{
+    let after = state.phases;
+    let moment = Moment {
+        last: state.last,
+        phases: after,
+    };
+    store_moment(moment, last, phases);
+    let new_entry = state.entry;
+    let new_since = state.since;
+    let new_earlier = state.earlier;
+    *entry = new_entry;
+    *since = new_since;
+    *earlier = new_earlier;
+}
+
+// A fresh arbiter of the plan in the bytes; bytes behind it are not looked at. Answers how many it took, or its refusal by 1
+// or 3 to 8, and then writes nothing.
+#[no_mangle]
+pub extern "C" fn bittmelon_fresh_parts(
+    plan: &[u8],
+    processors: &mut u8,
+    entries: &mut u8,
+    writes: &mut u64,
+    lengths: &mut [u16; ENTRIES],
+    names: &mut [u64; ENTRIES],
+    widened: &mut [u64; ENTRIES],
+    rows: &mut [u64; ENTRIES],
+    last: &mut u64,
+    phases: &mut [u32; 3],
+    entry: &mut [u8; SLOTS],
+    since: &mut [u64; SLOTS],
+    earlier: &mut [u32; SLOTS],
+) -> Told
+    ensures told { λ r. ⌜ toldSays r ≡ readSays (now (plan .entry)) ⌝ }
+    ensures board { λ _. ⌜ boardIn (termsBy (now (processors .exit)) (now (entries .exit)) (now (writes .exit)))
+        (now (lengths .exit)) (now (names .exit)) (now (widened .exit)) (now (rows .exit))
+        ≡ boardAfter (now (plan .entry))
+        (boardIn (termsBy (now (processors .entry)) (now (entries .entry)) (now (writes .entry)))
+        (now (lengths .entry)) (now (names .entry)) (now (widened .entry)) (now (rows .entry))) ⌝ }
+    ensures state { λ _. ⌜ stateBy (momentBy (now (last .exit)) (now (phases .exit)))
+        (now (entry .exit)) (now (since .exit)) (now (earlier .exit))
+        ≡ stateAfter (now (plan .entry)) (stateBy (momentBy (now (last .entry)) (now (phases .entry)))
+        (now (entry .entry)) (now (since .entry)) (now (earlier .entry))) ⌝ }
+{
+    let read = plan_reader::read(plan);
+    let outcome = read.outcome;
+    let value = read.plan;
+    match outcome {
+        Outcome::Refused(refusal) => Told {
+            refusal: refusals::number(refusal) as u32,
+            value: 0,
+        },
+        Outcome::Bytes(size) => {
+            let fresh = fresh_of(value);
+            let board = fresh.board;
+            let state = fresh.state;
+            store_board(
+                board,
+                processors,
+                entries,
+                writes,
+                lengths,
+                names,
+                widened,
+                rows,
+            );
+            store_state(state, last, phases, entry, since, earlier);
+            Told {
+                refusal: 0,
+                value: size as u64,
+            }
+        }
+    }
+}
