@@ -46,6 +46,11 @@ fn input_of(kind: &str, seed: u64) -> Vec<u8> {
     }
 }
 
+/// Writes the inputs of a comparison as files of a folder, each named by its seed.
+pub fn write_logs(kind: &str, from: u64, count: u64, folder: &str) -> bool {
+    (from..from + count).all(|seed| fs::write(format!("{folder}/{seed}"), input_of(kind, seed)).is_ok())
+}
+
 /// Compares the outputs for the seeds `from` to `from + count`, in two threads.
 pub fn compare(program: &str, kind: &str, from: u64, count: u64, folder: &str) -> bool {
     let part = |odd: u64| (from..from + count).filter(|seed| seed % 2 == odd && differs(program, kind, *seed, folder)).count() as u64;

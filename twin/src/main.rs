@@ -11,6 +11,7 @@
 //! twin stream SEED COUNT                    writes a stream of so many register operations
 //! twin waits PROGRAM COUNT                  hostile logs through a program: no wait passes its figure, and how near they come
 //! twin log SEED                             writes one of the seeded logs
+//! twin logs KIND FROM COUNT DIR             writes those of a comparison, `replay`, `queries` or `conflicts`, as DIR/SEED
 //! twin calls BUSY TURNS | handovers BUSY TURNS | plans TURNS
 //!                                           the benchmarks' workloads, to a checksum
 mod arbiter;
@@ -91,6 +92,7 @@ fn main() -> io::Result<()> {
         ["handovers", busy, turns] => writeln!(out, "{}", speed::calls(number(busy) as u8, number(turns), true)).is_ok(),
         ["plans", turns] => writeln!(out, "{}", speed::plans(number(turns))).is_ok(),
         ["log", seed] => out.write_all(&logs::log(number(seed))).is_ok(),
+        ["logs", kind, from, count, dir] => compare::write_logs(kind, number(from), number(count), dir),
         ["measure", log, listing] => print_measured(log, listing),
         ["compare", program, from, count, dir] => compare::compare(program, "replay", number(from), number(count), dir),
         ["compare-queries", program, from, count, dir] => compare::compare(program, "queries", number(from), number(count), dir),
