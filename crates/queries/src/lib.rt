@@ -16,7 +16,7 @@ ghost use Rattle.refusals.specs.Number.{verdictNumber};
 ghost use Rattle.states.specs.Faults.{processorFault};
 ghost use Rattle.wait_listing.specs.Listing.{stateIn};
 ghost use Rattle.queries.specs.Queries.{phaseNumber, phaseSays, phaseQuery};
-ghost use Rattle.queries.specs.inner.Rows.{boardWith, stateWith};
+ghost use Rattle.queries.specs.Parts.{boardWith, stateWith};
 
 // The state of a processor.
 pub enum Phase {
@@ -77,26 +77,32 @@ fn phase_at(phases: Phases, p: u32) -> Phase
     }
 }
 
-// The state of a processor, by the parts of a board and a state. Refuses by 11.
-fn phase_in(terms: Terms, entry: [u8; SLOTS], phases: Phases, processor: u8) -> PhaseAnswer
-    ensures { λ r. ⌜ phaseSays r ≡ phaseQuery (boardWith terms []) (stateWith entry [] phases) processor ⌝ }
+// The state of a processor, with the parts of a board and a state lent, as to a call in place. Refuses by 11.
+pub fn phase_in_place(
+    terms: Terms,
+    entries: &[u8; SLOTS],
+    phases: Phases,
+    processor: u8,
+) -> PhaseAnswer
+    ensures { λ r. ⌜ phaseSays r
+        ≡ phaseQuery (boardWith terms []) (stateWith (now (entries .entry)) [] phases) processor ⌝ }
 {
     let verdict = check_processor(terms, processor);
     match verdict {
         Verdict::Accepted => PhaseAnswer::Is(phase_at(
-            clean(terms, entry, phases),
+            clean(terms, *entries, phases),
             processor as u32,
         )),
         Verdict::Refused(refusal) => PhaseAnswer::Refused(refusal),
     }
 }
 
-// The state of a processor. Refuses by 11.
+// The same by value.
 pub fn phase_of(board: Board, state: State, processor: u8) -> PhaseAnswer
     ensures { λ r. ⌜ phaseSays r ≡ phaseQuery board state processor ⌝ }
 {
     let terms = board.terms;
-    let entry = state.entry;
+    let entries = state.entry;
     let phases = state.phases;
-    phase_in(terms, entry, phases, processor)
+    phase_in_place(terms, &entries, phases, processor)
 }

@@ -14,7 +14,8 @@ use waiting::waits_of;
 use waiting::waits_of_all;
 ghost use mathlib.Core.Path.{_≡_};
 ghost use Rattle.queries.specs.Queries.{maskSays, waitsQuery};
-ghost use Rattle.queries.specs.inner.Rows.{boardWith, stateWith, directRows};
+ghost use Rattle.queries.specs.Parts.{boardWith, stateWith};
+ghost use Rattle.queries.specs.inner.Rows.{directRows};
 
 // The direct waits of every processor.
 pub fn direct_rows(
@@ -32,8 +33,8 @@ pub fn direct_rows(
     waits_of_all(rows, terms.writes, entry, earlier, counted)
 }
 
-// The direct waits of one processor. Refuses by 11.
-fn direct_row(
+// The direct waits of a processor, a mask, with the parts of a board and a state lent. Refuses by 11.
+pub fn direct_waits_in_place(
     terms: Terms,
     rows: &[u64; ENTRIES],
     entry: &[u8; SLOTS],
@@ -63,7 +64,7 @@ fn direct_row(
     }
 }
 
-// The direct waits of a processor, a mask. Refuses by 11.
+// The same by value.
 pub fn direct_waits(board: Board, state: State, processor: u8) -> MaskAnswer
     ensures { λ r. ⌜ maskSays r ≡ waitsQuery board state processor ⌝ }
 {
@@ -72,5 +73,5 @@ pub fn direct_waits(board: Board, state: State, processor: u8) -> MaskAnswer
     let entry = state.entry;
     let earlier = state.earlier;
     let phases = state.phases;
-    direct_row(terms, &rows, &entry, &earlier, phases, processor)
+    direct_waits_in_place(terms, &rows, &entry, &earlier, phases, processor)
 }

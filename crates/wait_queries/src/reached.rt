@@ -1,6 +1,7 @@
 // Reach, from the direct waits of all. Specification, clauses 7.3 and 7.4.
 use crate::direct::direct_rows;
 use encoding::check_room;
+use plans::ENTRIES;
 use plans::SLOTS;
 use queries::MaskAnswer;
 use queries::check_processor;
@@ -9,6 +10,7 @@ use reaching::room_of;
 use reaching::write_rows;
 use refusals::Verdict;
 use refusals::first_of;
+use settling::Phases;
 use states::Board;
 use states::State;
 use states::Terms;
@@ -22,6 +24,7 @@ ghost use Rattle.encoding.specs.Buffers.{roomFault, overwritten};
 ghost use Rattle.plans.specs.Entries.{slots};
 ghost use Rattle.states.specs.Faults.{processorFault};
 ghost use Rattle.queries.specs.Queries.{maskSays, reaches, scratchSize, reachBytes, reachQuery, reachScratch};
+ghost use Rattle.queries.specs.Parts.{boardWith, stateWith};
 ghost use Rattle.queries.specs.inner.Rows.{directRows};
 
 // Refuses by 11, then by 16 a scratch that is too short.
@@ -62,8 +65,31 @@ fn reach_from(terms: Terms, direct: [u32; SLOTS], processor: u8, scratch: &mut [
     }
 }
 
-// Clause 7.3: all that a processor reaches, a mask. The scratch is left with a word for each processor, and bytes
-// behind those stay. Refuses by 11, then by 16; a refusal writes nothing.
+// Clause 7.3: all that a processor reaches, a mask, with the parts of a board and a state lent. The scratch is left with a
+// word for each processor, and bytes behind those stay. Refuses by 11, then by 16; a refusal writes nothing.
+pub fn reach_in_place(
+    terms: Terms,
+    rows: &[u64; ENTRIES],
+    entry: &[u8; SLOTS],
+    earlier: &[u32; SLOTS],
+    phases: Phases,
+    processor: u8,
+    scratch: &mut [u8],
+) -> MaskAnswer
+    ensures mask { λ r. ⌜ maskSays r ≡ reachQuery
+        (boardWith terms (now (rows .entry)))
+        (stateWith (now (entry .entry)) (now (earlier .entry)) phases)
+        processor (now (scratch .entry)) ⌝ }
+    ensures stored { λ _. ⌜ now (scratch .exit) ≡ reachScratch
+        (boardWith terms (now (rows .entry)))
+        (stateWith (now (entry .entry)) (now (earlier .entry)) phases)
+        processor (now (scratch .entry)) ⌝ }
+{
+    let direct = direct_rows(terms, rows, entry, earlier, phases);
+    reach_from(terms, direct, processor, scratch)
+}
+
+// The same by value.
 pub fn reach(board: Board, state: State, processor: u8, scratch: &mut [u8]) -> MaskAnswer
     ensures mask { λ r. ⌜ maskSays r ≡ reachQuery board state processor (now (scratch .entry)) ⌝ }
     ensures stored { λ _. ⌜ now (scratch .exit) ≡ reachScratch board state processor (now (scratch .entry)) ⌝ }

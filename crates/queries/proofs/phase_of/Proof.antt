@@ -6,7 +6,7 @@ use Rattle.queries.proofs.phase_of.Tie as tie
 
 returns : tie.Need-returns
 unfolding stateNumber
-returns c = c .phase-in .ensures
+returns c = c .phase-in-place .ensures
 
 pub phase-of-spec : {M : Type 1} → statement M
 phase-of-spec = tie.close (tie.spec (λ c κs. search needs) returns)

@@ -1,5 +1,5 @@
 -- `direct_rows` meets its contract: the direct waits by the phases that count. Assumes nothing.
-use Rattle.queries.specs.inner.Rows.{boardWith, stateWith}
+use Rattle.queries.specs.Parts.{boardWith, stateWith}
 use Rattle.queries.proofs.Answers.{rows-counted}
 use borrow.Author.Needs.{needs}
 use Rattle.wait_queries.proofs.direct.direct_rows.Statement.{statement}

@@ -6,7 +6,7 @@ use Rattle.wait_queries.proofs.direct.direct_waits.Tie as tie
 
 returns : tie.Need-returns
 unfolding waitsFor
-returns c = c .direct-row .ensures
+returns c = c .direct-waits-in-place .ensures
 
 pub direct-waits-spec : {M : Type 1} → statement M
 direct-waits-spec = tie.close (tie.spec (λ c κs. search needs) returns)

@@ -1,11 +1,11 @@
--- `direct_row` meets its contract: the direct waits by the phases that count. Assumes nothing.
+-- `direct_waits_in_place` meets its contract: the direct waits by the phases that count. Assumes nothing.
 use mathlib.Core.Path.{sym, ap, _∙_}
 use Rattle.refusals.specs.Number.{verdictNumber}
-use Rattle.queries.specs.inner.Rows.{boardWith, stateWith}
+use Rattle.queries.specs.Parts.{boardWith, stateWith}
 use Rattle.queries.proofs.Answers.{processor-below, accepted-says, refused-says, waits-counted}
 use borrow.Author.Needs.{needs}
-use Rattle.wait_queries.proofs.direct.direct_row.Statement.{statement}
-use Rattle.wait_queries.proofs.direct.direct_row.Tie as tie
+use Rattle.wait_queries.proofs.direct.direct_waits_in_place.Statement.{statement}
+use Rattle.wait_queries.proofs.direct.direct_waits_in_place.Tie as tie
 
 returns : tie.Need-returns
 returns c =
@@ -22,8 +22,8 @@ returns-2 : tie.Need-returns-2
 returns-2 c =
     refused-says _ _ _ _ (c .before .before .before .before .before .check-processor .ensures) (c .before .verdict .given .1)
 
-pub direct-row-spec : {M : Type 1} → statement M
-direct-row-spec =
+pub direct-waits-in-place-spec : {M : Type 1} → statement M
+direct-waits-in-place-spec =
     tie.close
     (tie.spec
     (λ c κs. search needs)

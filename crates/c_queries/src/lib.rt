@@ -1,0 +1,148 @@
+// The queries on memory that a program in C or Rust owns. Its parts are lent as pointers, and nothing but a lent buffer is
+// changed. include/bittmelon.h declares these functions. Specification, section 7.
+mod answers;
+mod shared;
+
+use answers::told_bytes;
+use answers::told_mask;
+use answers::told_phase;
+use board_queries::list_board_in_place;
+use c_boards::Told;
+use c_boards::moment_of;
+use c_boards::phases_of;
+use plans::ENTRIES;
+use plans::SLOTS;
+use queries::phase_in_place;
+pub use shared::bittmelon_shared_parts;
+use states::Terms;
+use wait_queries::direct_waits_in_place;
+use wait_queries::reach_in_place;
+ghost use mathlib.Core.Path.{_≡_};
+ghost use mathlib.Core.List.{[]};
+ghost use Rattle.rules.specs.InPlace.{boardBy, stateBy};
+ghost use Rattle.queries.specs.Queries.{phaseQuery, waitsQuery, reachQuery, reachScratch};
+ghost use Rattle.queries.specs.Parts.{boardWith, stateWith};
+ghost use Rattle.board_queries.specs.WholeBoard.{boardQuery, boardBuffer};
+ghost use Rattle.c_boards.specs.Parts.{termsBy, phasesBy, momentBy};
+ghost use Rattle.c_boards.specs.Answers.{toldSays};
+
+// The refusal's number, 0 if there is none; 1 for a conflict, with the lowest shared resource and how many they are.
+#[repr(C)]
+pub struct SharedTold {
+    pub refusal: u32,
+    pub conflict: u32,
+    pub lowest: u32,
+    pub count: u32,
+}
+
+// Clause 7.1: the state of a processor: 0 idle, 1 waiting, 2 entitled, 3 holding. Refuses by 11.
+#[no_mangle]
+pub extern "C" fn bittmelon_state_parts(
+    processors: u8,
+    entries: u8,
+    phases: &[u32; 3],
+    entry: &[u8; SLOTS],
+    processor: u8,
+) -> Told
+    ensures { λ r. ⌜ toldSays r ≡ phaseQuery
+        (boardWith (termsBy processors entries 0) [])
+        (stateWith (now (entry .entry)) [] (phasesBy (now (phases .entry)))) processor ⌝ }
+{
+    let terms = Terms {
+        processors: processors,
+        count: entries,
+        writes: 0,
+    };
+    let given = phases_of(*phases);
+    told_phase(phase_in_place(terms, entry, given, processor))
+}
+
+// Clause 7.2: the direct waits of a processor, a mask. Refuses by 11.
+#[no_mangle]
+pub extern "C" fn bittmelon_waits_parts(
+    processors: u8,
+    entries: u8,
+    writes: u64,
+    rows: &[u64; ENTRIES],
+    phases: &[u32; 3],
+    entry: &[u8; SLOTS],
+    earlier: &[u32; SLOTS],
+    processor: u8,
+) -> Told
+    ensures { λ r. ⌜ toldSays r ≡ waitsQuery
+        (boardWith (termsBy processors entries writes) (now (rows .entry)))
+        (stateWith (now (entry .entry)) (now (earlier .entry)) (phasesBy (now (phases .entry)))) processor ⌝ }
+{
+    let terms = Terms {
+        processors: processors,
+        count: entries,
+        writes: writes,
+    };
+    let given = phases_of(*phases);
+    told_mask(direct_waits_in_place(terms, rows, entry, earlier, given, processor))
+}
+
+// Clause 7.3: all that a processor reaches, a mask; the scratch is left with a word for each processor, and bytes behind
+// those stay. Refuses by 11, then by 16; a refusal writes nothing.
+#[no_mangle]
+pub extern "C" fn bittmelon_reach_parts(
+    processors: u8,
+    entries: u8,
+    writes: u64,
+    rows: &[u64; ENTRIES],
+    phases: &[u32; 3],
+    entry: &[u8; SLOTS],
+    earlier: &[u32; SLOTS],
+    processor: u8,
+    scratch: &mut [u8],
+) -> Told
+    ensures mask { λ r. ⌜ toldSays r ≡ reachQuery
+        (boardWith (termsBy processors entries writes) (now (rows .entry)))
+        (stateWith (now (entry .entry)) (now (earlier .entry)) (phasesBy (now (phases .entry)))) processor
+        (now (scratch .entry)) ⌝ }
+    ensures stored { λ _. ⌜ now (scratch .exit) ≡ reachScratch
+        (boardWith (termsBy processors entries writes) (now (rows .entry)))
+        (stateWith (now (entry .entry)) (now (earlier .entry)) (phasesBy (now (phases .entry)))) processor
+        (now (scratch .entry)) ⌝ }
+{
+    let terms = Terms {
+        processors: processors,
+        count: entries,
+        writes: writes,
+    };
+    let given = phases_of(*phases);
+    let answer = reach_in_place(terms, rows, entry, earlier, given, processor, scratch);
+    told_mask(answer)
+}
+
+// Clause 7.7: fills the buffer with the list of the whole board and answers how many bytes it took; bytes behind it stay.
+// Refuses by 16 a buffer that is too short, and then writes nothing.
+#[no_mangle]
+pub extern "C" fn bittmelon_list_parts(
+    processors: u8,
+    entries: u8,
+    writes: u64,
+    rows: &[u64; ENTRIES],
+    last: u64,
+    phases: &[u32; 3],
+    entry: &[u8; SLOTS],
+    since: &[u64; SLOTS],
+    earlier: &[u32; SLOTS],
+    buffer: &mut [u8],
+) -> Told
+    ensures outcome { λ r. ⌜ toldSays r ≡ boardQuery
+        (boardBy (termsBy processors entries writes) (now (rows .entry)) []) (now (buffer .entry)) ⌝ }
+    ensures bytes { λ _. ⌜ now (buffer .exit) ≡ boardBuffer
+        (boardBy (termsBy processors entries writes) (now (rows .entry)) [])
+        (stateBy (momentBy last (now (phases .entry))) (now (entry .entry)) (now (since .entry)) (now (earlier .entry)))
+        (now (buffer .entry)) ⌝ }
+{
+    let terms = Terms {
+        processors: processors,
+        count: entries,
+        writes: writes,
+    };
+    let moment = moment_of(last, *phases);
+    let outcome = list_board_in_place(terms, rows, moment, entry, since, earlier, buffer);
+    told_bytes(outcome)
+}
