@@ -3,7 +3,8 @@ use Prim.Native.Nat.{ℕ}
 use Rattle.contention.specs.Contention.{SharedSaid}
 use Rattle.c_queries.specs.declared.SharedTold.{SharedTold}
 
--- The refusal's number, 0 if there is none; 1 for a conflict, with the lowest of the shared resources and how many they are.
+-- The refusal's number, 0 if there is none; 1 for a conflict, with the lowest of the shared resources and how many they
+-- are.
 abbrev pub sharedToldSays : SharedTold → SharedSaid
 sharedToldSays t =
     record { number = t .refusal; conflict = record { number = t .conflict; lowest = t .lowest; count = t .count } }

@@ -1,5 +1,5 @@
-// The queries on memory that a program in C or Rust owns. Its parts are lent as pointers, and nothing but a lent buffer is
-// changed. include/bittmelon.h declares these functions. Specification, section 7.
+// The queries on memory that a program in C or Rust owns. Its parts are lent as pointers, and nothing but a lent buffer
+// is changed. include/bittmelon.h declares these functions. Specification, section 7.
 mod answers;
 mod shared;
 
@@ -82,8 +82,8 @@ pub extern "C" fn bittmelon_waits_parts(
     told_mask(direct_waits_in_place(terms, rows, entry, earlier, given, processor))
 }
 
-// Clause 7.3: all that a processor reaches, a mask; the scratch is left with a word for each processor, and bytes behind
-// those stay. Refuses by 11, then by 16; a refusal writes nothing.
+// Clause 7.3: all that a processor reaches, a mask; the scratch is left with a word for each processor, and bytes
+// behind those stay. Refuses by 11, then by 16; a refusal writes nothing.
 #[no_mangle]
 pub extern "C" fn bittmelon_reach_parts(
     processors: u8,
@@ -115,8 +115,8 @@ pub extern "C" fn bittmelon_reach_parts(
     told_mask(answer)
 }
 
-// Clause 7.7: fills the buffer with the list of the whole board and answers how many bytes it took; bytes behind it stay.
-// Refuses by 16 a buffer that is too short, and then writes nothing.
+// Clause 7.7: fills the buffer with the list of the whole board and answers how many bytes it took; bytes behind it
+// stay. Refuses by 16 a buffer that is too short, and then writes nothing.
 #[no_mangle]
 pub extern "C" fn bittmelon_list_parts(
     processors: u8,

@@ -6,8 +6,8 @@ use Rattle.rules.specs.Calls.{issued}
 use Rattle.rules.specs.InPlace.{boardBy}
 use Rattle.c_boards.specs.Parts.{termsBy}
 use Rattle.c_calls.proofs.Memory.{stored, from-memory}
-use Rattle.c_calls.proofs.bittmelon_issue_parts.Statement.{statement}
-use Rattle.c_calls.proofs.bittmelon_issue_parts.Tie as tie
+use Rattle.c_calls.proofs.issue.bittmelon_issue_parts.Statement.{statement}
+use Rattle.c_calls.proofs.issue.bittmelon_issue_parts.Tie as tie
 
 returns : tie.Need-returns
 returns c =

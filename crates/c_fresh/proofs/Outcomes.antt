@@ -14,7 +14,7 @@ use Rattle.plans.specs.Reading.{readFault, readSays, planRead}
 use Rattle.states.specs.declared.Board.{Board}
 use Rattle.states.specs.declared.State.{State}
 use Rattle.arbiter.specs.Fresh.{freshBoard, freshState}
-use Rattle.c_boards.specs.Fresh.{boardAfter, stateAfter}
+use Rattle.c_fresh.specs.Fresh.{boardAfter, stateAfter}
 
 -- ---- where the bytes were refused
 

@@ -2,8 +2,8 @@
 use mathlib.Core.Path.{ap}
 use borrow.Author.Needs.{needs}
 use Rattle.rules.specs.InPlace.{stateBy}
-use Rattle.c_boards.proofs.fresh.store_state.Statement.{statement}
-use Rattle.c_boards.proofs.fresh.store_state.Tie as tie
+use Rattle.c_fresh.proofs.store_state.Statement.{statement}
+use Rattle.c_fresh.proofs.store_state.Tie as tie
 
 returns : tie.Need-returns
 returns c =

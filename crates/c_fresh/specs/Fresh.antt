@@ -9,6 +9,10 @@ use Rattle.states.specs.declared.State.{State}
 use Rattle.states.specs.declared.Terms.{Terms}
 use Rattle.arbiter.specs.Fresh.{freshBoard, freshState}
 
+-- The version of the archive: 10,000 for each major, 100 for each minor one.
+abbrev pub versionNumber : ℕ
+versionNumber = 30100
+
 -- The board of these parts.
 abbrev pub boardIn : Terms → List ℕ → List ℕ → List ℕ → List ℕ → Board
 boardIn terms lengths names widened rows =

@@ -2,9 +2,9 @@
 use mathlib.Core.Path.{ap, _∙_}
 use borrow.Author.Needs.{needs}
 use Rattle.arbiter.specs.Fresh.{freshBoard}
-use Rattle.c_boards.proofs.Outcomes.{refused-told, board-kept, state-kept, read-told, board-made, state-made}
-use Rattle.c_boards.proofs.fresh.bittmelon_fresh_parts.Statement.{statement}
-use Rattle.c_boards.proofs.fresh.bittmelon_fresh_parts.Tie as tie
+use Rattle.c_fresh.proofs.Outcomes.{refused-told, board-kept, state-kept, read-told, board-made, state-made}
+use Rattle.c_fresh.proofs.bittmelon_fresh_parts.Statement.{statement}
+use Rattle.c_fresh.proofs.bittmelon_fresh_parts.Tie as tie
 
 returns : tie.Need-returns
 returns c =

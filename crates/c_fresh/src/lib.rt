@@ -1,7 +1,8 @@
-// A fresh arbiter from the bytes of a plan, into the caller's memory. Specification, clauses 2.9, 2.10 and 4.3.
-use crate::Told;
-use crate::store_moment;
+// A fresh arbiter from the bytes of a plan, into memory that a program in C or Rust owns; and the version of the archive.
+// include/bittmelon.h declares what is exported. Specification, clauses 2.9, 2.10 and 4.3.
 use arbiter::fresh_of;
+use c_boards::Told;
+use c_boards::store_moment;
 use encoding::Outcome;
 use plans::ENTRIES;
 use plans::SLOTS;
@@ -11,9 +12,17 @@ use states::State;
 ghost use mathlib.Core.Path.{_≡_};
 ghost use Rattle.plans.specs.Reading.{readSays};
 ghost use Rattle.rules.specs.InPlace.{stateBy};
 ghost use Rattle.c_boards.specs.Parts.{termsBy, momentBy};
 ghost use Rattle.c_boards.specs.Answers.{toldSays};
-ghost use Rattle.c_boards.specs.Fresh.{boardIn, boardAfter, stateAfter};
+ghost use Rattle.c_fresh.specs.Fresh.{versionNumber, boardIn, boardAfter, stateAfter};
+
+// The version of the archive, to hold against the header's.
+#[no_mangle]
+pub extern "C" fn bittmelon_version_number() -> u32
+    ensures { λ r. ⌜ r ≡ versionNumber ⌝ }
+{
+    30100
+}
 
 // Puts a board into the caller's memory.
 fn store_board(
@@ -69,8 +78,8 @@ fn store_state(
     *earlier = new_earlier;
 }
 
-// A fresh arbiter of the plan in the bytes; bytes behind it are not looked at. Answers how many it took, or its refusal by 1
-// or 3 to 8, and then writes nothing.
+// A fresh arbiter of the plan in the bytes; bytes behind it are not looked at. Answers how many it took, or its refusal by
+// 1 or 3 to 8, and then writes nothing.
 #[no_mangle]
 pub extern "C" fn bittmelon_fresh_parts(
     plan: &[u8],

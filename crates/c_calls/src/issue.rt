@@ -1,0 +1,60 @@
+// A request is made, on memory that the caller owns. Specification, section 4.
+use crate::Replied;
+use crate::in_numbers;
+use acting::issue_in_place;
+use c_boards::moment_of;
+use c_boards::store_moment;
+use plans::ENTRIES;
+use plans::SLOTS;
+use states::Terms;
+ghost use mathlib.Core.Path.{_≡_};
+ghost use mathlib.Core.List.{[]};
+ghost use Rattle.rules.specs.Calls.{issued};
+ghost use Rattle.rules.specs.InPlace.{boardBy, stateBy};
+ghost use Rattle.c_boards.specs.Parts.{termsBy, momentBy};
+ghost use Rattle.c_calls.specs.Replies.{answerIn};
+
+// Processor asks for an entry at a tick. Refused by 10, 11, 12, 13, in that order.
+#[no_mangle]
+pub extern "C" fn bittmelon_issue_parts(
+    processors: u8,
+    entries: u8,
+    writes: u64,
+    rows: &[u64; ENTRIES],
+    last: &mut u64,
+    phases: &mut [u32; 3],
+    entry: &mut [u8; SLOTS],
+    since: &mut [u64; SLOTS],
+    earlier: &mut [u32; SLOTS],
+    processor: u8,
+    requested: u8,
+    tick: u64,
+) -> Replied
+    ensures { λ r. ⌜ answerIn r
+        (now (last .exit)) (now (phases .exit)) (now (entry .exit)) (now (since .exit)) (now (earlier .exit))
+        ≡ issued (boardBy (termsBy processors entries writes) (now (rows .entry)) [])
+        (stateBy (momentBy (now (last .entry)) (now (phases .entry)))
+        (now (entry .entry)) (now (since .entry)) (now (earlier .entry))) processor requested tick ⌝ }
+{
+    let terms = Terms {
+        processors: processors,
+        count: entries,
+        writes: writes,
+    };
+    let moment = moment_of(*last, *phases);
+    let changed = issue_in_place(
+        terms,
+        rows,
+        moment,
+        entry,
+        since,
+        earlier,
+        processor,
+        requested,
+        tick,
+    );
+    let reply = changed.reply;
+    let after = changed.moment;
+    store_moment(after, last, phases);
+    in_numbers(reply)
+}

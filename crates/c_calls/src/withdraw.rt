@@ -1,0 +1,49 @@
+// A request leaves the line, on memory that the caller owns. Specification, section 4.
+use crate::Replied;
+use crate::in_numbers;
+use acting::withdraw_in_place;
+use c_boards::moment_of;
+use c_boards::store_moment;
+use plans::ENTRIES;
+use plans::SLOTS;
+use states::Terms;
+ghost use mathlib.Core.Path.{_≡_};
+ghost use mathlib.Core.List.{[]};
+ghost use Rattle.rules.specs.Calls.{withdrawn};
+ghost use Rattle.rules.specs.InPlace.{boardBy, stateBy};
+ghost use Rattle.c_boards.specs.Parts.{termsBy, momentBy};
+ghost use Rattle.c_calls.specs.Replies.{answerIn};
+
+// Processor leaves the line at a tick, with a request that does not hold. Refused by 10, 11, 14, 17, in that order.
+#[no_mangle]
+pub extern "C" fn bittmelon_withdraw_parts(
+    processors: u8,
+    entries: u8,
+    writes: u64,
+    rows: &[u64; ENTRIES],
+    last: &mut u64,
+    phases: &mut [u32; 3],
+    entry: &[u8; SLOTS],
+    since: &mut [u64; SLOTS],
+    earlier: &[u32; SLOTS],
+    processor: u8,
+    tick: u64,
+) -> Replied
+    ensures { λ r. ⌜ answerIn r
+        (now (last .exit)) (now (phases .exit)) (now (entry .entry)) (now (since .exit)) (now (earlier .entry))
+        ≡ withdrawn (boardBy (termsBy processors entries writes) (now (rows .entry)) [])
+        (stateBy (momentBy (now (last .entry)) (now (phases .entry)))
+        (now (entry .entry)) (now (since .entry)) (now (earlier .entry))) processor tick ⌝ }
+{
+    let terms = Terms {
+        processors: processors,
+        count: entries,
+        writes: writes,
+    };
+    let moment = moment_of(*last, *phases);
+    let changed = withdraw_in_place(terms, rows, moment, entry, since, earlier, processor, tick);
+    let reply = changed.reply;
+    let after = changed.moment;
+    store_moment(after, last, phases);
+    in_numbers(reply)
+}
