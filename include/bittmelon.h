@@ -7,6 +7,8 @@
  * One caller at a time for each board: where cores share one, they take turns, by a spin lock for instance. Queries only
  * read the board, so that queries may run beside each other while no call does. Different boards have nothing in common.
  *
+ * Plans, scratches and buffers lie outside the board; where the size is 0, their pointer may be null.
+ *
  * A refusal changes no byte, neither of the board nor of a buffer. Any content of the struct is taken, also junk: every
  * function returns, and touches nothing but what it is given. What the figures promise holds for a board from
  * bittmelon_fresh that only these functions changed.
