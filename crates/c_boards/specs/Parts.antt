@@ -1,4 +1,5 @@
 -- A board and a state in memory that a program in C or Rust owns: numbers and arrays of numbers, of any content.
+-- Specification, section 11.
 use Prim.Native.Nat.{ℕ}
 use mathlib.Core.List.{List}
 use lib.ListN.{getD}
@@ -6,14 +7,14 @@ use Rattle.settling.specs.declared.Phases.{Phases}
 use Rattle.states.specs.declared.Terms.{Terms}
 use Rattle.states.specs.declared.Moment.{Moment}
 
--- The counts of processors and of entries, and which entries are writes.
+-- Clause 11.1: the counts of processors and of entries, and which entries are writes.
 abbrev pub termsBy : ℕ → ℕ → ℕ → Terms
 termsBy processors entries writes = record { processors = processors; count = entries; writes = writes }
 
--- Three words: who waits, who is entitled, who holds.
+-- Clause 11.1: three words: who waits, who is entitled, who holds.
 unfoldable pub phasesBy : List ℕ → Phases
 phasesBy words = record { waiting = getD words 0 0; entitled = getD words 1 0; holding = getD words 2 0 }
 
--- The last accepted tick, and the phases.
+-- Clause 11.1: the last accepted tick, and the phases.
 abbrev pub momentBy : ℕ → List ℕ → Moment
 momentBy last words = record { last = last; phases = phasesBy words }

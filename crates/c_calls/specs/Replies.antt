@@ -1,4 +1,5 @@
--- What a call from C or Rust answers, and what it leaves in the caller's memory. Specification, section 4.
+-- What a call from C or Rust answers, and what it leaves in the caller's memory. Specification, sections 4
+-- and 11.
 use Prim.Native.Nat.{ℕ}
 use mathlib.Core.List.{List}
 use Rattle.calls.specs.Replies.{Response}
@@ -7,11 +8,11 @@ use Rattle.rules.specs.InPlace.{stateBy}
 use Rattle.c_boards.specs.Parts.{momentBy}
 use Rattle.c_calls.specs.declared.Replied.{Replied}
 
--- Clauses 4.7 and 4.9: the reply's four numbers.
+-- Clauses 11.3, 4.7 and 4.9: the reply's four numbers.
 abbrev pub response : Replied → Response
 response r = record { number = r .refusal; granted = r .granted; entitled = r .entitled; late = r .late }
 
--- The answer: what the call returns, with the caller's memory as it leaves it.
+-- Clause 11.3: the answer: what the call returns, with the caller's memory as it leaves it.
 abbrev pub answerIn : Replied → ℕ → List ℕ → List ℕ → List ℕ → List ℕ → Answer
 answerIn r last phases entry since earlier =
     record { reply = response r; state = stateBy (momentBy last phases) entry since earlier }

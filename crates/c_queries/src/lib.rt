@@ -1,5 +1,5 @@
 // The queries on memory that a program in C or Rust owns. Its parts are lent as pointers, and nothing but a lent buffer
-// is changed. include/bittmelon.h declares these functions. Specification, section 7.
+// is changed. include/bittmelon.h declares these functions. Specification, sections 7 and 11.
 mod answers;
 mod shared;
 
@@ -35,7 +35,7 @@ pub struct SharedTold {
     pub count: u32,
 }
 
-// Clause 7.1: the state of a processor: 0 idle, 1 waiting, 2 entitled, 3 holding. Refuses by 11.
+// Clause 7.1: the state of a processor, by its number. Refuses by 11.
 #[no_mangle]
 pub extern "C" fn bittmelon_state_parts(
     processors: u8,
