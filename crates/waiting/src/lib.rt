@@ -42,7 +42,7 @@ fn known_in(rows: &[u64], entry: &[u8; SLOTS]) -> u32
     requires { ⌜ length (now rows) ≡ mostEntries ⌝ }
     ensures { λ r. ⌜ (r ≡ knownIn (now (entry .entry))) × Table (now (rows .entry)) ⌝ }
 {
-    entries_below(rows.len() as u8, *entry)
+    entries_below(ALL, rows.len() as u8, entry)
 }
 
 // The set with the place in it, where the row has the entry. It does not branch: nobody foresees which conflict.
