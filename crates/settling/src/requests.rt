@@ -72,7 +72,7 @@ fn largest(entry: &[u8; SLOTS]) -> u8
 }
 
 // Those among the processors whose requests' entries are below the count. On a board that was made from a plan all are,
-// and a call pays for one comparison.
+// and a call pays for one comparison. The walk is over a mask that is not fixed: compiled, it then stays a short loop.
 pub fn entries_below(among: u32, count: u8, entry: &[u8; SLOTS]) -> u32
     ensures { λ r. ⌜ r ≡ maskOf slots (λ p. bit among p && ltb (getD (now (entry .entry)) p 0) count) ⌝ }
 {
@@ -82,8 +82,8 @@ pub fn entries_below(among: u32, count: u8, entry: &[u8; SLOTS]) -> u32
     each_below(among, count, entry)
 }
 
-// The processors whose requests' entries have a row, which is for every entry below 64. It looks at the largest itself:
-// compiled, the comparison then stands where settling begins.
+// The processors whose requests' entries have a row, which is for every entry below 64. It looks at the largest first,
+// so that a settling with no other entry calls nothing.
 pub fn known_in(rows: &[u64], entry: &[u8; SLOTS]) -> u32
     requires { ⌜ length (now rows) ≡ mostEntries ⌝ }
     ensures { λ r. ⌜ (r ≡ knownIn (now (entry .entry))) × Table (now (rows .entry)) ⌝ }
