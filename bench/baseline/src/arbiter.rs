@@ -87,13 +87,21 @@ impl Iterator for Bits {
     }
 }
 
+/// The first so many places.
+pub fn first(processors: u8) -> u32 {
+    if processors < 32 { (1 << processors) - 1 } else { u32::MAX }
+}
+
+/// Those among the processors whose entries are below the count; the largest is looked at first.
+pub fn below(entry: [u8; SLOTS], count: u8, among: u32) -> u32 {
+    let largest = entry.iter().fold(0, |most, &e| if most < e { e } else { most });
+    if largest < count { among } else { Bits(among).fold(0, |out, p| out | ((entry[p] < count) as u32) << p) }
+}
+
 impl State {
     /// Drops the requests of entries and processors that the plan does not have, and keeps one phase of each processor.
     fn clean(&mut self, board: &Board) {
-        let mut counted = 0u32;
-        for p in 0..SLOTS as u8 {
-            counted |= ((p < board.processors && self.entry[p as usize] < board.count) as u32) << p;
-        }
+        let counted = below(self.entry, board.count, first(board.processors));
         self.holding &= counted;
         self.entitled &= counted & !self.holding;
         self.waiting &= counted & !(self.entitled | self.holding);

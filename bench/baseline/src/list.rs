@@ -1,6 +1,6 @@
 //! The list of the whole board, as the library makes it: on any state value, with what is the same for all processors
 //! worked out once.
-use crate::arbiter::{Bits, Board, State, SLOTS};
+use crate::arbiter::{below, first, Bits, Board, State, SLOTS};
 
 /// The processors of a mask whose entry is in the row; every entry is below 64.
 fn in_row(state: &State, among: u32, row: u64) -> u32 {
@@ -10,16 +10,13 @@ fn in_row(state: &State, among: u32, row: u64) -> u32 {
 /// The phases of the requests that count: waiting, entitled, holding; and the direct waits of every processor.
 #[inline(always)]
 pub fn phases_and_waits(board: &Board, state: &State) -> ([u32; 3], [u32; SLOTS]) {
-    let (mut counted, mut known) = (0u32, 0u32);
-    for p in 0..SLOTS as u8 {
-        counted |= ((p < board.processors && state.entry[p as usize] < board.count) as u32) << p;
-        known |= ((state.entry[p as usize] < 64) as u32) << p;
-    }
+    let counted = below(state.entry, board.count, first(board.processors));
+    let known = below(state.entry, 64, u32::MAX);
     let holding = state.holding & counted;
     let entitled = state.entitled & counted & !holding;
     let waiting = state.waiting & counted & !(entitled | holding);
     let active = waiting | entitled | holding;
-    let w = in_row(state, known, board.writes);
+    let w = in_row(state, active & known, board.writes);
     let r = known & !w;
     let mut waits = [0u32; SLOTS];
     let mut join = |candidates: u32, others: u32, in_line: bool| {

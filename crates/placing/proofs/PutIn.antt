@@ -11,7 +11,7 @@ use lib.Seq.{ext-getD}
 use borrow.Author.Tests.{ne-eqb, ltb-true, ltb-false}
 use Rattle.masks.specs.Sets.{bit, added, maskOf}
 use Rattle.masks.proofs.Places.{bit-or}
-use Rattle.masks.proofs.Tests.{Mask, bit-is, agree-is, same-is, own-is, cut-is, none-is, one-is, any-and, or-is, in-is, neither}
+use Rattle.masks.proofs.Tests.{Mask, bit-is, agree-is, same-is, all-is, own-is, cut-is, none-is, one-is, any-and, or-is, in-is, neither}
 use Rattle.masks.proofs.Walks.{bit-none}
 use Rattle.masks.proofs.Stores.{stored-at}
 use Rattle.plans.specs.Entries.{slots}
@@ -48,6 +48,10 @@ active-is : (ph : Phases) → Mask slots (active ph) (bitAnd (bitOr (bitOr (ph .
 active-is ph =
     agree-is (λ k l. bit-or (bitOr (ph .waiting) (ph .entitled)) (ph .holding) k
     ∙ ap (λ t. t || bit (ph .holding) k) (bit-or (ph .waiting) (ph .entitled) k)) (cut-is slots _)
+
+-- All but a processor that a state has no place for are all.
+pub all-but-none : (p : ℕ) → slots ≤ p → 2 ^ slots - 1 ≡ maskOf slots (others p)
+all-but-none p h = agree-is (λ k l. ap not (sym (ne-eqb k p (λ e. omega (arith, e))))) (all-is slots) .is
 
 module _ (earlier kept : List ℕ) (ph : Phases) (p keep : ℕ) (ek : keep ≡ maskOf slots (others p))
     (et : kept ≡ tabulate slots (λ q. bitAnd (getD earlier q 0) keep)) where

@@ -47,13 +47,16 @@ fn keep_each(sets: &mut [u32; SLOTS], keep: u32)
     }
 }
 
-// All that are active are earlier than the processor's new request, and it is earlier than none.
+// All that are active are earlier than the processor's new request, and it is earlier than none. The test comes first: a
+// call has made it already, and compiled into it this one is gone.
 pub fn put_last(earlier: &mut [u32; SLOTS], phases: Phases, processor: u8)
     ensures { λ r. ⌜ now (earlier .exit) ≡ putLast (now (earlier .entry)) phases processor ⌝ }
 {
-    keep_each(earlier, all_but(processor));
     if (processor as usize) < SLOTS {
+        keep_each(earlier, all_but(processor));
         earlier[processor as usize] = (phases.waiting | phases.entitled | phases.holding) & ALL;
+    } else {
+        keep_each(earlier, ALL);
     }
 }
 

@@ -6,9 +6,7 @@ use Rattle.settling.specs.Requests.{Facts}
 use Rattle.settling.specs.Settling.{step1, step2, step3, step4, settled}
 use Rattle.settling.specs.declared.Phases.{Phases}
 
-abbrev pub Small : Phases → Type 0
-Small ph = (ph .waiting < 2 ^ slots) × (ph .entitled < 2 ^ slots) × (ph .holding < 2 ^ slots)
-
-pub settled-small : (f : Facts) (ph : Phases) → Small (settled f ph)
+pub settled-small : (f : Facts) (ph : Phases)
+    → (settled f ph .waiting < 2 ^ slots) × (settled f ph .entitled < 2 ^ slots) × (settled f ph .holding < 2 ^ slots)
 unfolding step1 step2 step3 step4 settled
 settled-small f ph = (mask-below slots _, mask-below slots _, mask-below slots _)

@@ -6,3 +6,4 @@ pub mod Quiet
 pub mod Idle
 pub mod Bounds
 pub mod AtOnce
+pub mod Below

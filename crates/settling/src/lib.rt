@@ -34,8 +34,6 @@ pub fn settle(
         (factsBy (now (rows .entry)) writes (now (entry .entry)) (now (earlier .entry)))
         phases ⌝ }
 {
-    // First of all: after a branch it would no longer be compiled to one comparison.
-    let known = known_in(rows, entry);
     let waiting = phases.waiting & ALL;
     let entitled = phases.entitled & ALL;
     let holding = phases.holding & ALL;
@@ -46,6 +44,7 @@ pub fn settle(
             holding: holding,
         };
     }
+    let known = known_in(rows, entry);
     four_steps(
         rows,
         writes,

@@ -38,15 +38,16 @@ pub fn row_at(rows: &[u64; ENTRIES], entry: &[u8; SLOTS], p: u32) -> u64
 
 // ---- reads and writes
 
-// The processors whose requests' entries are below the count, one after the other.
-fn each_below(count: u8, entry: [u8; SLOTS]) -> u32
-    ensures { λ r. ⌜ r ≡ maskOf slots (λ p. ltb (getD entry p 0) count) ⌝ }
+// Those among the processors whose requests' entries are below the count, one after the other.
+fn each_below(among: u32, count: u8, entry: &[u8; SLOTS]) -> u32
+    ensures { λ r. ⌜ r ≡ maskOf slots (λ p. bit among p && ltb (getD (now (entry .entry)) p 0) count) ⌝ }
 {
     let mut out: u32 = 0;
-    let mut p: u32 = 0;
-    while p < SLOTS as u32 {
+    let mut left = among & ALL;
+    while left != 0 {
+        let p = u32::trailing_zeros(left);
         out = add_if(out, p, entry[p as usize] < count);
-        p += 1;
+        left = left & (left - 1);
     }
     out
 }
@@ -58,8 +59,8 @@ fn larger(a: u8, b: u8) -> u8
 }
 
 // No request's entry is above it. Nothing else in the loop: compiled, it compares 16 of them at once.
-fn largest(entry: [u8; SLOTS]) -> u8
-    ensures { λ r. ⌜ ((p : ℕ) → p < slots → getD entry p 0 ≤ r) ⌝ }
+fn largest(entry: &[u8; SLOTS]) -> u8
+    ensures { λ r. ⌜ ((p : ℕ) → p < slots → getD (now (entry .entry)) p 0 ≤ r) ⌝ }
 {
     let mut most: u8 = 0;
     let mut p: usize = 0;
@@ -70,23 +71,28 @@ fn largest(entry: [u8; SLOTS]) -> u8
     most
 }
 
-// The processors whose requests' entries are below the count. On a board that was made from a plan all are, and a call
-// pays for one comparison.
-pub fn entries_below(count: u8, entry: [u8; SLOTS]) -> u32
-    ensures { λ r. ⌜ r ≡ maskOf slots (λ p. ltb (getD entry p 0) count) ⌝ }
+// Those among the processors whose requests' entries are below the count. On a board that was made from a plan all are,
+// and a call pays for one comparison. The walk is over a mask that is not fixed: compiled, it then stays a short loop.
+pub fn entries_below(among: u32, count: u8, entry: &[u8; SLOTS]) -> u32
+    ensures { λ r. ⌜ r ≡ maskOf slots (λ p. bit among p && ltb (getD (now (entry .entry)) p 0) count) ⌝ }
 {
     if largest(entry) < count {
-        return ALL;
+        return among & ALL;
     }
-    each_below(count, entry)
+    each_below(among, count, entry)
 }
 
-// The processors whose requests' entries have a row, which is for every entry below 64.
+// The processors whose requests' entries have a row, which is for every entry below 64. It looks at the largest first,
+// so that a settling with no other entry calls nothing.
 pub fn known_in(rows: &[u64], entry: &[u8; SLOTS]) -> u32
     requires { ⌜ length (now rows) ≡ mostEntries ⌝ }
     ensures { λ r. ⌜ (r ≡ knownIn (now (entry .entry))) × Table (now (rows .entry)) ⌝ }
 {
-    entries_below(rows.len() as u8, *entry)
+    let entries = rows.len() as u8;
+    if largest(entry) < entries {
+        return ALL;
+    }
+    entries_below(ALL, entries, entry)
 }
 
 // 1 where the entry is in the set, else 0.

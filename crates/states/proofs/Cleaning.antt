@@ -11,7 +11,7 @@ use borrow.Author.Tests.{lt-ltb}
 use Rattle.masks.specs.Sets.{bit, without, maskOf}
 use Rattle.masks.proofs.Places.{bit-or, bit-without, or-below}
 use Rattle.masks.proofs.Masks.{mask-below}
-use Rattle.masks.proofs.Tests.{Mask, agree-is, first-is, and-is, and-any}
+use Rattle.masks.proofs.Tests.{Mask, bit-is, agree-is, first-is, and-any}
 use Rattle.plans.specs.Entries.{slots}
 use Rattle.settling.specs.declared.Phases.{Phases}
 use Rattle.states.specs.declared.Terms.{Terms}
@@ -25,29 +25,30 @@ processors-are terms n h same =
     agree-is (λ k l. same k l ∙ ap (λ t. t && ltb k (terms .processors)) (sym (lt-ltb k slots l))) (first-is slots n h) .is
 
 module _ (terms : Terms) (entry : List ℕ) (ph : Phases) where
-  pub cleaned-masks : ph .waiting < 2 ^ 32 → ph .entitled < 2 ^ 32 → ph .holding < 2 ^ 32 → (first below waiting entitled : ℕ)
-      → first ≡ maskOf slots (hasProcessor terms) → below ≡ maskOf slots (λ p. ltb (getD entry p 0) (terms .count))
+  pub cleaned-masks : ph .waiting < 2 ^ 32 → ph .entitled < 2 ^ 32 → ph .holding < 2 ^ 32 → (first among waiting entitled : ℕ)
+      → first ≡ maskOf slots (hasProcessor terms) → among ≡ maskOf slots (λ p. bit first p && ltb (getD entry p 0) (terms .count))
       → waiting ≡ without 32 (ph .waiting) (bitOr (ph .entitled) (ph .holding)) → entitled ≡ without 32 (ph .entitled) (ph .holding)
       → _≡_ {A = Phases}
-      (record { waiting = bitAnd (bitAnd first below) waiting; entitled = bitAnd (bitAnd first below) entitled; holding = bitAnd (bitAnd first below) (ph .holding) })
+      (record { waiting = bitAnd among waiting; entitled = bitAnd among entitled; holding = bitAnd among (ph .holding) })
       (cleaned terms entry ph)
   unfolding isWaiting isEntitled isHolding cleaned
-  cleaned-masks hw he hh first below waiting entitled ef eb ew ee =
+  cleaned-masks hw he hh first among waiting entitled ef ea ew ee =
       λ i. record { waiting = w .is i; entitled = e .is i; holding = and-any counted (ph .holding) .is i }
     where
-      counted : Mask slots (inPlan terms entry) (bitAnd first below)
-      counted = and-is (record { is = ef }) (record { is = eb })
+      counted : Mask slots (inPlan terms entry) among
+      counted =
+          agree-is (λ k l. ap (λ t. t && ltb (getD entry k 0) (terms .count)) (bit-is (record { is = ef }) k l)) (record { is = ea })
 
-      kept : (n : ℕ) (Q : ℕ → Bool) → ((k : ℕ) → bit n k ≡ Q k) → Mask slots (λ k. inPlan terms entry k && Q k) (bitAnd (bitAnd first below) n)
+      kept : (n : ℕ) (Q : ℕ → Bool) → ((k : ℕ) → bit n k ≡ Q k) → Mask slots (λ k. inPlan terms entry k && Q k) (bitAnd among n)
       kept n Q same = agree-is (λ k l. ap (λ t. inPlan terms entry k && t) (same k)) (and-any counted n)
 
-      w : Mask slots (isWaiting terms entry ph) (bitAnd (bitAnd first below) waiting)
+      w : Mask slots (isWaiting terms entry ph) (bitAnd among waiting)
       w =
           kept waiting _
           (λ k. ap (λ (x : ℕ). bit x k) ew ∙ bit-without 32 (ph .waiting) (bitOr (ph .entitled) (ph .holding)) k hw (or-below 32 (ph .entitled) (ph .holding) he hh)
           ∙ ap (λ t. bit (ph .waiting) k && not t) (bit-or (ph .entitled) (ph .holding) k))
 
-      e : Mask slots (isEntitled terms entry ph) (bitAnd (bitAnd first below) entitled)
+      e : Mask slots (isEntitled terms entry ph) (bitAnd among entitled)
       e = kept entitled _ (λ k. ap (λ (x : ℕ). bit x k) ee ∙ bit-without 32 (ph .entitled) (ph .holding) k he hh)
 
   pub cleaned-small : Small (cleaned terms entry ph)

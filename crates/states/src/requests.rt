@@ -22,7 +22,7 @@ fn processors_of(terms: Terms) -> u32
 pub fn clean(terms: Terms, entry: [u8; SLOTS], phases: Phases) -> Phases
     ensures { λ r. ⌜ r ≡ cleaned terms entry phases ⌝ }
 {
-    let counted = processors_of(terms) & entries_below(terms.count, entry);
+    let counted = entries_below(processors_of(terms), terms.count, &entry);
     Phases {
         waiting: counted & without32(phases.waiting, phases.entitled | phases.holding),
         entitled: counted & without32(phases.entitled, phases.holding),

@@ -12,9 +12,10 @@ use Rattle.masks.proofs.Places.{bit-past, bit-zero, bit-and, bit-or, bit-or-if,
 use Rattle.masks.proofs.Masks.{bit-mask-at, mask-agree}
 use Rattle.plans.specs.Entries.{slots, mostEntries}
 use Rattle.settling.specs.declared.Phases.{Phases}
-use Rattle.settling.specs.Requests.{Facts, active, isEarlier, isWriter, entryOf, conflicts, holdingRead, holdingWrite, entitledRead, entitledWrite, waitingRead, waitingWrite}
+use Rattle.settling.specs.Requests.{Facts, active, isEarlier, isWriter, entryOf, conflicts}
 use Rattle.settling.specs.inner.Moves.{Table, knownIn}
-use Rattle.settling.proofs.Known.{unknown-read, unknown-row}
+use Rattle.settling.proofs.Active.{waiting-active, entitled-active, holding-active, within-and, within-not}
+use Rattle.settling.proofs.Known.{known-writers, unknown-row}
 use Rattle.waiting.specs.Waits.{waitsIn}
 use Rattle.waiting.specs.inner.Facing.{facing}
 
@@ -70,28 +71,49 @@ each-way : (a x b y c z d u k : Bool)
 each-way a x b y c z d u true = simp and-true
 each-way a x b y c z d u false = simp and-false
 
--- The known processors, and those of them whose requests are writes.
-pub record Sides (f : Facts) (known writers : ℕ) : Type 0 where
+-- Of the writers just the active ones are looked for. Each is asked for beside its phase, so that it is the same.
+pub active-sides : (ep wp ap eq hq aq Wp Wq before k : Bool) → (ep ≡ true → ap ≡ true) → (wp ≡ true → ap ≡ true)
+    → (eq ≡ true → aq ≡ true) → (hq ≡ true → aq ≡ true)
+    → (ep && not (ap && Wp) && (hq && (aq && Wq) && k) || (wp && not (ap && Wp) && (eq && (aq && Wq) && k)
+    || (ep && (ap && Wp) && (hq && not (aq && Wq) && k) || wp && (ap && Wp) && (before && (aq && (aq && Wq)) && k))))
+    ≡ (ep && not Wp && (hq && Wq && k) || (wp && not Wp && (eq && Wq && k) || (ep && Wp && (hq && not Wq && k) || wp && Wp && (before && (aq && Wq) && k))))
+active-sides ep wp ap eq hq aq Wp Wq before k e w f h =
+    rw (
+      within-not ep ap Wp e,
+      within-not wp ap Wp w,
+      within-and ep ap Wp e,
+      within-and wp ap Wp w,
+      within-and hq aq Wq h,
+      within-not hq aq Wq h,
+      within-and eq aq Wq f,
+      within-and aq aq Wq (λ i. i),
+    )
+
+abbrev pub activeOf : Phases → ℕ
+activeOf ph = bitOr (bitOr (ph .waiting) (ph .entitled)) (ph .holding)
+
+pub bit-active : (ph : Phases) (q : ℕ) → bit (activeOf ph) q ≡ active ph q
+bit-active ph q = bit-or _ (ph .holding) q ∙ ap (λ t. t || bit (ph .holding) q) (bit-or (ph .waiting) (ph .entitled) q)
+
+-- The known processors, and those of them that are active and whose requests are writes.
+pub record Sides (f : Facts) (ph : Phases) (known writers : ℕ) : Type 0 where
   pub table : Table (f .rows)
   pub words : f .writes < 2 ^ mostEntries
   pub all : known ≡ knownIn (f .entry)
-  pub write : writers ≡ maskOf slots (λ q. bit known q && isWriter f q)
+  pub write : writers ≡ maskOf slots (λ q. bit (bitAnd (activeOf ph) known) q && isWriter f q)
 
 abbrev hasRow : Facts → ℕ → Bool
 hasRow f p = ltb (entryOf f p) mostEntries
 
-module _ (f : Facts) (ph : Phases) (known writers : ℕ) (sides : Sides f known writers) where
+module _ (f : Facts) (ph : Phases) (known writers : ℕ) (sides : Sides f ph known writers) where
   is-known : (k : ℕ) → k < slots → bit known k ≡ hasRow f k
   is-known k l = ap (λ (x : ℕ). bit x k) (sides .all) ∙ bit-mask-at slots (hasRow f) k l
 
-  pub is-writer : (k : ℕ) → k < slots → bit writers k ≡ isWriter f k
+  pub is-writer : (k : ℕ) → k < slots → bit writers k ≡ (active ph k && isWriter f k)
   is-writer k l =
-      ap (λ (x : ℕ). bit x k) (sides .write) ∙ bit-mask-at slots (λ q. bit known q && isWriter f q) k l
-      ∙ ap (λ t. t && isWriter f k) (is-known k l) ∙ at (hasRow f k) refl
-    where
-      at : (t : Bool) → hasRow f k ≡ t → (t && isWriter f k) ≡ isWriter f k
-      at true e = refl
-      at false e = sym (unknown-read f (sides .words) k e)
+      ap (λ (x : ℕ). bit x k) (sides .write ∙ known-writers f (sides .words) (activeOf ph) (sides .all))
+      ∙ bit-mask-at slots (λ q. bit (activeOf ph) q && isWriter f q) k l
+      ∙ ap (λ t. t && isWriter f k) (bit-active ph k)
 
   -- A request whose entry has no row conflicts with none, either way.
   pub unknown-against-none : (p q : ℕ) → p < slots → bit known p ≡ false → conflicts f p q ≡ false
@@ -117,8 +139,13 @@ module _ (f : Facts) (ph : Phases) (known writers : ℕ) (sides : Sides f known 
   unfolding facing waitsIn
   faced-waits p q below l =
       rw (is-writer p below, is-writer q l)
-      (each-way (entitledRead f ph p) (holdingWrite f ph q) (waitingRead f ph p) (entitledWrite f ph q) (entitledWrite f ph p) (holdingRead f ph q)
-      (waitingWrite f ph p) (isEarlier f q p && (active ph q && isWriter f q)) (conflicts f p q))
+      (each-way (bit (ph .entitled) p && not (active ph p && isWriter f p)) (bit (ph .holding) q && (active ph q && isWriter f q))
+      (bit (ph .waiting) p && not (active ph p && isWriter f p)) (bit (ph .entitled) q && (active ph q && isWriter f q))
+      (bit (ph .entitled) p && (active ph p && isWriter f p)) (bit (ph .holding) q && not (active ph q && isWriter f q))
+      (bit (ph .waiting) p && (active ph p && isWriter f p)) (isEarlier f q p && (active ph q && (active ph q && isWriter f q))) (conflicts f p q)
+      ∙ active-sides (bit (ph .entitled) p) (bit (ph .waiting) p) (active ph p) (bit (ph .entitled) q) (bit (ph .holding) q) (active ph q)
+      (isWriter f p) (isWriter f q) (isEarlier f q p) (conflicts f p q) (entitled-active ph p) (waiting-active ph p) (entitled-active ph q)
+      (holding-active ph q))
 
   pub waits-mask : (p others row r : ℕ) → p < slots → ((q : ℕ) → bit others q ≡ facing ph writers (getD (f .earlier) p 0) p q)
       → row ≡ getD (f .rows) (entryOf f p) 0 → r ≡ maskOf slots (λ q. bit (bitAnd others known) q && bit row (entryOf f q))

@@ -23,11 +23,12 @@ use Rattle.conflicts.proofs.Tabulate.{length-tabulate, getD-tabulate}
 use Rattle.settling.specs.declared.Phases.{Phases}
 use Rattle.settling.specs.Requests.{Facts, active, isEarlier, isWriter, conflicts}
 use Rattle.settling.specs.inner.Moves.{knownIn, Known}
+use Rattle.settling.proofs.Active.{waiting-active, entitled-active, holding-active}
 use Rattle.settling.proofs.FourSteps.{fit}
 use Rattle.settling.proofs.Known.{known-all, known-and, and-known, known-kept}
 use Rattle.waiting.specs.Waits.{waitsIn}
 use Rattle.waiting.specs.inner.Facing.{Joined}
-use Rattle.waiting.proofs.Facing.{Sides, left-to-right, is-writer, unknown-against-none, none-against-unknown}
+use Rattle.waiting.proofs.Facing.{Sides, activeOf, bit-active, active-sides, left-to-right, is-writer, unknown-against-none, none-against-unknown}
 
 -- ---- one walk
 
@@ -118,9 +119,10 @@ four-ways ep wp true Wp eq hq aq true Wq before true h g =
     (left-to-right (ep && not Wp && (hq && Wq)) (wp && not Wp && (eq && Wq)) (ep && Wp && (hq && not Wq)) (wp && Wp && (before && (aq && Wq))))
 
 -- The candidates and the others of each walk are known processors: the writes among them and the reads.
-module _ (entry : List ℕ) (known : ℕ) (test : ℕ → Bool) (w : ℕ) (all : known ≡ knownIn entry) (are : w ≡ maskOf slots (λ q. bit known q && test q)) where
+module _ (entry : List ℕ) (known among : ℕ) (test : ℕ → Bool) (w : ℕ) (all : known ≡ knownIn entry)
+    (are : w ≡ maskOf slots (λ q. bit (bitAnd among known) q && test q)) where
   writes-known : Known entry w
-  writes-known = known-kept test (known-all all) are
+  writes-known = known-kept test (and-known among (known-all all)) are
 
   reads-known : Known entry (without 32 known w)
   reads-known = known-and _ (known-all all)
@@ -146,7 +148,7 @@ is-tabulate n f xs full same =
     ext-getD 0 xs (tabulate n f) (full ∙ sym (length-tabulate n f))
     (λ k l. let here : k < n = omega (arith, full) in same k here ∙ sym (getD-tabulate n f k 0 here))
 
-module _ (f : Facts) (ph : Phases) (known w : ℕ) (sides : Sides f known w)
+module _ (f : Facts) (ph : Phases) (known w : ℕ) (sides : Sides f ph known w)
     (all none first second third out : List ℕ) (ones : (p : ℕ) → p < slots → getD all p 0 ≡ 2 ^ slots - 1)
     (zeros : (p : ℕ) → getD none p 0 ≡ 0) where
   abbrev r : ℕ
@@ -158,16 +160,10 @@ module _ (f : Facts) (ph : Phases) (known w : ℕ) (sides : Sides f known w)
   hw : w < 2 ^ 32
   hw = rw (sides .write) (mask-below-width 32 slots _ fit)
 
-  abbrev act : ℕ
-  act = bitOr (bitOr (ph .waiting) (ph .entitled)) (ph .holding)
-
   module _ (one : Joined (f .rows) (f .entry) all (bitAnd (ph .entitled) r) (bitAnd (ph .holding) w) none first)
       (two : Joined (f .rows) (f .entry) all (bitAnd (ph .waiting) r) (bitAnd (ph .entitled) w) first second)
       (three : Joined (f .rows) (f .entry) all (bitAnd (ph .entitled) w) (bitAnd (ph .holding) r) second third)
-      (four : Joined (f .rows) (f .entry) (f .earlier) (bitAnd (ph .waiting) w) (bitAnd act w) third out) where
-    bit-act : (q : ℕ) → bit act q ≡ active ph q
-    bit-act q = bit-or _ (ph .holding) q ∙ ap (λ t. t || bit (ph .holding) q) (bit-or (ph .waiting) (ph .entitled) q)
-
+      (four : Joined (f .rows) (f .entry) (f .earlier) (bitAnd (ph .waiting) w) (bitAnd (activeOf ph) w) third out) where
     bit-one : (p q : ℕ) → p < slots → q < slots → bit (getD all p 0) q ≡ true
     bit-one p q l m = ap (λ (x : ℕ). bit x q) (ones p l) ∙ bit-ones slots q ∙ lt-ltb q slots m
 
@@ -191,16 +187,19 @@ module _ (f : Facts) (ph : Phases) (known w : ℕ) (sides : Sides f known w)
           bit-and (ph .entitled) w p,
           bit-and (ph .holding) r q,
           bit-and (ph .waiting) w p,
-          bit-and act w q,
-          bit-act q,
+          bit-and (activeOf ph) w q,
+          bit-active ph q,
           bit-without 32 known w p hk hw,
           bit-without 32 known w q hk hw,
           wp,
           wq,
         )
-        (four-ways (bit (ph .entitled) p) (bit (ph .waiting) p) (bit known p) (isWriter f p) (bit (ph .entitled) q) (bit (ph .holding) q) (active ph q)
-        (bit known q) (isWriter f q) (isEarlier f q p) (conflicts f p q)
-        (unknown-against-none f ph known w sides p q l) (none-against-unknown f ph known w sides p q m))
+        (four-ways (bit (ph .entitled) p) (bit (ph .waiting) p) (bit known p) (active ph p && isWriter f p) (bit (ph .entitled) q) (bit (ph .holding) q)
+        (active ph q) (bit known q) (active ph q && isWriter f q) (isEarlier f q p) (conflicts f p q)
+        (unknown-against-none f ph known w sides p q l) (none-against-unknown f ph known w sides p q m)
+        ∙ active-sides (bit (ph .entitled) p) (bit (ph .waiting) p) (active ph p) (bit (ph .entitled) q) (bit (ph .holding) q) (active ph q)
+        (isWriter f p) (isWriter f q) (isEarlier f q p) (conflicts f p q) (entitled-active ph p) (waiting-active ph p) (entitled-active ph q)
+        (holding-active ph q))
 
     pub waits-of-all : out ≡ tabulate slots (λ p. maskOf slots (waitsIn f ph p))
     waits-of-all =

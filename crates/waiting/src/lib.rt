@@ -42,7 +42,7 @@ fn known_in(rows: &[u64], entry: &[u8; SLOTS]) -> u32
     requires { ⌜ length (now rows) ≡ mostEntries ⌝ }
     ensures { λ r. ⌜ (r ≡ knownIn (now (entry .entry))) × Table (now (rows .entry)) ⌝ }
 {
-    entries_below(rows.len() as u8, *entry)
+    entries_below(ALL, rows.len() as u8, entry)
 }
 
 // The set with the place in it, where the row has the entry. It does not branch: nobody foresees which conflict.
@@ -101,7 +101,8 @@ pub fn waits_of(
         return 0;
     }
     let known = known_in(rows, entry);
-    let writers = those_in_row(known, writes, entry);
+    let active = (phases.waiting | phases.entitled | phases.holding) & known;
+    let writers = those_in_row(active, writes, entry);
     let others = facing_of(phases, writers, earlier[p as usize], p);
     let row = row_at(rows, wide(entry[p as usize]));
     those_in_row(others & known, row, entry)
@@ -143,12 +144,12 @@ pub fn waits_of_all(
         (waitsIn (factsBy (now (rows .entry)) writes (now (entry .entry)) (now (earlier .entry))) phases p)) ⌝ }
 {
     let known = known_in(rows, entry);
-    let w = those_in_row(known, writes, entry);
-    let r = known & !w;
     let waiting = phases.waiting;
     let entitled = phases.entitled;
     let holding = phases.holding;
     let active = waiting | entitled | holding;
+    let w = those_in_row(active & known, writes, entry);
+    let r = known & !w;
     let all = [ALL; SLOTS];
     let none = [0; SLOTS];
     let first = join_waits(rows, entry, &all, entitled & r, holding & w, none);

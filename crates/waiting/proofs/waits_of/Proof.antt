@@ -7,7 +7,7 @@ use borrow.Author.Tests.{lt-ltb, le-ltb}
 use Rattle.plans.specs.Entries.{slots}
 use Rattle.settling.specs.Requests.{factsBy}
 use Rattle.settling.proofs.Known.{known-all, and-known}
-use Rattle.waiting.proofs.Facing.{waits-mask}
+use Rattle.waiting.proofs.Facing.{activeOf, waits-mask}
 use borrow.Author.Needs.{needs}
 use Rattle.waiting.proofs.waits_of.Statement.{statement}
 use Rattle.waiting.proofs.waits_of.Tie as tie
@@ -17,7 +17,7 @@ returns c = rw (le-ltb (c .before .args .p) slots (c .if1 .taken))
 
 those-in-row-requires-2 : tie.Need-those-in-row-requires-2
 those-in-row-requires-2 c κs =
-    let found = c .before .before .before .before .before .before .before in
+    let found = c .before .before .before .before .before .before .before .before .before in
     and-known {entry = found .before .before .before .args .entry .now} (c .before .before .before .before .facing-of .result) (known-all (found .known-in .ensures .0))
 
 returns-2 : tie.Need-returns-2
@@ -25,13 +25,14 @@ returns-2 c =
     let looked = c .before in
     let faced = looked .before .before .before .before in
     let found = faced .before .before in
-    let known = found .before .known-in .ensures in
-    let start = found .before .before .before .before in
+    let known = found .before .before .before .known-in .ensures in
+    let tested = found .before .before .before .before .before in
+    let start = tested .before in
     let a = start .args in
     let f = factsBy (a .rows .now) (a .writes) (a .entry .now) (a .earlier .now) in
-    rw (lt-ltb (a .p) slots (omega arith))
+    rw (lt-ltb (a .p) slots (omega (arith, tested .if1 .left)))
     (waits-mask f (a .phases) _ _ (record { table = known .1; words = omega (arith, start .fits); all = known .0; write = found .those-in-row .ensures })
-    (a .p) _ _ _ (omega arith) (faced .facing-of .ensures)
+    (a .p) _ _ _ (omega (arith, tested .if1 .left)) (faced .facing-of .ensures)
     (looked .row-at .ensures ∙ ap (λ (e : ℕ). getD (a .rows .now) e 0) (looked .before .wide .ensures))
     (c .those-in-row2 .ensures))
 
@@ -41,7 +42,7 @@ waits-of-spec =
     (tie.spec
     returns
     (λ c κs. search needs)
-    (λ c κs. known-all (c .known-in .ensures .0))
+    (λ c κs. and-known (activeOf (c .before .before .before .before .before .args .phases)) (known-all (c .before .before .known-in .ensures .0)))
     (λ c. search needs)
     (λ c. search needs)
     (λ c κs. search needs)

@@ -1,10 +1,10 @@
 -- `waits_of_all` meets its contract: the four cases of the direct waits, one after the other. Assumes nothing.
 use native.Mathlib.Omega.{arith}
-use lib.Bits.{bitOr}
 use lib.ListN.{getD-replicate}
 use Rattle.plans.specs.Entries.{slots}
 use Rattle.settling.specs.Requests.{factsBy}
-use Rattle.settling.proofs.Known.{known-all}
+use Rattle.settling.proofs.Known.{known-all, and-known}
+use Rattle.waiting.proofs.Facing.{activeOf}
 use Rattle.waiting.proofs.Joins.{reads-writes, writes-reads, writes-writes, getD-zeros, waits-of-all}
 use borrow.Author.Needs.{needs}
 use Rattle.waiting.proofs.waits_of_all.Statement.{statement}
@@ -14,25 +14,25 @@ join-waits-requires : tie.Need-join-waits-requires
 join-waits-requires c κs =
     let found = c .before in
     let ph = found .before .before .before .args .phases in
-    reads-writes (found .before .before .before .args .entry .now) _ _ _ (found .before .known-in .ensures .0) (found .those-in-row .ensures) (ph .entitled) (ph .holding)
+    reads-writes (found .before .before .before .args .entry .now) _ (activeOf ph) _ _ (found .before .known-in .ensures .0) (found .those-in-row .ensures) (ph .entitled) (ph .holding)
 
 join-waits-requires-2 : tie.Need-join-waits-requires-2
 join-waits-requires-2 c κs =
     let found = c .before .before .before in
     let ph = found .before .before .before .args .phases in
-    reads-writes (found .before .before .before .args .entry .now) _ _ _ (found .before .known-in .ensures .0) (found .those-in-row .ensures) (ph .waiting) (ph .entitled)
+    reads-writes (found .before .before .before .args .entry .now) _ (activeOf ph) _ _ (found .before .known-in .ensures .0) (found .those-in-row .ensures) (ph .waiting) (ph .entitled)
 
 join-waits-requires-3 : tie.Need-join-waits-requires-3
 join-waits-requires-3 c κs =
     let found = c .before .before .before .before .before in
     let ph = found .before .before .before .args .phases in
-    writes-reads (found .before .before .before .args .entry .now) _ _ _ (found .before .known-in .ensures .0) (found .those-in-row .ensures) (ph .entitled) (ph .holding)
+    writes-reads (found .before .before .before .args .entry .now) _ (activeOf ph) _ _ (found .before .known-in .ensures .0) (found .those-in-row .ensures) (ph .entitled) (ph .holding)
 
 join-waits-requires-4 : tie.Need-join-waits-requires-4
 join-waits-requires-4 c κs =
     let found = c .before .before .before .before .before .before in
     let ph = found .before .before .before .args .phases in
-    writes-writes (found .before .before .before .args .entry .now) _ _ _ (found .before .known-in .ensures .0) (found .those-in-row .ensures) (ph .waiting) (bitOr (bitOr (ph .waiting) (ph .entitled)) (ph .holding))
+    writes-writes (found .before .before .before .args .entry .now) _ (activeOf ph) _ _ (found .before .known-in .ensures .0) (found .those-in-row .ensures) (ph .waiting) (activeOf ph)
 
 returns : tie.Need-returns
 returns c =
@@ -52,7 +52,7 @@ waits-of-all-spec =
     tie.close
     (tie.spec
     (λ c κs. search needs)
-    (λ c κs. known-all (c .known-in .ensures .0))
+    (λ c κs. and-known (activeOf (c .before .before .args .phases)) (known-all (c .known-in .ensures .0)))
     join-waits-requires
     join-waits-requires-2
     join-waits-requires-3

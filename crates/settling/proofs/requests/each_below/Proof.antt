@@ -1,37 +1,40 @@
--- `each_below` meets its contract. The loop's invariant: the processors passed whose entries are below the count.
--- Assumes nothing.
-use mathlib.Core.Path.{_≡_, refl}
-use Prim.Native.Nat.{_≤_, _-_}
+-- `each_below` meets its contract, by the walk that keeps those whose entries are below the count. Assumes nothing.
 use native.Mathlib.Omega.{arith}
 use lib.Dec.{ltb}
 use lib.ListN.{getD}
-use borrow.Author.Needs.{needs}
-use Rattle.masks.specs.Sets.{maskOf}
-use Rattle.masks.proofs.Masks.{mask-more-added}
+use Rattle.masks.proofs.Lowest.{rest-less}
+use Rattle.masks.proofs.Walks.{Kept, kept-more, kept-last, lowest-place}
 use Rattle.plans.specs.Entries.{slots}
+use Rattle.settling.proofs.Below.{kept-cut}
 use Rattle.settling.proofs.requests.each_below.Statement.{statement}
 use Rattle.settling.proofs.requests.each_below.Tie as tie
 
 abbrev Inv-loop : tie.InvT-loop
-Inv-loop count entry out₀ p₀ out p = (p ≤ slots) × (out ≡ maskOf p (λ q. ltb (getD entry q 0) count))
+Inv-loop among count entry out₀ left₀ out left = Kept slots 32 (λ p. ltb (getD entry p 0) count) among left out
 
 abbrev μ-loop : tie.MeasureT-loop
-μ-loop count entry out₀ p₀ out p = slots - p
+μ-loop among count entry out₀ left₀ out left = left
 
 loop-holds : tie.Need-loop-holds Inv-loop μ-loop
-unfolding maskOf
-loop-holds c = (omega arith, refl)
+loop-holds c = kept-cut _ _
+
+cast-add-if : tie.Need-cast-add-if Inv-loop μ-loop
+cast-add-if c = omega (arith, lowest-place (c .before .loop .inv .walk) (omega arith))
+
+element-copy-out-add-if : tie.Need-element-copy-out-add-if Inv-loop μ-loop
+element-copy-out-add-if c = omega (arith, lowest-place (c .before .loop .inv .walk) (omega arith))
+
+add-if-requires : tie.Need-add-if-requires Inv-loop μ-loop
+add-if-requires c κs = omega (arith, lowest-place (c .before .before .loop .inv .walk) (omega arith))
 
 loop-again : tie.Need-loop-again Inv-loop μ-loop
-loop-again c = (omega arith, rw (c .add-if .ensures, c .before .before .loop .inv .1, mask-more-added))
+loop-again c = kept-more _ (omega arith) (c .before .before .before .loop .inv) (c .add-if .ensures)
 
 returns : tie.Need-returns Inv-loop μ-loop
-returns c =
-    let last : c .before .loop .p ≡ slots = omega arith in
-    rw (← last) (c .before .loop .inv .1)
+returns c = kept-last (c .loop-test .left) (c .before .loop .inv)
 
 pub each-below-spec : {M : Type 1} → statement M
 each-below-spec =
     tie.close
-    (tie.spec Inv-loop μ-loop loop-holds (λ c. search needs) (λ c. search needs) (λ c. search needs) (λ c κs. omega arith)
-    (λ c. omega arith) (λ c. omega arith) loop-again returns)
+    (tie.spec Inv-loop μ-loop loop-holds cast-add-if element-copy-out-add-if add-if-requires (λ c. omega arith)
+    (λ c. rest-less _ (omega arith)) loop-again returns)

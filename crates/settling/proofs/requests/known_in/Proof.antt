@@ -6,17 +6,31 @@ use lib.Dec.{ltb}
 use lib.ListN.{getD}
 use borrow.Author.Needs.{needs}
 use Rattle.masks.specs.Sets.{maskOf}
-use Rattle.plans.specs.Entries.{slots}
+use Rattle.plans.specs.Entries.{slots, mostEntries}
+use Rattle.settling.proofs.Below.{all-below, of-all}
 use Rattle.settling.proofs.requests.known_in.Statement.{statement}
 use Rattle.settling.proofs.requests.known_in.Tie as tie
 
 returns : tie.Need-returns
 returns c =
-    let known = c .before .before in
-    let a = known .before .args in (
-      c .entries-below .ensures ∙ ap (λ (n : ℕ). maskOf slots (λ p. ltb (getD (a .entry .now) p 0) n)) (known .before .pre),
-      record { count = known .before .pre; places = λ e. known .shared-slice-known .given e .fits },
+    let slice = c .before .before in
+    let start = slice .before in (
+      all-below (λ k. getD (start .args .entry .now) k 0) _ mostEntries (c .before .largest .ensures)
+          (omega (arith, c .if1 .taken, start .pre)),
+      record { count = start .pre; places = λ e. slice .shared-slice-known .given e .fits },
+    )
+
+returns-2 : tie.Need-returns-2
+returns-2 c =
+    let slice = c .before .before .before in
+    let start = slice .before in (
+      c .entries-below .ensures
+          ∙ of-all _
+          ∙ ap (λ (n : ℕ). maskOf slots (λ p. ltb (getD (start .args .entry .now) p 0) n)) (start .pre),
+      record { count = start .pre; places = λ e. slice .shared-slice-known .given e .fits },
     )
 
 pub known-in-spec : {M : Type 1} → statement M
-known-in-spec = tie.close (tie.spec (λ c. omega (arith, c .before .pre)) (λ c κs. search needs) returns)
+known-in-spec =
+    tie.close
+    (tie.spec (λ c. omega (arith, c .before .pre)) (λ c κs. search needs) returns (λ c κs. search needs) returns-2)

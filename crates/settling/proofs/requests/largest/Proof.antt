@@ -33,7 +33,7 @@ loop-holds c = (omega arith, λ k l. absurd (omega arith))
 loop-again : tie.Need-loop-again Inv-loop μ-loop
 loop-again c = (
   omega arith,
-  bounds-more _ _ _ _ (c .before .before .loop .inv .1) (c .larger .ensures .0) (c .larger .ensures .1),
+  bounds-more _ _ _ _ (c .before .before .before .loop .inv .1) (c .larger .ensures .0) (c .larger .ensures .1),
 )
 
 returns : tie.Need-returns Inv-loop μ-loop

@@ -7,9 +7,9 @@ use Rattle.states.proofs.requests.clean.Tie as tie
 returns : tie.Need-returns
 returns c =
     let below = c .before .before .before .before in
-    let a = below .before .before .args in
-    cleaned-masks (a .terms) (a .entry) (a .phases) (search needs) (search needs) (search needs) _ _ _ _
-    (below .before .processors-of .ensures) (below .entries-below .ensures) (c .before .before .without32 .ensures) (c .before .without322 .ensures)
+    let a = below .before .before .before .args in
+    cleaned-masks (a .terms) _ (a .phases) (search needs) (search needs) (search needs) _ _ _ _
+    (below .before .before .processors-of .ensures) (below .entries-below .ensures) (c .before .before .without32 .ensures) (c .before .without322 .ensures)
 
 pub clean-spec : {M : Type 1} → statement M
 clean-spec =
