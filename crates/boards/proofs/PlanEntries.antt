@@ -16,7 +16,7 @@ use Rattle.conflicts.specs.declared.Conflicts.{Conflicts}
 use Rattle.conflicts.specs.Conflict.{conflictsOf}
 use Rattle.conflicts.proofs.Widening.{entry-at}
 use Rattle.states.specs.declared.Board.{Board}
-use Rattle.arbiter.specs.Fresh.{boardOf}
+use Rattle.boards.specs.Fresh.{boardOf}
 
 -- Which counted entries are writes.
 abbrev pub writesIn : Plan → ℕ → Bool

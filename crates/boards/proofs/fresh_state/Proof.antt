@@ -1,7 +1,7 @@
 -- `fresh_state` meets its contract: the fields as they stand. Assumes nothing.
 use mathlib.Core.Path.{refl}
-use Rattle.arbiter.proofs.boards.fresh_state.Statement.{statement}
-use Rattle.arbiter.proofs.boards.fresh_state.Tie as tie
+use Rattle.boards.proofs.fresh_state.Statement.{statement}
+use Rattle.boards.proofs.fresh_state.Tie as tie
 
 returns : tie.Need-returns
 returns c = refl

@@ -9,10 +9,10 @@ use Rattle.plans.specs.declared.Entry.{Entry}
 use Rattle.plans.specs.Entries.{mostEntries, entryAt}
 use Rattle.conflicts.specs.Conflict.{tabulate}
 use Rattle.conflicts.proofs.Tabulate.{fill-more, filled-whole}
-use Rattle.arbiter.specs.Fresh.{boardOf}
+use Rattle.boards.specs.Fresh.{boardOf}
 use Rattle.conflicts.proofs.Widening.{counted-field}
-use Rattle.arbiter.proofs.boards.lengths_of.Statement.{statement}
-use Rattle.arbiter.proofs.boards.lengths_of.Tie as tie
+use Rattle.boards.proofs.lengths_of.Statement.{statement}
+use Rattle.boards.proofs.lengths_of.Tie as tie
 
 abbrev Inv-loop : tie.InvT-loop
 Inv-loop plan out₀ i₀ out i = (i ≤ mostEntries) × (length out ≡ mostEntries) × (take i out ≡ tabulate i (λ i. entryAt plan i .length))

@@ -4,9 +4,9 @@ use borrow.Author.Needs.{needs}
 use Rattle.refusals.specs.Number.{numberOf, verdictNumber}
 use Rattle.refusals.proofs.Numbers.{number-not-zero}
 use Rattle.plans.specs.Acceptance.{planFault}
-use Rattle.arbiter.specs.Fresh.{freshBoard}
-use Rattle.arbiter.proofs.boards.fresh_of.Statement.{statement}
-use Rattle.arbiter.proofs.boards.fresh_of.Tie as tie
+use Rattle.boards.specs.Fresh.{freshBoard}
+use Rattle.boards.proofs.fresh_of.Statement.{statement}
+use Rattle.boards.proofs.fresh_of.Tie as tie
 
 returns : tie.Need-returns
 unfolding freshBoard

@@ -6,10 +6,10 @@ use mathlib.Core.Path.{_≡_, refl}
 use borrow.Author.Needs.{needs}
 use Rattle.masks.specs.Sets.{maskOf}
 use Rattle.plans.specs.Entries.{mostEntries}
-use Rattle.arbiter.specs.Fresh.{boardOf}
-use Rattle.arbiter.proofs.PlanEntries.{writesIn, writes-more}
-use Rattle.arbiter.proofs.boards.writes_of.Statement.{statement}
-use Rattle.arbiter.proofs.boards.writes_of.Tie as tie
+use Rattle.boards.specs.Fresh.{boardOf}
+use Rattle.boards.proofs.PlanEntries.{writesIn, writes-more}
+use Rattle.boards.proofs.writes_of.Statement.{statement}
+use Rattle.boards.proofs.writes_of.Tie as tie
 
 abbrev Inv-loop : tie.InvT-loop
 Inv-loop plan out₀ i₀ out i = (i ≤ mostEntries) × (out ≡ maskOf i (writesIn plan))

@@ -1,7 +1,7 @@
 -- `write_place` meets its contract. Assumes nothing.
 use borrow.Author.Needs.{needs}
-use Rattle.arbiter.proofs.boards.write_place.Statement.{statement}
-use Rattle.arbiter.proofs.boards.write_place.Tie as tie
+use Rattle.boards.proofs.write_place.Statement.{statement}
+use Rattle.boards.proofs.write_place.Tie as tie
 
 returns : tie.Need-returns
 returns c = rw (← c .before .is-write .ensures, c .if1 .taken)

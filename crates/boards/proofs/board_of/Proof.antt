@@ -1,8 +1,8 @@
 -- `board_of` meets its contract, field by field. Assumes nothing.
 use borrow.Author.Needs.{needs}
-use Rattle.arbiter.proofs.PlanEntries.{board-made}
-use Rattle.arbiter.proofs.boards.board_of.Statement.{statement}
-use Rattle.arbiter.proofs.boards.board_of.Tie as tie
+use Rattle.boards.proofs.PlanEntries.{board-made}
+use Rattle.boards.proofs.board_of.Statement.{statement}
+use Rattle.boards.proofs.board_of.Tie as tie
 
 returns : tie.Need-returns
 returns c =

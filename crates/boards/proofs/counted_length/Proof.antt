@@ -1,7 +1,7 @@
 -- `counted_length` meets its contract. Assumes nothing.
 use borrow.Author.Tests.{lt-ltb, le-ltb}
-use Rattle.arbiter.proofs.boards.counted_length.Statement.{statement}
-use Rattle.arbiter.proofs.boards.counted_length.Tie as tie
+use Rattle.boards.proofs.counted_length.Statement.{statement}
+use Rattle.boards.proofs.counted_length.Tie as tie
 
 returns : tie.Need-returns
 returns c = rw (lt-ltb _ _ (c .if1 .taken))

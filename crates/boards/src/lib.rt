@@ -1,5 +1,5 @@
-// A fresh arbiter of a plan. Specification, clause 4.3.
-use crate::Fresh;
+// The fresh arbiter of a plan: its board, made once for all calls, and the state in which nobody is active. Specification,
+// clauses 3.3 and 4.3.
 use acceptance::check;
 use conflicts::conflicts_of;
 use masks::add64;
@@ -19,7 +19,14 @@ ghost use lib.Dec.{ltb};
 ghost use Rattle.refusals.specs.Number.{verdictNumber};
 ghost use Rattle.plans.specs.Entries.{mostEntries, isWrite};
 ghost use Rattle.plans.specs.Acceptance.{planFault};
-ghost use Rattle.arbiter.specs.Fresh.{freshState, boardOf, blankBoard, freshBoard};
+ghost use Rattle.boards.specs.Fresh.{freshState, boardOf, blankBoard, freshBoard};
+
+// A fresh arbiter of a plan, or the refusal of the plan.
+pub struct Fresh {
+    pub verdict: Verdict,
+    pub board: Board,
+    pub state: State,
+}
 
 // The place of entry i in the set of writes, and past every place where it is no write or is not counted.
 fn write_place(entry: Entry, i: u8, count: u8) -> u32
