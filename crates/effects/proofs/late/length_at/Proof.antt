@@ -2,8 +2,8 @@
 use mathlib.Core.Path.{sym}
 use lib.ListN.{List·getD-eq-default}
 use borrow.Author.Needs.{needs}
-use Rattle.acts.proofs.late.length_at.Statement.{statement}
-use Rattle.acts.proofs.late.length_at.Tie as tie
+use Rattle.effects.proofs.late.length_at.Statement.{statement}
+use Rattle.effects.proofs.late.length_at.Tie as tie
 
 returns-2 : tie.Need-returns-2
 returns-2 c = sym (List·getD-eq-default (c .before .args .lengths .now) 0 (c .if1 .left))

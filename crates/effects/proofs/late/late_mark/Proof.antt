@@ -1,8 +1,8 @@
 -- `late_mark` meets its contract. Assumes nothing.
 use borrow.Author.Needs.{needs}
 use borrow.Author.Tests.{lt-ltb, le-ltb}
-use Rattle.acts.proofs.late.late_mark.Statement.{statement}
-use Rattle.acts.proofs.late.late_mark.Tie as tie
+use Rattle.effects.proofs.late.late_mark.Statement.{statement}
+use Rattle.effects.proofs.late.late_mark.Tie as tie
 
 returns : tie.Need-returns
 returns c = rw (← c .before .ticks-between .ensures, lt-ltb _ _ (c .if1 .taken))

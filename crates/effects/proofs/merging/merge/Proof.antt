@@ -1,8 +1,8 @@
 -- `merge` meets its contract. Assumes nothing.
 use borrow.Author.Needs.{needs}
-use Rattle.acts.proofs.Done.{merged-both}
-use Rattle.acts.proofs.merging.merge.Statement.{statement}
-use Rattle.acts.proofs.merging.merge.Tie as tie
+use Rattle.effects.proofs.Both.{merged-both}
+use Rattle.effects.proofs.merging.merge.Statement.{statement}
+use Rattle.effects.proofs.merging.merge.Tie as tie
 
 returns : tie.Need-returns
 returns c =

@@ -5,7 +5,7 @@ ghost use mathlib.Core.Path.{_≡_};
 ghost use mathlib.Core.List.{List};
 ghost use Prim.Native.Nat.{ℕ};
 ghost use Rattle.rules.specs.Calls.{both};
-ghost use Rattle.acts.specs.Carried.{carriedSays};
+ghost use Rattle.effects.specs.Carried.{carriedSays};
 
 // The second was carried out right after the first. Who is no longer entitled after both is in no mask.
 pub fn merge(first: Carried, second: Carried) -> Carried

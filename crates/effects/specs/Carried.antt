@@ -4,7 +4,7 @@ use Prim.Native.Nat.{ℕ}
 use mathlib.Core.List.{List}
 use Rattle.rules.specs.Calls.{Answer}
 use Rattle.rules.specs.InPlace.{stateBy}
-use Rattle.acts.specs.declared.Carried.{Carried}
+use Rattle.effects.specs.declared.Carried.{Carried}
 
 abbrev pub carriedSays : Carried → ℕ → List ℕ → List ℕ → List ℕ → Answer
 carriedSays c tick entry since earlier =
