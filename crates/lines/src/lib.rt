@@ -1,6 +1,6 @@
 // The lines of calls and of faults from plain numbers, as bytes in a lent buffer. `first_lines` has a listing's first line,
 // and `listings` has lines from plans, calls and replies. A line is begun only where all of it fits.
-use digits::digit_count;
+use digits::byte_digits;
 use encoding::Outcome;
 use mask_fields::put_masks;
 use number_fields::put_last;
@@ -43,7 +43,7 @@ pub fn done_line(
         (now (buffer .entry)) at
         ⌝ }
 {
-    let more = 4 + 4 * mask_size(processors) + digit_count(late as u64);
+    let more = 4 + 4 * mask_size(processors) + byte_digits(late);
     let led = put_lead(letter, processor, tick, more as u8, buffer, at);
     if led == 0 {
         return Outcome::Refused(Refusal::Room);
@@ -72,7 +72,7 @@ pub fn refused_line(
         ≡ lineBuffer (fieldsLine letter processor tick (refusedFields number)) (now (buffer .entry)) at
         ⌝ }
 {
-    let more = 10 + digit_count(number as u64);
+    let more = 10 + byte_digits(number);
     let led = put_lead(letter, processor, tick, more as u8, buffer, at);
     if led == 0 {
         return Outcome::Refused(Refusal::Room);

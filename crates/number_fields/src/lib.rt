@@ -1,5 +1,6 @@
 // The fields of a line that are words and decimal numbers, stored in a lent buffer where they fit. Each tells how many bytes
 // it stored.
+use digits::byte_digits;
 use digits::digit_count;
 use encoding::has_room;
 ghost use mathlib.Core.Path.{_≡_};
@@ -125,13 +126,10 @@ fn write_call(
     ensures { λ r. ⌜ Stored (callLead letter processor tick) (now (buffer .entry)) at r (now (buffer .exit)) ⌝ }
 {
     let second = write_digits(tick, ticks, buffer, at);
-    write_labelled(
-        &[b' ', letter, b' '],
-        processor as u64,
-        width,
-        buffer,
-        second,
-    )
+    buffer[second] = b' ';
+    buffer[second + 1] = letter;
+    buffer[second + 2] = b' ';
+    write_digits(processor as u64, width, buffer, second + 3)
 }
 
 // What every call's line begins with, where it fits with so many bytes behind it: a line is begun where all of it has room.
@@ -155,7 +153,7 @@ pub fn put_lead(
         ⌝ }
 {
     let ticks = digit_count(tick);
-    let width = digit_count(processor as u64);
+    let width = byte_digits(processor);
     let size = ticks + 3 + width;
     if has_room(size + more as usize, buffer.len(), at) {
         write_call(letter, processor, tick, ticks, width, buffer, at);

@@ -14,7 +14,7 @@ returns c =
     let a = led .before .before .before .before .args in
     rw (refused-parts (a .letter) (a .processor) (a .tick) (a .number))
     (no-line (callLead (a .letter) (a .processor) (a .tick)) (refusedTail (a .number)) (a .buffer .now) (a .at) _ _ (some-lead (a .letter) (a .processor) (a .tick))
-    (refused-tail-length (a .number) _ (led .before .before .digit-count .ensures .0)) (led .put-lead .ensures .0) (c .if1 .taken) _ (led .put-lead .ensures .1))
+    (refused-tail-length (a .number) _ (led .before .before .byte-digits .ensures .0)) (led .put-lead .ensures .0) (c .if1 .taken) _ (led .put-lead .ensures .1))
 
 add-put-last : tie.Need-add-put-last
 add-put-last c =
@@ -23,7 +23,7 @@ add-put-last c =
     omega (
       arith,
       rest-fits (callLead (a .letter) (a .processor) (a .tick)) (refusedTail (a .number)) (a .buffer .now) (a .at) _ _ (some-lead (a .letter) (a .processor) (a .tick))
-          (refused-tail-length (a .number) _ (led .before .before .digit-count .ensures .0)) (led .put-lead .ensures .0) (c .before .before .if1 .left) _ (led .put-lead .ensures .1),
+          (refused-tail-length (a .number) _ (led .before .before .byte-digits .ensures .0)) (led .put-lead .ensures .0) (c .before .before .if1 .left) _ (led .put-lead .ensures .1),
     )
 
 add-t10 : tie.Need-add-t10
@@ -32,10 +32,10 @@ add-t10 c =
     let a = led .before .before .before .before .args in
     omega (
       arith,
-      led .before .before .digit-count .ensures .1,
+      led .before .before .byte-digits .ensures .1,
       rest-fits (callLead (a .letter) (a .processor) (a .tick)) (refusedTail (a .number)) (a .buffer .now) (a .at) _ _ (some-lead (a .letter) (a .processor) (a .tick))
-          (refused-tail-length (a .number) _ (led .before .before .digit-count .ensures .0)) (led .put-lead .ensures .0) (c .before .before .before .before .before .if1 .left) _ (led .put-lead .ensures .1),
-      refused-tail-length (a .number) _ (led .before .before .digit-count .ensures .0),
+          (refused-tail-length (a .number) _ (led .before .before .byte-digits .ensures .0)) (led .put-lead .ensures .0) (c .before .before .before .before .before .if1 .left) _ (led .put-lead .ensures .1),
+      refused-tail-length (a .number) _ (led .before .before .byte-digits .ensures .0),
     )
 
 returns-2 : tie.Need-returns-2
@@ -43,10 +43,10 @@ returns-2 c =
     let led = c .before .before .before .before .before .before .before .before in
     let a = led .before .before .before .before .args in
     let rest = rest-fits (callLead (a .letter) (a .processor) (a .tick)) (refusedTail (a .number)) (a .buffer .now) (a .at) _ _ (some-lead (a .letter) (a .processor) (a .tick))
-    (refused-tail-length (a .number) _ (led .before .before .digit-count .ensures .0)) (led .put-lead .ensures .0) (c .before .before .before .before .before .if1 .left) _ (led .put-lead .ensures .1) in
+    (refused-tail-length (a .number) _ (led .before .before .byte-digits .ensures .0)) (led .put-lead .ensures .0) (c .before .before .before .before .before .if1 .left) _ (led .put-lead .ensures .1) in
     rw (refused-parts (a .letter) (a .processor) (a .tick) (a .number))
     (whole-line (callLead (a .letter) (a .processor) (a .tick)) (refusedTail (a .number)) (a .buffer .now) (a .at) _ _ (some-lead (a .letter) (a .processor) (a .tick))
-    (refused-tail-length (a .number) _ (led .before .before .digit-count .ensures .0)) (led .put-lead .ensures .0) (c .before .before .before .before .before .if1 .left) _ (led .put-lead .ensures .1)
+    (refused-tail-length (a .number) _ (led .before .before .byte-digits .ensures .0)) (led .put-lead .ensures .0) (c .before .before .before .before .before .if1 .left) _ (led .put-lead .ensures .1)
     _ _ (field-stored (refusedTail (a .number)) _ _ rest (c .before .before .put-last .ensures .0) (c .before .before .put-last .ensures .1)))
 
 pub refused-line-spec : {M : Type 1} → statement M

@@ -17,13 +17,13 @@ lead-size letter processor tick t w et ew = simp length-append (omega arith)
 write-call-requires : tie.Need-write-call-requires
 write-call-requires c κs =
     let asked = c .before .before in
-    (asked .before .before .digit-count .ensures .0, (asked .before .digit-count2 .ensures .0, omega (arith, asked .has-room .ensures .1 (c .before .if1 .taken))))
+    (asked .before .before .digit-count .ensures .0, (asked .before .byte-digits .ensures .0, omega (arith, asked .has-room .ensures .1 (c .before .if1 .taken))))
 
 returns : tie.Need-returns
 returns c =
     let asked = c .before .before .before .before .before in
     let a = asked .before .before .before .before .args in
-    let size = lead-size (a .letter) (a .processor) (a .tick) _ _ (asked .before .before .digit-count .ensures .0) (asked .before .digit-count2 .ensures .0) in
+    let size = lead-size (a .letter) (a .processor) (a .tick) _ _ (asked .before .before .digit-count .ensures .0) (asked .before .byte-digits .ensures .0) in
     placed (callLead (a .letter) (a .processor) (a .tick)) _ _ _ (omega arith) _ (ap (λ x. x + a .more) size) _ (asked .has-room .ensures .0) _
     (c .before .before .before .before .if1 .taken) size (c .before .before .write-call .ensures)
 
@@ -31,7 +31,7 @@ returns-2 : tie.Need-returns-2
 returns-2 c =
     let asked = c .before in
     let a = asked .before .before .before .before .args in
-    let size = lead-size (a .letter) (a .processor) (a .tick) _ _ (asked .before .before .digit-count .ensures .0) (asked .before .digit-count2 .ensures .0) in
+    let size = lead-size (a .letter) (a .processor) (a .tick) _ _ (asked .before .before .digit-count .ensures .0) (asked .before .byte-digits .ensures .0) in
     not-placed (callLead (a .letter) (a .processor) (a .tick)) _ _ _ (omega arith) _ (ap (λ x. x + a .more) size) _ (asked .has-room .ensures .0) (c .if1 .left)
 
 pub put-lead-spec : {M : Type 1} → statement M
