@@ -24,7 +24,7 @@ UNFOLDED = {
     "states.specs.Faults": "issueFault completeFault withdrawFault handoverFault",
     "rules.specs.Acts": "putIn putLast takenOut stamped",
     "rules.specs.Calls": "putState takenState done settledDone issued left completed withdrawn both handedOver",
-    "arbiter.specs.Fresh": "boardOf",
+    "boards.specs.Fresh": "boardOf",
     "logs.specs.Records": "fieldsIn recordFault",
     "digits.specs.Digits": "digits maskIn",
     "lines.specs.Lines": "furtherFields refusalLine",

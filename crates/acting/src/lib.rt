@@ -2,14 +2,14 @@
 // request is put in or taken out, and the answer has who began to hold and who became entitled. Specification, clauses 4.4
 // to 4.10.
 use acts::enter;
-use acts::late_mark;
 use acts::leave;
-use acts::length_at;
 use answers::accepted;
 use answers::refused;
 use checks::check_complete;
 use checks::check_issue;
 use checks::check_withdraw;
+use effects::late_mark;
+use effects::length_at;
 use placing::put_last;
 use plans::ENTRIES;
 use plans::SLOTS;

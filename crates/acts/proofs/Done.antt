@@ -1,14 +1,13 @@
 -- What the acts answer, put together from what their parts give. Assumes nothing.
 use mathlib.Core.Path.{_≡_, ap, ap₂, _∙_}
-use mathlib.Core.Bool.{Bool, cond, not, _&&_, _||_}
+use mathlib.Core.Bool.{cond, not, _&&_}
 use mathlib.Core.List.{List}
-use Prim.Native.Nat.{ℕ, _-_, _^_, _<_}
+use Prim.Native.Nat.{ℕ, _^_, _<_}
 use native.Mathlib.Omega.{arith}
-use lib.Bits.{bitAnd, bitOr}
 use lib.ListN.{getD}
 use Rattle.masks.specs.Sets.{bit, without, maskOf}
-use Rattle.masks.proofs.Places.{bit-or, bit-without, and-below, wider}
-use Rattle.masks.proofs.Tests.{Mask, by-bits, bit-is, agree-is, cut-is, any-and}
+use Rattle.masks.proofs.Places.{bit-without, and-below, wider}
+use Rattle.masks.proofs.Tests.{Mask, by-bits, bit-is}
 use Rattle.plans.specs.Entries.{slots}
 use Rattle.conflicts.specs.Conflict.{tabulate}
 use Rattle.conflicts.proofs.Tabulate.{tabulate-agree}
@@ -17,12 +16,9 @@ use Rattle.settling.specs.Requests.{Facts, factsBy}
 use Rattle.settling.specs.Settling.{settled}
 use Rattle.states.specs.inner.Small.{Small}
 use Rattle.rules.specs.Acts.{putIn, began, stamped}
-use Rattle.rules.specs.Calls.{Answer, done, both}
+use Rattle.rules.specs.Calls.{Answer, done}
 use Rattle.rules.specs.InPlace.{stateBy}
-use Rattle.acts.specs.declared.Carried.{Carried}
-use Rattle.acts.specs.Carried.{carriedSays}
-
--- ---- an act that was carried out
+use Rattle.effects.specs.Carried.{carriedSays}
 
 -- Those in the second mask that are not in the first.
 new-is : (before after : ℕ) → after < 2 ^ slots → before < 2 ^ 32 → Mask slots (λ k. bit after k && not (bit before k)) (without 32 after before)
@@ -67,32 +63,3 @@ entered-done rows writes tick p ph line entry₀ since₀ ee es ea eq =
     eq
     ∙ (λ i. done (stateBy (record { last = tick; phases = ph }) (ee i) (es i) line) (ea i) 0)
     ∙ ap (λ (entry : List ℕ). done (stateBy (record { last = tick; phases = ph }) entry₀ since₀ line) (settled (factsBy rows writes entry line) (putIn ph p)) 0) ee
-
--- ---- two acts as one
-
-pub merged-both : (first second : Carried) (tick : ℕ) (entry entry₂ since since₂ earlier earlier₂ : List ℕ)
-    → _≡_ {A = Answer}
-    (carriedSays
-    (record {
-      granted = bitAnd (bitOr (first .granted) (second .granted)) (2 ^ slots - 1);
-      entitled = bitAnd (bitOr (first .entitled) (second .entitled)) (bitAnd (second .phases .entitled) (2 ^ slots - 1));
-      late = first .late;
-      phases = second .phases;
-    })
-    tick entry₂ since₂ earlier₂)
-    (both (carriedSays first tick entry since earlier) (carriedSays second tick entry₂ since₂ earlier₂))
-unfolding both
-merged-both first second tick entry entry₂ since since₂ earlier earlier₂ =
-    λ i. record {
-      reply = record { number = 0; granted = granted .is i; entitled = entitled .is i; late = first .late };
-      state = stateBy (record { last = tick; phases = second .phases }) entry₂ since₂ earlier₂;
-    }
-  where
-    granted : Mask slots (λ q. bit (first .granted) q || bit (second .granted) q) (bitAnd (bitOr (first .granted) (second .granted)) (2 ^ slots - 1))
-    granted = agree-is (λ k l. bit-or (first .granted) (second .granted) k) (cut-is slots _)
-
-    entitled : Mask slots (λ q. (bit (first .entitled) q || bit (second .entitled) q) && bit (second .phases .entitled) q)
-        (bitAnd (bitOr (first .entitled) (second .entitled)) (bitAnd (second .phases .entitled) (2 ^ slots - 1)))
-    entitled =
-        agree-is (λ k l. ap (λ t. t && bit (second .phases .entitled) k) (bit-or (first .entitled) (second .entitled) k))
-        (any-and (bitOr (first .entitled) (second .entitled)) (cut-is slots (second .phases .entitled)))

@@ -1,13 +1,9 @@
 // An act carried out on the arrays of a state: a request enters or leaves, all requests are settled, and the answer has who
 // began to hold and who became entitled by it. Specification, clauses 4.4 to 4.8.
-mod late;
-mod merging;
 mod stores;
 
-pub use late::late_mark;
-pub use late::length_at;
+use effects::Carried;
 use masks::without32;
-pub use merging::merge;
 use placing::settle_left;
 use placing::settle_new;
 use placing::stamp;
@@ -27,15 +23,7 @@ ghost use Rattle.states.specs.inner.Small.{Small};
 ghost use Rattle.rules.specs.Acts.{putIn, takenOut};
 ghost use Rattle.rules.specs.Calls.{done};
 ghost use Rattle.rules.specs.InPlace.{stateBy};
-ghost use Rattle.acts.specs.Carried.{carriedSays};
-
-// What an act that was carried out answers, and the phases that it leaves.
-pub struct Carried {
-    pub granted: u32,
-    pub entitled: u32,
-    pub late: u8,
-    pub phases: Phases,
-}
+ghost use Rattle.effects.specs.Carried.{carriedSays};
 
 // The two masks. `before` has the request put in or taken out, `after` is settled. Those that began to hold have this
 // tick.

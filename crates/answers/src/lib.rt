@@ -1,7 +1,7 @@
 // What a call in place returns: of a call that was carried out its answer, and of a refused one the refusal, with the moment
 // as it was given.
-use acts::Carried;
 use calls::Reply;
+use effects::Carried;
 use refusals::Refusal;
 use rules::Changed;
 use states::Moment;
@@ -9,7 +9,7 @@ ghost use mathlib.Core.Path.{_≡_};
 ghost use mathlib.Core.List.{List};
 ghost use Prim.Native.Nat.{ℕ};
 ghost use Rattle.refusals.specs.Number.{numberOf};
-ghost use Rattle.acts.specs.Carried.{carriedSays};
+ghost use Rattle.effects.specs.Carried.{carriedSays};
 ghost use Rattle.calls.specs.Replies.{refusedWith};
 ghost use Rattle.rules.specs.InPlace.{stateBy, answerBy};
 

@@ -1,21 +1,20 @@
-// The arbiter: a board made once from an accepted plan, and a state that goes in by value and comes back.
+// The arbiter by value: a state goes in, and comes back with the answer. `boards` makes the board and the first state.
 // Every core's call goes through `answer`; the reply says who began to hold. `issue`, `complete`, `withdraw` and `handover`
 // are the same by name. The crates `acting`, `handing_over` and `answering` have the calls on lent arrays: no copies.
-mod boards;
-mod by_value;
-
-pub use boards::fresh_of;
-pub use by_value::answer;
-pub use by_value::answer_on;
-pub use by_value::complete;
-pub use by_value::handover;
-pub use by_value::issue;
-pub use by_value::phases_of;
-pub use by_value::withdraw;
+use answering::answer_in_place;
+use calls::Call;
 use calls::Reply;
-use refusals::Verdict;
+use plans::ENTRIES;
+use settling::Phases;
 use states::Board;
+use states::Moment;
 use states::State;
+use states::Terms;
+use states::clean;
+ghost use mathlib.Core.Path.{_≡_};
+ghost use Rattle.rules.specs.Calls.{phasesOf, issued, completed, withdrawn, handedOver, answered};
+ghost use Rattle.rules.specs.InPlace.{boardBy};
+ghost use Rattle.arbiter.specs.Answers.{answerOf};
 
 // On a refusal the state is the one given.
 pub struct Answered {
@@ -23,9 +22,109 @@ pub struct Answered {
     pub state: State,
 }
 
-// A fresh arbiter of a plan, or the refusal of the plan.
-pub struct Fresh {
-    pub verdict: Verdict,
-    pub board: Board,
-    pub state: State,
+// The phases of the requests that count: who waits, who is entitled and who holds.
+pub fn phases_of(board: Board, state: State) -> Phases
+    ensures { λ r. ⌜ r ≡ phasesOf board state ⌝ }
+{
+    let terms = board.terms;
+    let entry = state.entry;
+    let given = state.phases;
+    clean(terms, entry, given)
+}
+
+// The answer to any call, on a board of which the rows and the lengths are lent: who makes many calls copies no board.
+pub fn answer_on(
+    terms: Terms,
+    rows: &[u64; ENTRIES],
+    lengths: &[u16; ENTRIES],
+    state: State,
+    call: Call,
+) -> Answered
+    ensures { λ r. ⌜ answerOf r ≡ answered (boardBy terms (now (rows .entry)) (now (lengths .entry))) state call ⌝ }
+{
+    let phases = state.phases;
+    let given = Moment {
+        last: state.last,
+        phases: phases,
+    };
+    let mut entries = state.entry;
+    let mut since = state.since;
+    let mut earlier = state.earlier;
+    let changed = answer_in_place(
+        terms,
+        rows,
+        lengths,
+        given,
+        &mut entries,
+        &mut since,
+        &mut earlier,
+        call,
+    );
+    let reply = changed.reply;
+    let moment = changed.moment;
+    let after = moment.phases;
+    Answered {
+        reply: reply,
+        state: State {
+            last: moment.last,
+            phases: after,
+            since: since,
+            earlier: earlier,
+            entry: entries,
+        },
+    }
+}
+
+// The answer to any call.
+pub fn answer(board: Board, state: State, call: Call) -> Answered
+    ensures { λ r. ⌜ answerOf r ≡ answered board state call ⌝ }
+{
+    let terms = board.terms;
+    let rows = board.rows;
+    let lengths = board.lengths;
+    answer_on(terms, &rows, &lengths, state, call)
+}
+
+// Processor asks for an entry at a tick. Refused by 10, 11, 12, 13, in that order.
+pub fn issue(board: Board, state: State, processor: u8, entry: u8, tick: u64) -> Answered
+    ensures { λ r. ⌜ answerOf r ≡ issued board state processor entry tick ⌝ }
+{
+    answer(
+        board,
+        state,
+        Call::Issue {
+            processor,
+            entry,
+            tick,
+        },
+    )
+}
+
+// Processor gives its request back at a tick. Refused by 10, 11, 14, 15, in that order.
+pub fn complete(board: Board, state: State, processor: u8, tick: u64) -> Answered
+    ensures { λ r. ⌜ answerOf r ≡ completed board state processor tick ⌝ }
+{
+    answer(board, state, Call::Complete { processor, tick })
+}
+
+// Processor leaves the line at a tick, with a request that does not hold. Refused by 10, 11, 14, 17, in that order.
+pub fn withdraw(board: Board, state: State, processor: u8, tick: u64) -> Answered
+    ensures { λ r. ⌜ answerOf r ≡ withdrawn board state processor tick ⌝ }
+{
+    answer(board, state, Call::Withdraw { processor, tick })
+}
+
+// Processor gives its request back and asks for an entry, at one tick. Refused by 10, 11, 12, 14, 15, in that order.
+pub fn handover(board: Board, state: State, processor: u8, entry: u8, tick: u64) -> Answered
+    ensures { λ r. ⌜ answerOf r ≡ handedOver board state processor entry tick ⌝ }
+{
+    answer(
+        board,
+        state,
+        Call::Handover {
+            processor,
+            entry,
+            tick,
+        },
+    )
 }

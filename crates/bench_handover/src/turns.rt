@@ -112,7 +112,7 @@ pub fn sum_of(busy: u8, turns: u64) -> u64
     requires { ⌜ (busy ≤ 32) × (turns < 1000000000) ⌝ }
 {
     let processors = processors_for(busy);
-    let fresh = arbiter::fresh_of(plan(processors));
+    let fresh = boards::fresh_of(plan(processors));
     let board = fresh.board;
     let start = fresh.state;
     let full = filled(board, start, busy);

@@ -78,7 +78,7 @@ fn sum_from(board: Board, full: State, turns: u64) -> u64 {
 }
 
 pub fn sum_of(turns: u64) -> u64 {
-    let fresh = arbiter::fresh_of(plan());
+    let fresh = boards::fresh_of(plan());
     let board = fresh.board;
     let start = fresh.state;
     let full = in_line(board, start);

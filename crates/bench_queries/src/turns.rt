@@ -168,7 +168,7 @@ fn sum_from(board: Board, full: State, view: View, turns: u64) -> u64
 pub fn sum_of(view: View, turns: u64) -> u64
     requires { ⌜ turns < 1000000000 ⌝ }
 {
-    let fresh = arbiter::fresh_of(plan());
+    let fresh = boards::fresh_of(plan());
     let board = fresh.board;
     let start = fresh.state;
     let full = filled(board, start, 16);

@@ -13,7 +13,7 @@ use Rattle.encoding.specs.Buffers.{outcomeSays}
 use Rattle.plans.specs.Reading.{readFault, readSays, planRead}
 use Rattle.states.specs.declared.Board.{Board}
 use Rattle.states.specs.declared.State.{State}
-use Rattle.arbiter.specs.Fresh.{freshBoard, freshState}
+use Rattle.boards.specs.Fresh.{freshBoard, freshState}
 use Rattle.c_fresh.specs.Fresh.{boardAfter, stateAfter}
 
 -- ---- where the bytes were refused

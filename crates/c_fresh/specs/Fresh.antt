@@ -8,7 +8,7 @@ use Rattle.plans.specs.Reading.{readFault, planRead}
 use Rattle.states.specs.declared.Board.{Board}
 use Rattle.states.specs.declared.State.{State}
 use Rattle.states.specs.declared.Terms.{Terms}
-use Rattle.arbiter.specs.Fresh.{freshBoard, freshState}
+use Rattle.boards.specs.Fresh.{freshBoard, freshState}
 
 -- Clause 11.5: the version of the archive: 10,000 for each major, 100 for each minor one.
 abbrev pub versionNumber : ℕ

@@ -1,6 +1,6 @@
 // A fresh arbiter from the bytes of a plan, into memory that a program in C or Rust owns; and the version of the archive.
 // include/bittmelon.h declares what is exported. Specification, sections 4 and 11.
-use arbiter::fresh_of;
+use boards::fresh_of;
 use c_boards::Told;
 use c_boards::store_moment;
 use encoding::Outcome;

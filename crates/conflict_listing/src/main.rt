@@ -70,7 +70,7 @@ fn main() {
     match outcome {
         Outcome::Bytes(_) => {
             let plan = read.plan;
-            let fresh = arbiter::fresh_of(plan);
+            let fresh = boards::fresh_of(plan);
             let board = fresh.board;
             print_pairs(board, plan.count);
         }

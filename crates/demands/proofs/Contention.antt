@@ -20,7 +20,7 @@ use Rattle.conflicts.specs.Conflict.{widenedSet, shared, conflict, inConflict, 
 use Rattle.conflicts.proofs.Accepted.{read-or-write}
 use Rattle.conflicts.proofs.Tabulate.{getD-tabulate}
 use Rattle.conflicts.proofs.Widening.{widened-at}
-use Rattle.arbiter.specs.Fresh.{boardOf}
+use Rattle.boards.specs.Fresh.{boardOf}
 use Rattle.runs.proofs.refinement.Board.{write-on-board, conflict-on-board}
 use Rattle.contention.specs.Contention.{sharedIn, SharedSaid, sharedOf, sharedQuery}
 

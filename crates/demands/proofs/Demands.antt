@@ -25,7 +25,7 @@ use Rattle.states.specs.declared.Board.{Board}
 use Rattle.states.specs.declared.State.{State}
 use Rattle.states.specs.Faults.{processorFault, issueFault, completeFault, withdrawFault, handoverFault}
 use Rattle.rules.specs.Calls.{Answer, phasesOf, putState, takenState, settledDone, lateMark, ruled, issued, left, completed, withdrawn, both, handedOver, answered}
-use Rattle.arbiter.specs.Fresh.{boardOf, blankBoard, freshBoard}
+use Rattle.boards.specs.Fresh.{boardOf, blankBoard, freshBoard}
 use Rattle.rules.specs.InPlace.{boardBy, stateBy}
 use Rattle.queries.specs.Queries.{reachFault, reachBytes, reachQuery, reachScratch}
 use Rattle.wait_listing.specs.Listing.{listFault, listBuffer}
@@ -41,7 +41,7 @@ use Rattle.logs.specs.Records.{fieldsIn, noFields, recordFault, readRecord}
 --   plan_reader::read        outcomeSays (r .outcome) ≡ readSays bytes, and r .plan ≡ planRead bytes
 --   plan_writer::write       outcomeSays r ≡ writeSays plan buffer at, and the buffer after it ≡ writtenBuffer plan buffer at
 --   plans::check             verdictNumber r ≡ planFault plan
---   arbiter::fresh_of        verdictNumber (r .verdict) ≡ planFault plan, r .board ≡ freshBoard plan, r .state ≡ freshState
+--   boards::fresh_of         verdictNumber (r .verdict) ≡ planFault plan, r .board ≡ freshBoard plan, r .state ≡ freshState
 --   arbiter::answer          answerOf r ≡ answered board state call
 --   arbiter::issue           answerOf r ≡ issued board state processor entry tick
 --   arbiter::complete        answerOf r ≡ completed board state processor tick

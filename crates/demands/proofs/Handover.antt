@@ -13,7 +13,7 @@ use Rattle.calls.specs.declared.Call.{Call}
 use Rattle.settling.specs.declared.Phases.{Phases}
 use Rattle.states.specs.Faults.{handoverFault}
 use Rattle.rules.specs.Calls.{Answer, phasesOf, answered}
-use Rattle.arbiter.specs.Fresh.{boardOf}
+use Rattle.boards.specs.Fresh.{boardOf}
 use Rattle.runs.proofs.Handover.{grants-exactly, entitles-exactly}
 use Rattle.freedom.specs.Freedom.{reachedBy}
 use Rattle.freedom.proofs.Reached.{reached}

@@ -83,6 +83,12 @@ length-two n h most = ap length (decimal-two n h most)
 pub length-two-more : (n : ℕ) → 100 ≤ n → n < 10 ^ 20 → length (decimal n) ≡ length (decimal (n / 100)) + 2
 length-two-more n h most = ap length (decimal-two-more n h most) ∙ simp length-append
 
+pub length-four-more : (n : ℕ) → 10000 ≤ n → n < 10 ^ 20 → length (decimal n) ≡ length (decimal (n / 10000)) + 4
+length-four-more n h most =
+    let q : n / 100 / 100 ≡ n / 10000 = omega arith in
+    let next = rw q at (length-two-more (n / 100) (omega arith) (omega arith)) in
+    omega (arith, length-two-more n (omega arith) most, next)
+
 at-least-one : (k n : ℕ) → 1 ≤ length (digits (suc k) n)
 at-least-one k n =
     elim (size n) [

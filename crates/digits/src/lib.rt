@@ -2,7 +2,7 @@
 // them.
 use tables::HEX_PAIRS;
 ghost use mathlib.Core.Path.{_≡_};
-ghost use Prim.Native.Nat.{_≤_};
+ghost use Prim.Native.Nat.{_≤_, _<_};
 ghost use lib.ListN.{length, getD};
 ghost use Rattle.digits.specs.Digits.{decimal, hexPairs};
 
@@ -24,16 +24,40 @@ pub fn pair_at(pairs: &[u16], byte: u8) -> u16
     if place < pairs.len() { pairs[place] } else { 0 }
 }
 
-// How many digits a decimal number has, by two.
+// How many digits a number below 10,000 has.
+fn few_digits(n: u64) -> usize
+    requires { ⌜ n < 10000 ⌝ }
+    ensures { λ r. ⌜ r ≡ length (decimal n) ⌝ }
+{
+    if n < 10 {
+        1
+    } else if n < 100 {
+        2
+    } else if n < 1000 {
+        3
+    } else {
+        4
+    }
+}
+
+// How many digits a decimal number has, by four.
 pub fn digit_count(n: u64) -> usize
     ensures is { λ r. ⌜ r ≡ length (decimal n) ⌝ }
     ensures most { λ r. ⌜ r ≤ 20 ⌝ }
 {
     let mut head = n;
-    let mut count: usize = 1;
-    while 99 < head {
-        head = head / 100;
-        count += 2;
+    let mut count: usize = 0;
+    while 9999 < head {
+        head = head / 10000;
+        count += 4;
     }
-    if 9 < head { count + 1 } else { count }
+    count + few_digits(head)
+}
+
+// The same of a byte.
+pub fn byte_digits(n: u8) -> usize
+    ensures is { λ r. ⌜ r ≡ length (decimal n) ⌝ }
+    ensures most { λ r. ⌜ r ≤ 3 ⌝ }
+{
+    few_digits(n as u64)
 }

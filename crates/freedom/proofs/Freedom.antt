@@ -16,7 +16,7 @@ use Rattle.states.specs.declared.Board.{Board}
 use Rattle.states.specs.declared.State.{State}
 use Rattle.states.specs.Requests.{isHolding, cleaned}
 use Rattle.rules.specs.Calls.{phasesOf}
-use Rattle.arbiter.specs.Fresh.{boardOf}
+use Rattle.boards.specs.Fresh.{boardOf}
 use Rattle.runs.proofs.columns.Columns.{holding}
 use Rattle.runs.proofs.refinement.State.{unsatisfied-phase, held-bit}
 use Rattle.runs.proofs.refinement.Clean.{phaseIn, clean-phases}

@@ -10,7 +10,7 @@ use Rattle.calls.specs.Calls.{tickOf}
 use Rattle.states.specs.declared.Board.{Board}
 use Rattle.states.specs.declared.State.{State}
 use Rattle.rules.specs.Calls.{both, answered}
-use Rattle.arbiter.specs.Fresh.{boardOf, freshState}
+use Rattle.boards.specs.Fresh.{boardOf, freshState}
 use Rattle.runs.specs.History.{Act, puts, takes}
 use Rattle.runs.specs.Claim.{Closed, everyEntry}
 use Rattle.runs.proofs.history.Frame.{Answers, refused, acts, replaces, answers}

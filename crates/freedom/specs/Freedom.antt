@@ -10,7 +10,7 @@ use Rattle.calls.specs.declared.Call.{Call}
 use Rattle.settling.specs.Requests.{unsatisfied}
 use Rattle.states.specs.Requests.{isHolding}
 use Rattle.rules.specs.Calls.{phasesOf, answered}
-use Rattle.arbiter.specs.Fresh.{boardOf, freshState}
+use Rattle.boards.specs.Fresh.{boardOf, freshState}
 use Rattle.queries.specs.Queries.{Chain}
 
 -- Clause 6.1: the state after the calls. Each call gets the state that the one before it left.

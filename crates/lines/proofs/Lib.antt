@@ -1,4 +1,3 @@
-pub mod Stores
-pub mod Backwards
 pub mod Lengths
 pub mod Room
+pub mod Parts

@@ -16,7 +16,8 @@ use Rattle.digits.specs.Digits.{decimal, hexMask}
 use Rattle.lines.specs.Lines.{refusedWord, furtherFields, refusalLine}
 use Rattle.listings.specs.Lines.{replyFields, letterOf, callLine}
 use Rattle.digits.proofs.Decimals.{few-digits, most-digits}
-use Rattle.lines.proofs.Lengths.{least-bytes, most-bytes, length-hex, done-length, refused-length, length-fields, length-refusal}
+use Rattle.mask_fields.proofs.MaskLengths.{least-bytes, most-bytes, length-hex}
+use Rattle.lines.proofs.Lengths.{done-length, refused-length, length-fields, length-refusal}
 
 -- A reply takes so many bytes more than its late mark, or two more than its number has digits.
 reply-most : (n : ℕ) → 2 ≤ n → (reply : Response) (k : ℕ) → length (decimal (reply .number)) ≤ 2 + k → length (decimal (reply .late)) ≤ k

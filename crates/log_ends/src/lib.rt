@@ -1,6 +1,6 @@
 // The lines of a log before and after its calls: the opening with the plan and its fresh arbiter, the call count, and the
 // end. `replay` has the calls. A line goes to the start of a lent buffer.
-use arbiter::fresh_of;
+use boards::fresh_of;
 use encoding::Outcome;
 use listings::first_line;
 use listings::refusal_line;
@@ -18,7 +18,7 @@ ghost use lib.ListN.{length};
 ghost use Rattle.refusals.specs.Number.{verdictNumber};
 ghost use Rattle.encoding.specs.Buffers.{outcomeSays};
 ghost use Rattle.plans.specs.Reading.{readSays, planRead};
-ghost use Rattle.arbiter.specs.Fresh.{freshBoard, freshState};
+ghost use Rattle.boards.specs.Fresh.{freshBoard, freshState};
 ghost use Rattle.logs.specs.Records.{countSays, readCount};
 ghost use Rattle.lines.specs.Lines.{lineSays, lineBuffer};
 ghost use Rattle.log_ends.specs.Ends.{faultLine, openingLine, countLine, endFault, endLine};

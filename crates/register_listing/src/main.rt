@@ -240,7 +240,7 @@ fn print_listing(plan: &mut [u8], input: &mut [u8]) {
     match outcome {
         Outcome::Bytes(size) => {
             let value = read.plan;
-            let fresh = arbiter::fresh_of(value);
+            let fresh = boards::fresh_of(value);
             let board = fresh.board;
             let state = fresh.state;
             let end = at_most(size, filled);

@@ -17,7 +17,7 @@ use Rattle.calls.specs.Replies.{Response}
 use Rattle.states.specs.declared.Board.{Board}
 use Rattle.states.specs.declared.State.{State}
 use Rattle.rules.specs.Calls.{answered}
-use Rattle.arbiter.specs.Fresh.{boardOf, freshState}
+use Rattle.boards.specs.Fresh.{boardOf, freshState}
 use Rattle.registers.specs.declared.Block.{Block}
 use Rattle.registers.specs.Registers.{pendingIn, raised, lineOf}
 use Rattle.commands.specs.Commands.{commandCall, WriteAnswer, registerWrite}

@@ -7,7 +7,7 @@ use lib.ListN.{length, getD}
 use Rattle.masks.specs.Sets.{bit}
 use Rattle.plans.specs.declared.Plan.{Plan}
 use Rattle.states.specs.declared.Board.{Board}
-use Rattle.arbiter.specs.Fresh.{boardOf, freshState}
+use Rattle.boards.specs.Fresh.{boardOf, freshState}
 use Rattle.registers.specs.Registers.{pendingIn, lineOf}
 use Rattle.runs.specs.Events.{events}
 use Rattle.runs.specs.Claim.{WholeRuns}

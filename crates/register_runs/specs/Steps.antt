@@ -10,7 +10,7 @@ use Rattle.calls.specs.Replies.{Response, refusedWith}
 use Rattle.states.specs.declared.Board.{Board}
 use Rattle.states.specs.declared.State.{State}
 use Rattle.rules.specs.Calls.{answered}
-use Rattle.arbiter.specs.Fresh.{freshState}
+use Rattle.boards.specs.Fresh.{freshState}
 use Rattle.registers.specs.declared.Block.{Block}
 use Rattle.registers.specs.Registers.{refusalIn, lateIn, grantedIn, entitledIn}
 use Rattle.commands.specs.Commands.{commandCall, registerWrite}

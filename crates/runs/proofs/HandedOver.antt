@@ -12,7 +12,7 @@ use Rattle.states.specs.Requests.{isHolding, isEntitled, isWaiting, cleaned}
 use Rattle.states.specs.Faults.{issueFault, completeFault, handoverFault}
 use Rattle.rules.specs.Acts.{putIn, putLast, takenOut, stamped}
 use Rattle.rules.specs.Calls.{putState, takenState, done, settledDone, issued, left, completed, both, handedOver}
-use Rattle.arbiter.specs.Fresh.{boardOf, freshState}
+use Rattle.boards.specs.Fresh.{boardOf, freshState}
 use Rattle.runs.specs.Events.{events}
 use Rattle.runs.specs.History.{never, at, allActing, countedIn}
 use Rattle.runs.specs.Claim.{historyOf}

@@ -15,7 +15,7 @@ use Rattle.states.specs.Requests.{isHolding, isEntitled, isWaiting, cleaned}
 use Rattle.states.specs.Faults.{issueFault, completeFault}
 use Rattle.rules.specs.Acts.{putIn, putLast, takenOut, stamped}
 use Rattle.rules.specs.Calls.{putState, takenState, done, settledDone, issued, left, completed}
-use Rattle.arbiter.specs.Fresh.{boardOf, freshState}
+use Rattle.boards.specs.Fresh.{boardOf, freshState}
 use Rattle.runs.specs.Events.{Event, events}
 
 unfoldable pub read : ℕ → ℕ → Entry

@@ -11,7 +11,7 @@ use Rattle.states.specs.Requests.{isHolding, isEntitled, isWaiting, cleaned}
 use Rattle.states.specs.Faults.{issueFault, completeFault, withdrawFault}
 use Rattle.rules.specs.Acts.{putIn, putLast, takenOut, stamped}
 use Rattle.rules.specs.Calls.{putState, takenState, done, settledDone, issued, left, completed, withdrawn}
-use Rattle.arbiter.specs.Fresh.{boardOf}
+use Rattle.boards.specs.Fresh.{boardOf}
 use Rattle.runs.specs.Events.{events}
 use Rattle.runs.specs.History.{When, never, at, Request, History, allActing, countedIn, waitOf}
 use Rattle.runs.specs.Claim.{historyOf}

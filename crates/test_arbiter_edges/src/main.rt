@@ -97,7 +97,7 @@ fn plan(processors: u8) -> Plan {
 
 // Clauses 2.3 and 4.5: plans of 1, 16, 17 and 32 processors, and none of 0 or 33; the highest issues, the next is refused.
 fn counts(processors: u8) {
-    let fresh = arbiter::fresh_of(plan(processors));
+    let fresh = boards::fresh_of(plan(processors));
     let verdict = fresh.verdict;
     match verdict {
         Verdict::Refused(refusal) => print_refusal(refusal),
@@ -269,7 +269,7 @@ fn main() {
     counts(17);
     counts(32);
     counts(33);
-    let fresh = arbiter::fresh_of(plan(4));
+    let fresh = boards::fresh_of(plan(4));
     let board = fresh.board;
     let state = fresh.state;
     ticks(board, state);

@@ -134,7 +134,7 @@ fn print_scratches(board: Board, state: State) {
 }
 
 fn main() {
-    let fresh = arbiter::fresh_of(plan(4));
+    let fresh = boards::fresh_of(plan(4));
     let board = fresh.board;
     let start = fresh.state;
     let state = four_calls(board, start);

@@ -35,7 +35,7 @@ fn print_board(
     short: &mut [u8],
     scratch: &mut [u8],
 ) {
-    let fresh = arbiter::fresh_of(plan(processors));
+    let fresh = boards::fresh_of(plan(processors));
     let board = fresh.board;
     let start = fresh.state;
     let state = three_calls(board, start, last);

@@ -15,7 +15,7 @@ use Rattle.states.specs.declared.Board.{Board}
 use Rattle.states.specs.declared.State.{State}
 use Rattle.calls.specs.Calls.{Fields, callOf}
 use Rattle.rules.specs.Calls.{answered}
-use Rattle.arbiter.specs.Fresh.{boardOf, freshState}
+use Rattle.boards.specs.Fresh.{boardOf, freshState}
 use Rattle.logs.specs.Records.{countSize, recordSize, readCount, recordFault}
 use Rattle.listings.specs.Lines.{firstLine, callLine}
 use Rattle.replay.proofs.Records.{Found, found, lineIn, stateIn}

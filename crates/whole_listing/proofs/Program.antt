@@ -17,7 +17,7 @@ use Rattle.plans.specs.Reading.{readFault, readSays, planRead}
 use Rattle.plans.proofs.RoundTrip.{read-is-accepted}
 use Rattle.states.specs.declared.Board.{Board}
 use Rattle.states.specs.declared.State.{State}
-use Rattle.arbiter.specs.Fresh.{boardOf, freshBoard, freshState}
+use Rattle.boards.specs.Fresh.{boardOf, freshBoard, freshState}
 use Rattle.logs.specs.Records.{countSize, readCount}
 use Rattle.lines.specs.Lines.{refusalLine}
 use Rattle.listings.specs.Lines.{firstLine}

@@ -8,7 +8,7 @@ use lib.ListN.{length, take, drop}
 use Rattle.plans.specs.Reading.{readSays, planRead}
 use Rattle.states.specs.declared.Board.{Board}
 use Rattle.states.specs.declared.State.{State}
-use Rattle.arbiter.specs.Fresh.{freshState, freshBoard}
+use Rattle.boards.specs.Fresh.{freshState, freshBoard}
 use Rattle.logs.specs.Records.{countSize, recordSize, readCount}
 use Rattle.log_input.specs.Stages.{isShort, dueSize}
 use Rattle.replay.specs.Blocks.{ran, budget, goingOn}

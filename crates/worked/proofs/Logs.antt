@@ -14,7 +14,7 @@ use Rattle.states.specs.Requests.{isHolding, isEntitled, isWaiting, cleaned}
 use Rattle.states.specs.Faults.{issueFault, completeFault, withdrawFault, handoverFault}
 use Rattle.rules.specs.Acts.{putIn, putLast, takenOut, stamped}
 use Rattle.rules.specs.Calls.{putState, takenState, done, settledDone, issued, left, completed, withdrawn, both, handedOver}
-use Rattle.arbiter.specs.Fresh.{boardOf}
+use Rattle.boards.specs.Fresh.{boardOf}
 use Rattle.logs.specs.Records.{fieldsIn, recordFault}
 use Rattle.digits.specs.Digits.{digits, maskIn}
 use Rattle.lines.specs.Lines.{furtherFields, refusalLine}

@@ -1,7 +1,7 @@
 -- `bittmelon_fresh_parts` meets its contract: what was read decides what is left. Assumes nothing.
 use mathlib.Core.Path.{ap, _∙_}
 use borrow.Author.Needs.{needs}
-use Rattle.arbiter.specs.Fresh.{freshBoard}
+use Rattle.boards.specs.Fresh.{freshBoard}
 use Rattle.c_fresh.proofs.Outcomes.{refused-told, board-kept, state-kept, read-told, board-made, state-made}
 use Rattle.c_fresh.proofs.bittmelon_fresh_parts.Statement.{statement}
 use Rattle.c_fresh.proofs.bittmelon_fresh_parts.Tie as tie

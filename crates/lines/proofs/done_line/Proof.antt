@@ -1,79 +1,83 @@
 -- `done_line` meets its contract. Assumes nothing.
 use native.Mathlib.Omega.{arith}
 use Rattle.plans.specs.Entries.{maskSizeFor}
-use Rattle.digits.specs.Digits.{maskBy}
-use Rattle.lines.specs.Lines.{fieldsLine, doneFields}
-use Rattle.lines.proofs.Lengths.{most-bytes, done-size, lead-length}
-use Rattle.lines.proofs.Room.{no-room, room}
-use Rattle.lines.proofs.Stores.{call-stored}
+use Rattle.digits.proofs.Placed.{fields-stored}
+use Rattle.number_fields.specs.Fields.{lastField, callLead}
+use Rattle.mask_fields.specs.Fields.{maskFields}
+use Rattle.mask_fields.proofs.MaskLengths.{most-bytes}
+use Rattle.lines.proofs.Parts.{doneTail, done-parts, some-lead, done-tail-length}
+use Rattle.lines.proofs.Room.{no-line, line-fits, led-all, rest-fits, whole-line}
+use mathlib.Core.List.{[], _∷_}
 use borrow.Author.Needs.{needs}
 use Rattle.lines.proofs.done_line.Statement.{statement}
 use Rattle.lines.proofs.done_line.Tie as tie
 
-mul-masks : tie.Need-mul-masks
-mul-masks c = omega (arith, c .mask-size .ensures, most-bytes (c .before .before .before .before .args .processors))
+mul-more : tie.Need-mul-more
+mul-more c = omega (arith, c .mask-size .ensures, most-bytes (c .before .before .before .args .processors))
 
-add-needed : tie.Need-add-needed
-add-needed c = omega (arith, c .mask-size .ensures, most-bytes (c .before .before .before .before .args .processors))
+add-more : tie.Need-add-more
+add-more c = omega (arith, c .mask-size .ensures, most-bytes (c .before .before .before .args .processors))
 
-add-needed-2 : tie.Need-add-needed-2
-add-needed-2 c = omega (arith, c .mask-size .ensures, most-bytes (c .before .before .before .before .args .processors))
+add-more-2 : tie.Need-add-more-2
+add-more-2 c = omega (arith, c .before .mask-size .ensures, c .byte-digits .ensures .1, most-bytes (c .before .before .before .before .args .processors))
 
-add-needed-3 : tie.Need-add-needed-3
-add-needed-3 c = omega (arith, c .before .mask-size .ensures, most-bytes (c .before .before .before .before .before .args .processors))
-
-add-needed-4 : tie.Need-add-needed-4
-add-needed-4 c = omega (arith, c .before .before .mask-size .ensures, most-bytes (c .before .before .before .before .before .before .args .processors))
-
-write-call-requires : tie.Need-write-call-requires
-write-call-requires c κs =
-    let asked = c .before .before in
-    (asked .before .before .before .before .digit-count .ensures .0, omega (arith, asked .before .before .before .mask-size .ensures, asked .has-room .ensures .1 (c .before .if1 .taken)))
-
-write-done-requires : tie.Need-write-done-requires
-write-done-requires c κs =
-    let asked = c .before .before .before .before .before .before in
-    let a = asked .before .before .before .before .before .before .before .args in
-    omega (arith, asked .before .before .before .mask-size .ensures, lead-length (a .letter) (a .processor) (a .tick), asked .has-room .ensures .1 (c .before .before .before .before .before .if1 .taken))
+cast-put-lead : tie.Need-cast-put-lead
+cast-put-lead c = omega (arith, c .before .mask-size .ensures, c .byte-digits .ensures .1, most-bytes (c .before .before .before .before .args .processors))
 
 returns : tie.Need-returns
 returns c =
-    let done = c .before .before in
-    let called = done .before .before .before .before in
-    let asked = called .before .before .before in
-    let sized = asked .before .before .before in
-    let counted = sized .before in
-    let a = counted .before .before .before .args in
-    let size = done-size (a .letter) (a .processor) (a .tick) _ _ _ (counted .digit-count .ensures .0) (asked .before .before .digit-count2 .ensures .0) (a .pairs .now) (maskSizeFor (a .processors)) _ (a .granted) (a .entitled) (a .late) (sized .mask-size .ensures) (asked .before .digit-count3 .ensures .0) in
-    room (fieldsLine (a .letter) (a .processor) (a .tick) (doneFields (maskBy (a .pairs .now) (maskSizeFor (a .processors))) (a .granted) (a .entitled) (a .late))) _ _ _ _ size
-    (asked .has-room .ensures .0) _ _ (called .before .before .if1 .taken)
-    (call-stored (a .letter) (a .processor) (a .tick) (doneFields (maskBy (a .pairs .now) (maskSizeFor (a .processors))) (a .granted) (a .entitled) (a .late)) (called .write-call .ensures) (done .write-done .ensures))
+    let led = c .before .before .before in
+    let a = led .before .before .before .before .before .before .args in
+    rw (done-parts (a .letter) (a .processor) (a .tick) (a .pairs .now) (maskSizeFor (a .processors)) (a .granted) (a .entitled) (a .late))
+    (no-line (callLead (a .letter) (a .processor) (a .tick)) (doneTail (a .pairs .now) (maskSizeFor (a .processors)) (a .granted) (a .entitled) (a .late)) (a .buffer .now) (a .at) _ _ (some-lead (a .letter) (a .processor) (a .tick)) (done-tail-length (a .pairs .now) (maskSizeFor (a .processors)) _ (a .granted) (a .entitled) (a .late) _ (led .before .before .before .mask-size .ensures) (led .before .before .byte-digits .ensures .0)) (led .put-lead .ensures .0) (c .if1 .taken) _ (led .put-lead .ensures .1))
+
+add-second : tie.Need-add-second
+add-second c =
+    let led = c .before .before .before in
+    let a = led .before .before .before .before .before .before .args in
+    omega (arith, c .before .before .before .before .before .before .before .before .before .good .1 .1 .1 .1 .1 .1 .1 .1 .0, line-fits (callLead (a .letter) (a .processor) (a .tick)) (doneTail (a .pairs .now) (maskSizeFor (a .processors)) (a .granted) (a .entitled) (a .late)) (a .buffer .now) (a .at) _ _ (some-lead (a .letter) (a .processor) (a .tick)) (done-tail-length (a .pairs .now) (maskSizeFor (a .processors)) _ (a .granted) (a .entitled) (a .late) _ (led .before .before .before .mask-size .ensures) (led .before .before .byte-digits .ensures .0)) (led .put-lead .ensures .0) (c .if1 .left), led-all (callLead (a .letter) (a .processor) (a .tick)) (doneTail (a .pairs .now) (maskSizeFor (a .processors)) (a .granted) (a .entitled) (a .late)) (a .buffer .now) (a .at) _ _ (some-lead (a .letter) (a .processor) (a .tick)) (done-tail-length (a .pairs .now) (maskSizeFor (a .processors)) _ (a .granted) (a .entitled) (a .late) _ (led .before .before .before .mask-size .ensures) (led .before .before .byte-digits .ensures .0)) (led .put-lead .ensures .0) (c .if1 .left))
+
+add-third : tie.Need-add-third
+add-third c =
+    let led = c .before .before .before .before .before .before .before in
+    let a = led .before .before .before .before .before .before .args in
+    omega (arith, c .before .before .before .before .before .before .before .before .before .before .before .before .before .good .1 .1 .1 .1 .1 .1 .1 .1 .0, c .before .before .put-masks .ensures .1 .1, line-fits (callLead (a .letter) (a .processor) (a .tick)) (doneTail (a .pairs .now) (maskSizeFor (a .processors)) (a .granted) (a .entitled) (a .late)) (a .buffer .now) (a .at) _ _ (some-lead (a .letter) (a .processor) (a .tick)) (done-tail-length (a .pairs .now) (maskSizeFor (a .processors)) _ (a .granted) (a .entitled) (a .late) _ (led .before .before .before .mask-size .ensures) (led .before .before .byte-digits .ensures .0)) (led .put-lead .ensures .0) (c .before .before .before .before .if1 .left), led-all (callLead (a .letter) (a .processor) (a .tick)) (doneTail (a .pairs .now) (maskSizeFor (a .processors)) (a .granted) (a .entitled) (a .late)) (a .buffer .now) (a .at) _ _ (some-lead (a .letter) (a .processor) (a .tick)) (done-tail-length (a .pairs .now) (maskSizeFor (a .processors)) _ (a .granted) (a .entitled) (a .late) _ (led .before .before .before .mask-size .ensures) (led .before .before .byte-digits .ensures .0)) (led .put-lead .ensures .0) (c .before .before .before .before .if1 .left), led .before .before .before .mask-size .ensures)
+
+add-t16 : tie.Need-add-t16
+add-t16 c =
+    let led = c .before .before .before .before .before .before .before .before .before .before .before .before in
+    let a = led .before .before .before .before .before .before .args in
+    omega (arith, c .before .before .before .before .before .before .before .before .before .before .before .before .before .before .before .before .before .before .good .1 .1 .1 .1 .1 .1 .1 .1 .0, line-fits (callLead (a .letter) (a .processor) (a .tick)) (doneTail (a .pairs .now) (maskSizeFor (a .processors)) (a .granted) (a .entitled) (a .late)) (a .buffer .now) (a .at) _ _ (some-lead (a .letter) (a .processor) (a .tick)) (done-tail-length (a .pairs .now) (maskSizeFor (a .processors)) _ (a .granted) (a .entitled) (a .late) _ (led .before .before .before .mask-size .ensures) (led .before .before .byte-digits .ensures .0)) (led .put-lead .ensures .0) (c .before .before .before .before .before .before .before .before .before .if1 .left), led-all (callLead (a .letter) (a .processor) (a .tick)) (doneTail (a .pairs .now) (maskSizeFor (a .processors)) (a .granted) (a .entitled) (a .late)) (a .buffer .now) (a .at) _ _ (some-lead (a .letter) (a .processor) (a .tick)) (done-tail-length (a .pairs .now) (maskSizeFor (a .processors)) _ (a .granted) (a .entitled) (a .late) _ (led .before .before .before .mask-size .ensures) (led .before .before .byte-digits .ensures .0)) (led .put-lead .ensures .0) (c .before .before .before .before .before .before .before .before .before .if1 .left))
 
 returns-2 : tie.Need-returns-2
 returns-2 c =
-    let sized = c .before .before .before .before in
-    let counted = sized .before in
-    let a = counted .before .before .before .args in
-    let size = done-size (a .letter) (a .processor) (a .tick) _ _ _ (counted .digit-count .ensures .0) (c .before .before .before .digit-count2 .ensures .0) (a .pairs .now) (maskSizeFor (a .processors)) _ (a .granted) (a .entitled) (a .late) (sized .mask-size .ensures) (c .before .before .digit-count3 .ensures .0) in
-    no-room (fieldsLine (a .letter) (a .processor) (a .tick) (doneFields (maskBy (a .pairs .now) (maskSizeFor (a .processors))) (a .granted) (a .entitled) (a .late))) _ _ _ _ size
-    (c .before .has-room .ensures .0) (c .if1 .left)
+    let led = c .before .before .before .before .before .before .before .before .before .before .before .before in
+    let a = led .before .before .before .before .before .before .args in
+    let masks = c .before .before .before .before .before .before .before in
+    let rest = rest-fits (callLead (a .letter) (a .processor) (a .tick)) (doneTail (a .pairs .now) (maskSizeFor (a .processors)) (a .granted) (a .entitled) (a .late)) (a .buffer .now) (a .at) _ _ (some-lead (a .letter) (a .processor) (a .tick)) (done-tail-length (a .pairs .now) (maskSizeFor (a .processors)) _ (a .granted) (a .entitled) (a .late) _ (led .before .before .before .mask-size .ensures) (led .before .before .byte-digits .ensures .0)) (led .put-lead .ensures .0) (c .before .before .before .before .before .before .before .before .before .if1 .left) _ (led .put-lead .ensures .1) in
+    rw (done-parts (a .letter) (a .processor) (a .tick) (a .pairs .now) (maskSizeFor (a .processors)) (a .granted) (a .entitled) (a .late))
+    (whole-line (callLead (a .letter) (a .processor) (a .tick)) (doneTail (a .pairs .now) (maskSizeFor (a .processors)) (a .granted) (a .entitled) (a .late)) (a .buffer .now) (a .at) _ _ (some-lead (a .letter) (a .processor) (a .tick)) (done-tail-length (a .pairs .now) (maskSizeFor (a .processors)) _ (a .granted) (a .entitled) (a .late) _ (led .before .before .before .mask-size .ensures) (led .before .before .byte-digits .ensures .0)) (led .put-lead .ensures .0) (c .before .before .before .before .before .before .before .before .before .if1 .left) _ (led .put-lead .ensures .1) _ _
+    (fields-stored (maskFields (a .pairs .now) (maskSizeFor (a .processors)) (a .granted) (a .entitled)) (lastField (32 ∷ []) (a .late)) _ _
+    rest (masks .put-masks .ensures .0) (masks .put-masks .ensures .1 .0) (c .before .before .put-last .ensures .0) (c .before .before .put-last .ensures .1)))
 
 pub done-line-spec : {M : Type 1} → statement M
 done-line-spec =
     tie.close
     (tie.spec
     (λ c κs. search needs)
+    mul-more
+    add-more
     (λ c κs. search needs)
-    mul-masks
-    add-needed
-    add-needed-2
+    add-more-2
+    cast-put-lead
     (λ c κs. search needs)
-    add-needed-3
-    (λ c κs. search needs)
-    add-needed-4
-    (λ c κs. search needs)
-    write-call-requires
-    write-done-requires
     (λ c. search needs)
     returns
+    add-second
+    (λ c κs. search needs)
+    add-third
+    (λ c. search needs)
+    (λ c κs. search needs)
+    add-t16
+    (λ c. search needs)
     returns-2)

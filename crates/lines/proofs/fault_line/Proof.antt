@@ -1,36 +1,30 @@
 -- `fault_line` meets its contract. Assumes nothing.
-use native.Mathlib.Omega.{arith}
-use Rattle.lines.specs.Lines.{furtherFields, refusalLine}
-use Rattle.lines.proofs.Lengths.{fault-size}
-use Rattle.lines.proofs.Room.{no-room, room}
+use mathlib.Core.List.{[], _∷_, _++_}
+use Rattle.number_fields.specs.Fields.{lastField}
+use Rattle.lines.specs.Lines.{refusedWord}
+use Rattle.lines.proofs.Parts.{fault-parts, some-fault}
+use Rattle.lines.proofs.Room.{no-field-line, field-line}
 use borrow.Author.Needs.{needs}
 use Rattle.lines.proofs.fault_line.Statement.{statement}
 use Rattle.lines.proofs.fault_line.Tie as tie
 
-write-last-requires : tie.Need-write-last-requires
-write-last-requires c κs = omega (arith, c .before .before .before .has-room .ensures .1 (c .before .before .if1 .taken))
-
 returns : tie.Need-returns
-unfolding refusalLine furtherFields
 returns c =
-    let asked = c .before .before .before .before .before .before in
-    let n = asked .before .before .before .args .number in
-    room (refusalLine n) _ _ _ _ (fault-size n _ (asked .before .digit-count .ensures .0)) (asked .has-room .ensures .0) _ _ (c .before .before .before .before .before .if1 .taken) (c .before .before .write-last .ensures)
+    rw (fault-parts (c .before .before .before .before .before .before .before .args .number))
+    (no-field-line (lastField (refusedWord ++ (32 ∷ [])) (c .before .before .before .before .before .before .before .args .number)) (c .before .before .before .before .before .before .before .args .buffer .now) _ (c .before .before .before .before .before .before .before .args .at) _ (some-fault (c .before .before .before .before .before .before .before .args .number)) (c .before .before .before .put-last .ensures .0) (c .before .before .before .put-last .ensures .1) (c .if1 .taken))
 
 returns-2 : tie.Need-returns-2
 returns-2 c =
-    let n = c .before .before .before .before .args .number in
-    no-room (refusalLine n) _ _ _ _ (fault-size n _ (c .before .before .digit-count .ensures .0)) (c .before .has-room .ensures .0) (c .if1 .left)
+    rw (fault-parts (c .before .before .before .before .before .before .before .args .number))
+    (field-line (lastField (refusedWord ++ (32 ∷ [])) (c .before .before .before .before .before .before .before .args .number)) (c .before .before .before .before .before .before .before .args .buffer .now) _ (c .before .before .before .before .before .before .before .args .at) _ (some-fault (c .before .before .before .before .before .before .before .args .number)) (c .before .before .before .put-last .ensures .0) (c .before .before .before .put-last .ensures .1) (c .if1 .left))
 
 pub fault-line-spec : {M : Type 1} → statement M
 fault-line-spec =
     tie.close
     (tie.spec
-    (λ c κs. search needs)
     (λ c. search needs)
     (λ c κs. search needs)
-    (λ c. search needs)
-    write-last-requires
     (λ c. search needs)
     returns
+    (λ c. search needs)
     returns-2)

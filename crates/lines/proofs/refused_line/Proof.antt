@@ -1,45 +1,53 @@
 -- `refused_line` meets its contract. Assumes nothing.
 use native.Mathlib.Omega.{arith}
-use Rattle.lines.specs.Lines.{furtherFields}
-use Rattle.lines.specs.Lines.{fieldsLine, refusedFields}
-use Rattle.lines.proofs.Lengths.{refused-size, lead-length}
-use Rattle.lines.proofs.Room.{no-room, room}
-use Rattle.lines.proofs.Stores.{call-stored}
+use Rattle.digits.proofs.Placed.{field-stored}
+use Rattle.number_fields.specs.Fields.{callLead}
+use Rattle.lines.proofs.Parts.{refusedTail, refused-parts, some-lead, refused-tail-length}
+use Rattle.lines.proofs.Room.{no-line, line-fits, led-all, rest-fits, whole-line}
 use borrow.Author.Needs.{needs}
 use Rattle.lines.proofs.refused_line.Statement.{statement}
 use Rattle.lines.proofs.refused_line.Tie as tie
 
-write-call-requires : tie.Need-write-call-requires
-write-call-requires c κs =
-    let asked = c .before .before in
-    (asked .before .before .before .digit-count .ensures .0, omega (arith, asked .has-room .ensures .1 (c .before .if1 .taken)))
-
-write-last-requires : tie.Need-write-last-requires
-write-last-requires c κs =
-    let asked = c .before .before .before .before .before .before .before in
-    let a = asked .before .before .before .before .before .args in
-    omega (arith, lead-length (a .letter) (a .processor) (a .tick), asked .has-room .ensures .1 (c .before .before .before .before .before .before .if1 .taken))
-
 returns : tie.Need-returns
-unfolding furtherFields
 returns c =
-    let last = c .before .before in
-    let called = last .before .before .before .before .before in
-    let asked = called .before .before .before in
-    let counted = asked .before .before .before in
-    let a = counted .before .before .args in
-    let size = refused-size (a .letter) (a .processor) (a .tick) _ _ _ (counted .digit-count .ensures .0) (asked .before .before .digit-count2 .ensures .0) (a .number) (asked .before .digit-count3 .ensures .0) in
-    room (fieldsLine (a .letter) (a .processor) (a .tick) (refusedFields (a .number))) _ _ _ _ size
-    (asked .has-room .ensures .0) _ _ (called .before .before .if1 .taken)
-    (call-stored (a .letter) (a .processor) (a .tick) (refusedFields (a .number)) (called .write-call .ensures) (last .write-last .ensures))
+    let led = c .before .before .before in
+    let a = led .before .before .before .before .args in
+    rw (refused-parts (a .letter) (a .processor) (a .tick) (a .number))
+    (no-line (callLead (a .letter) (a .processor) (a .tick)) (refusedTail (a .number)) (a .buffer .now) (a .at) _ _ (some-lead (a .letter) (a .processor) (a .tick))
+    (refused-tail-length (a .number) _ (led .before .before .byte-digits .ensures .0)) (led .put-lead .ensures .0) (c .if1 .taken) _ (led .put-lead .ensures .1))
+
+add-put-last : tie.Need-add-put-last
+add-put-last c =
+    let led = c .before .before .before .before .before in
+    let a = led .before .before .before .before .args in
+    omega (
+      arith,
+      rest-fits (callLead (a .letter) (a .processor) (a .tick)) (refusedTail (a .number)) (a .buffer .now) (a .at) _ _ (some-lead (a .letter) (a .processor) (a .tick))
+          (refused-tail-length (a .number) _ (led .before .before .byte-digits .ensures .0)) (led .put-lead .ensures .0) (c .before .before .if1 .left) _ (led .put-lead .ensures .1),
+    )
+
+add-t10 : tie.Need-add-t10
+add-t10 c =
+    let led = c .before .before .before .before .before .before .before .before in
+    let a = led .before .before .before .before .args in
+    omega (
+      arith,
+      led .before .before .byte-digits .ensures .1,
+      rest-fits (callLead (a .letter) (a .processor) (a .tick)) (refusedTail (a .number)) (a .buffer .now) (a .at) _ _ (some-lead (a .letter) (a .processor) (a .tick))
+          (refused-tail-length (a .number) _ (led .before .before .byte-digits .ensures .0)) (led .put-lead .ensures .0) (c .before .before .before .before .before .if1 .left) _ (led .put-lead .ensures .1),
+      refused-tail-length (a .number) _ (led .before .before .byte-digits .ensures .0),
+    )
 
 returns-2 : tie.Need-returns-2
 returns-2 c =
-    let counted = c .before .before .before .before in
-    let a = counted .before .before .args in
-    let size = refused-size (a .letter) (a .processor) (a .tick) _ _ _ (counted .digit-count .ensures .0) (c .before .before .before .digit-count2 .ensures .0) (a .number) (c .before .before .digit-count3 .ensures .0) in
-    no-room (fieldsLine (a .letter) (a .processor) (a .tick) (refusedFields (a .number))) _ _ _ _ size
-    (c .before .has-room .ensures .0) (c .if1 .left)
+    let led = c .before .before .before .before .before .before .before .before in
+    let a = led .before .before .before .before .args in
+    let rest = rest-fits (callLead (a .letter) (a .processor) (a .tick)) (refusedTail (a .number)) (a .buffer .now) (a .at) _ _ (some-lead (a .letter) (a .processor) (a .tick))
+    (refused-tail-length (a .number) _ (led .before .before .byte-digits .ensures .0)) (led .put-lead .ensures .0) (c .before .before .before .before .before .if1 .left) _ (led .put-lead .ensures .1) in
+    rw (refused-parts (a .letter) (a .processor) (a .tick) (a .number))
+    (whole-line (callLead (a .letter) (a .processor) (a .tick)) (refusedTail (a .number)) (a .buffer .now) (a .at) _ _ (some-lead (a .letter) (a .processor) (a .tick))
+    (refused-tail-length (a .number) _ (led .before .before .byte-digits .ensures .0)) (led .put-lead .ensures .0) (c .before .before .before .before .before .if1 .left) _ (led .put-lead .ensures .1)
+    _ _ (field-stored (refusedTail (a .number)) _ _ rest (c .before .before .put-last .ensures .0) (c .before .before .put-last .ensures .1)))
 
 pub refused-line-spec : {M : Type 1} → statement M
 refused-line-spec =
@@ -47,14 +55,13 @@ refused-line-spec =
     (tie.spec
     (λ c κs. search needs)
     (λ c. search needs)
-    (λ c κs. search needs)
     (λ c. search needs)
     (λ c κs. search needs)
-    (λ c. search needs)
-    (λ c κs. search needs)
-    write-call-requires
-    (λ c. search needs)
-    write-last-requires
     (λ c. search needs)
     returns
+    (λ c. search needs)
+    add-put-last
+    (λ c κs. search needs)
+    add-t10
+    (λ c. search needs)
     returns-2)

@@ -1,7 +1,7 @@
 -- `log_ends::begin` meets its contract, the plan and its outcome are those that were read. Assumes nothing.
 use mathlib.Core.Path.{ap, _∙_}
 use Rattle.refusals.specs.Due.{Said}
-use Rattle.arbiter.specs.Fresh.{freshBoard}
+use Rattle.boards.specs.Fresh.{freshBoard}
 use borrow.Author.Needs.{needs}
 use Rattle.log_ends.proofs.begin.Statement.{statement}
 use Rattle.log_ends.proofs.begin.Tie as tie

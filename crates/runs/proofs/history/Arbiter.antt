@@ -10,7 +10,7 @@ use Rattle.settling.specs.Requests.{conflicts}
 use Rattle.states.specs.declared.Board.{Board}
 use Rattle.states.specs.declared.State.{State}
 use Rattle.rules.specs.Calls.{factsOf}
-use Rattle.arbiter.specs.Fresh.{freshState}
+use Rattle.boards.specs.Fresh.{freshState}
 use Rattle.runs.specs.History.{Act}
 use Rattle.runs.proofs.history.Keeps.{KeptTo, WaitsTo}
 use Rattle.runs.proofs.columns.Columns.{holding}

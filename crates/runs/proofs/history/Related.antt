@@ -11,7 +11,7 @@ use lib.Seq.{getD-append-seam}
 use Rattle.plans.specs.Entries.{slots}
 use Rattle.states.specs.declared.Board.{Board}
 use Rattle.states.specs.declared.State.{State}
-use Rattle.arbiter.specs.Fresh.{freshState}
+use Rattle.boards.specs.Fresh.{freshState}
 use Rattle.runs.specs.History.{never, Request, History, Act, puts, takes, arrival, acting, granting, ending, nothing, waitOf}
 use Rattle.runs.specs.Claim.{request}
 use Rattle.runs.proofs.history.Cases.{by-processor, below-or-past, length-more, getD-map}

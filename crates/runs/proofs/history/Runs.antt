@@ -13,7 +13,7 @@ use Rattle.calls.specs.Calls.{tickOf}
 use Rattle.states.specs.declared.Board.{Board}
 use Rattle.states.specs.declared.State.{State}
 use Rattle.rules.specs.Calls.{both, answered}
-use Rattle.arbiter.specs.Fresh.{freshState}
+use Rattle.boards.specs.Fresh.{freshState}
 use Rattle.runs.specs.Events.{events}
 use Rattle.runs.specs.History.{History, Act, puts, takes, allActing, counting, countedIn, nothing, holds}
 use Rattle.runs.specs.Claim.{request}

@@ -10,7 +10,7 @@ use Rattle.plans.specs.Entries.{mostEntries, isWrite, entryAt}
 use Rattle.plans.specs.Acceptance.{planFault}
 use Rattle.plans.proofs.Accepted.{accepted-count}
 use Rattle.calls.specs.declared.Call.{Call}
-use Rattle.arbiter.specs.Fresh.{boardOf, freshState}
+use Rattle.boards.specs.Fresh.{boardOf, freshState}
 use Rattle.runs.specs.History.{nothing, holdOf}
 use Rattle.runs.specs.Claim.{historyOf, request, KeepToLengths, WaitAtMost, GroupRuns}
 use Rattle.runs.proofs.refinement.Board.{length-on-board, write-on-board, conflict-on-board}

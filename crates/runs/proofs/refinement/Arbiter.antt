@@ -12,7 +12,7 @@ use Rattle.settling.specs.Requests.{isWriter}
 use Rattle.states.specs.declared.Board.{Board}
 use Rattle.states.specs.declared.State.{State}
 use Rattle.rules.specs.Calls.{factsOf}
-use Rattle.arbiter.specs.Fresh.{boardOf, freshState}
+use Rattle.boards.specs.Fresh.{boardOf, freshState}
 use Rattle.runs.specs.History.{Act}
 use Rattle.runs.specs.Claim.{Closed, LengthsAtMost}
 use Rattle.runs.proofs.history.Keeps.{WaitsTo}

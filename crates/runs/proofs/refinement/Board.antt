@@ -23,7 +23,7 @@ use Rattle.conflicts.proofs.Bridge.{both-counted, conflict-symmetric, reads-nev
 use Rattle.conflicts.proofs.Rows.{bit-row, row-below}
 use Rattle.conflicts.proofs.Accepted.{read-or-write}
 use Rattle.settling.specs.Requests.{isWriter, conflicts}
-use Rattle.arbiter.specs.Fresh.{boardOf}
+use Rattle.boards.specs.Fresh.{boardOf}
 use Rattle.states.specs.declared.Board.{Board}
 use Rattle.states.specs.declared.State.{State}
 use Rattle.rules.specs.Calls.{factsOf}

@@ -12,7 +12,7 @@ use Rattle.states.specs.declared.Board.{Board}
 use Rattle.states.specs.declared.State.{State}
 use Rattle.states.specs.Requests.{inPlan, isHolding, isEntitled, isWaiting, cleaned}
 use Rattle.rules.specs.Calls.{phasesOf}
-use Rattle.arbiter.specs.Fresh.{freshState}
+use Rattle.boards.specs.Fresh.{freshState}
 use Rattle.runs.proofs.columns.Columns.{Phase, idle}
 use Rattle.runs.proofs.columns.Phases.{clash}
 use Rattle.runs.proofs.refinement.State.{three, bitsAt, bitsOf, phaseOf, Tidy, inactive-idle}

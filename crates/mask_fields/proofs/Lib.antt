@@ -1,0 +1,2 @@
+pub mod MaskLengths
+pub mod Stores
