@@ -15,7 +15,7 @@ use Rattle.states.specs.declared.State.{State}
 use Rattle.rules.specs.Calls.{Answer, answered}
 use Rattle.registers.specs.declared.Block.{Block}
 use Rattle.registers.specs.declared.Register.{Register}
-use Rattle.registers.specs.Registers.{registerAt, processorIn, entryIn, tickIn, pendingIn, withLine, writeFault, stored}
+use Rattle.registers.specs.Registers.{registerAt, processorIn, entryIn, tickIn, pendingIn, withLine, stored}
 use Rattle.commands.specs.declared.Change.{Change}
 use Rattle.commands.specs.declared.Written.{Written}
 
