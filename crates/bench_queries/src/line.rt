@@ -4,7 +4,7 @@ use encoding::byte_at;
 use plans::ENTRIES;
 use plans::Entry;
 use plans::Plan;
-use reaching::MOST_ROOM;
+use row_words::MOST_ROOM;
 use states::Board;
 use states::State;
 use wait_queries::reach;

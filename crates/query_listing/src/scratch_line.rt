@@ -2,8 +2,8 @@
 // digits. It is filled with 170 before and is 16 bytes longer than needed; these are printed too.
 use crate::board_line::print_bytes;
 use libc::STDOUT_FILENO;
-use reaching::MOST_ROOM;
-use reaching::room_of;
+use row_words::MOST_ROOM;
+use row_words::room_of;
 use states::Board;
 use states::State;
 use wait_queries::reach;

@@ -19,7 +19,7 @@ use Rattle.registers.specs.declared.Block.{Block}
 use Rattle.registers.specs.declared.Register.{Register}
 use Rattle.registers.specs.declared.Register.the-variants.{Pending}
 use Rattle.registers.specs.Registers.{registerAt, refusalIn, lateIn, grantedIn, entitledIn, pendingIn, raised, lineOf, withLine, cleared, newByte, stored}
-use Rattle.commands.specs.Commands.{withMask, joined, acceptedBlock, refusedBlock, repliedBlock}
+use Rattle.command_registers.specs.Registers.{withMask, joined, acceptedBlock, refusedBlock, repliedBlock}
 use Rattle.register_runs.specs.Steps.{replyIn}
 use Rattle.register_runs.proofs.Bytes.{bit-number, getD-slice, listed, by-elements}
 use Rattle.register_runs.proofs.Replies.{Holdable}

@@ -20,7 +20,8 @@ use Rattle.rules.specs.Calls.{answered}
 use Rattle.boards.specs.Fresh.{boardOf, freshState}
 use Rattle.registers.specs.declared.Block.{Block}
 use Rattle.registers.specs.Registers.{pendingIn, raised, lineOf}
-use Rattle.commands.specs.Commands.{commandCall, WriteAnswer, registerWrite}
+use Rattle.command_registers.specs.Registers.{commandCall}
+use Rattle.commands.specs.Commands.{WriteAnswer, registerWrite}
 use Rattle.runs.specs.Events.{Event, events}
 use Rattle.runs.proofs.refinement.WholeRuns.{whole-runs}
 use Rattle.register_runs.specs.Steps.{Step, reads, writes, calls, Device, freshDevice, stepped, after, carries, grants, clears, unanswered, callsIn, callsOf, replyIn, seenIn, seenOf, stateAfter}

@@ -13,7 +13,8 @@ use Rattle.registers.specs.declared.Block.{Block}
 use Rattle.registers.specs.declared.Register.{Register}
 use Rattle.registers.specs.declared.Register.the-variants.{Command, Argument, Answer, Pending, Enabled, Line, Unlisted}
 use Rattle.registers.specs.Registers.{registerAt, stored}
-use Rattle.commands.specs.Commands.{commandCall, unmoved, carriedOut, commanded, writtenTo, registerWrite}
+use Rattle.command_registers.specs.Registers.{commandCall}
+use Rattle.commands.specs.Commands.{unmoved, carriedOut, commanded, writtenTo, registerWrite}
 use Rattle.register_runs.specs.Steps.{carries}
 use Rattle.register_runs.proofs.Blocks.{pending-place}
 

@@ -13,7 +13,8 @@ use Rattle.rules.specs.Calls.{answered}
 use Rattle.boards.specs.Fresh.{freshState}
 use Rattle.registers.specs.declared.Block.{Block}
 use Rattle.registers.specs.Registers.{refusalIn, lateIn, grantedIn, entitledIn}
-use Rattle.commands.specs.Commands.{commandCall, registerWrite}
+use Rattle.command_registers.specs.Registers.{commandCall}
+use Rattle.commands.specs.Commands.{registerWrite}
 use Rattle.runs.specs.Events.{Event}
 
 -- Clause 10.11: a step is a read, a write, or a direct call of the arbiter on the same state.

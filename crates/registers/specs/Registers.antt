@@ -92,16 +92,6 @@ shownAt Unlisted bytes offset = 0
 unfoldable pub registerRead : Block → ℕ → Said
 registerRead block offset = said (readFault (registerAt offset)) (shownAt (registerAt offset) (block .bytes) offset)
 
--- Clause 10.5: 18 for a write to an answer, to the line, or to an offset that is not listed.
-abbrev pub writeFault : Register → ℕ
-writeFault Command = 0
-writeFault Argument = 0
-writeFault Answer = 18
-writeFault Pending = 0
-writeFault Enabled = 0
-writeFault Line = 18
-writeFault Unlisted = 18
-
 -- Clause 10.6: a one that is written clears its bit of a byte, a zero does not.
 unfoldable pub cleared : ℕ → ℕ → ℕ
 cleared old value = maskOf 8 (λ i. bit old i && not (bit value i))

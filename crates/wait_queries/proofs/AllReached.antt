@@ -20,8 +20,9 @@ use Rattle.states.specs.declared.Board.{Board}
 use Rattle.states.specs.declared.State.{State}
 use Rattle.wait_listing.specs.Listing.{listedOf}
 use Rattle.wait_listing.proofs.Sizes.{mask-size-small}
-use Rattle.reaching.specs.Rows.{rowsThrough, wordCount, wordsOf, wordsScratch}
-use Rattle.reaching.proofs.Words.{words-agree}
+use Rattle.reaching.specs.Rows.{rowsThrough}
+use Rattle.row_words.specs.Words.{wordCount, wordsOf, wordsScratch}
+use Rattle.row_words.proofs.Words.{words-agree}
 use Rattle.reaching.proofs.Through.{via, Path, step, over, rows-via, path-via, via-gives}
 use Rattle.queries.specs.Queries.{waitsFor, Chain, direct, through, reaches, maskSizeOf, scratchSize, reachBytes}
 use Rattle.queries.specs.inner.Rows.{directRows}

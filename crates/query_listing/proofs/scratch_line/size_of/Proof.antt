@@ -3,8 +3,8 @@ use Prim.Native.Nat.{_≤_}
 use native.Mathlib.Omega.{arith}
 use Rattle.plans.specs.Entries.{maskSizeFor}
 use Rattle.wait_listing.proofs.Sizes.{mask-size-small}
-use Rattle.reaching.specs.Rows.{wordsSize}
-use Rattle.reaching.proofs.Words.{words-small}
+use Rattle.row_words.specs.Words.{wordsSize}
+use Rattle.row_words.proofs.Words.{words-small}
 use borrow.Author.Needs.{needs}
 use Rattle.query_listing.proofs.scratch_line.size_of.Statement.{statement}
 use Rattle.query_listing.proofs.scratch_line.size_of.Tie as tie

@@ -1,9 +1,9 @@
 -- `accept` meets its contract: the masks one after the other, and the line. Assumes nothing.
 use native.Mathlib.Omega.{arith}
 use borrow.Author.Needs.{needs}
-use Rattle.commands.proofs.Blocks.{accepted-put}
-use Rattle.commands.proofs.accept.Statement.{statement}
-use Rattle.commands.proofs.accept.Tie as tie
+use Rattle.command_registers.proofs.Blocks.{accepted-put}
+use Rattle.command_registers.proofs.accept.Statement.{statement}
+use Rattle.command_registers.proofs.accept.Tie as tie
 
 third-requires : tie.Need-put-mask-requires-3
 third-requires c κs = search needs

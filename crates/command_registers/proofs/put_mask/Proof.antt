@@ -2,9 +2,9 @@
 use mathlib.Core.Path.{_∙_}
 use native.Mathlib.Omega.{arith}
 use borrow.Author.Needs.{needs}
-use Rattle.commands.proofs.Blocks.{mask-put}
-use Rattle.commands.proofs.put_mask.Statement.{statement}
-use Rattle.commands.proofs.put_mask.Tie as tie
+use Rattle.command_registers.proofs.Blocks.{mask-put}
+use Rattle.command_registers.proofs.put_mask.Statement.{statement}
+use Rattle.command_registers.proofs.put_mask.Tie as tie
 
 returns : tie.Need-returns
 returns c =

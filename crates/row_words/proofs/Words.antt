@@ -11,7 +11,7 @@ use Rattle.encoding.specs.Buffers.{roomFault, bufferAfter}
 use Rattle.encoding.proofs.Numbers.{length-bytesOf}
 use Rattle.encoding.proofs.Room.{stored-where-fits}
 use Rattle.wait_listing.proofs.InTurn.{in-turn-agree, length-in-turn, turn-stores}
-use Rattle.reaching.specs.Rows.{wordCount, wordsSize, wordsOf}
+use Rattle.row_words.specs.Words.{wordCount, wordsSize, wordsOf}
 
 -- Words of at most four bytes take at most 128.
 pub words-small : (k : ℕ) → k ≤ 4 → wordsSize k ≤ 128

@@ -5,11 +5,11 @@ use native.Mathlib.Omega.{arith}
 use lib.ListN.{length, getD}
 use lib.Seq.{sets}
 use Rattle.wait_listing.specs.Listing.{inTurn}
-use Rattle.reaching.specs.Rows.{wordCount, wordsOf}
-use Rattle.reaching.proofs.Words.{words-small, word-inside, word-stored}
+use Rattle.row_words.specs.Words.{wordCount, wordsOf}
+use Rattle.row_words.proofs.Words.{words-small, word-inside, word-stored}
 use borrow.Author.Needs.{needs}
-use Rattle.reaching.proofs.store_rows.Statement.{statement}
-use Rattle.reaching.proofs.store_rows.Tie as tie
+use Rattle.row_words.proofs.store_rows.Statement.{statement}
+use Rattle.row_words.proofs.store_rows.Tie as tie
 
 abbrev Inv-loop : tie.InvT-loop
 Inv-loop size scratch₀ rows words i₀ scratch i =

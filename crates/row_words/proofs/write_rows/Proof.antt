@@ -7,11 +7,11 @@ use Rattle.encoding.specs.Buffers.{hasRoom}
 use Rattle.encoding.proofs.Room.{with-room, without-room}
 use Rattle.plans.specs.Entries.{maskSizeFor}
 use Rattle.wait_listing.proofs.Sizes.{mask-size-small}
-use Rattle.reaching.specs.Rows.{wordCount, wordsOf, wordsSize}
-use Rattle.reaching.proofs.Words.{length-words}
+use Rattle.row_words.specs.Words.{wordCount, wordsOf, wordsSize}
+use Rattle.row_words.proofs.Words.{length-words}
 use borrow.Author.Needs.{needs}
-use Rattle.reaching.proofs.write_rows.Statement.{statement}
-use Rattle.reaching.proofs.write_rows.Tie as tie
+use Rattle.row_words.proofs.write_rows.Statement.{statement}
+use Rattle.row_words.proofs.write_rows.Tie as tie
 
 store-rows-requires : tie.Need-store-rows-requires
 store-rows-requires c κs =

@@ -1,10 +1,10 @@
 -- `room_of` meets its contract: a mask's bytes are few, and so nothing runs over. Assumes nothing.
 use native.Mathlib.Omega.{arith}
 use Rattle.wait_listing.proofs.Sizes.{mask-size-small}
-use Rattle.reaching.proofs.Words.{words-small}
+use Rattle.row_words.proofs.Words.{words-small}
 use borrow.Author.Needs.{needs}
-use Rattle.reaching.proofs.room_of.Statement.{statement}
-use Rattle.reaching.proofs.room_of.Tie as tie
+use Rattle.row_words.proofs.room_of.Statement.{statement}
+use Rattle.row_words.proofs.room_of.Tie as tie
 
 mul-result : tie.Need-mul-result
 mul-result c = omega (arith, c .mask-size .ensures, mask-size-small (c .before .args .processors))

@@ -2,8 +2,8 @@
 use mathlib.Core.Path.{sym, ap, _∙_}
 use borrow.Author.Needs.{needs}
 use Rattle.refusals.proofs.Numbers.{number-not-zero}
-use Rattle.commands.proofs.show.Statement.{statement}
-use Rattle.commands.proofs.show.Tie as tie
+use Rattle.command_registers.proofs.show.Statement.{statement}
+use Rattle.command_registers.proofs.show.Tie as tie
 
 returns : tie.Need-returns
 returns c = rw (c .before .before .reply .given .1) (c .accept .ensures)

@@ -1,8 +1,8 @@
 -- `refuse` meets its contract. Assumes nothing.
 use mathlib.Core.Path.{refl}
 use borrow.Author.Needs.{needs}
-use Rattle.commands.proofs.refuse.Statement.{statement}
-use Rattle.commands.proofs.refuse.Tie as tie
+use Rattle.command_registers.proofs.refuse.Statement.{statement}
+use Rattle.command_registers.proofs.refuse.Tie as tie
 
 returns : tie.Need-returns
 returns c = refl
