@@ -13,7 +13,7 @@ use Rattle.states.specs.declared.Board.{Board}
 use Rattle.states.specs.declared.State.{State}
 use Rattle.states.specs.Faults.{processorFault}
 use Rattle.rules.specs.Calls.{factsOf, phasesOf}
-use Rattle.wait_listing.specs.Listing.{stateIn}
+use Rattle.wait_fields.specs.Fields.{stateIn}
 use Rattle.row_words.specs.Words.{wordCount, wordsOf, wordsSize}
 use Rattle.waiting.specs.Waits.{waitsIn}
 use Rattle.queries.specs.declared.Phase.{Phase}

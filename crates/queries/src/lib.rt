@@ -14,7 +14,7 @@ ghost use mathlib.Core.Path.{_≡_};
 ghost use mathlib.Core.List.{[]};
 ghost use Rattle.refusals.specs.Number.{verdictNumber};
 ghost use Rattle.states.specs.Faults.{processorFault};
-ghost use Rattle.wait_listing.specs.Listing.{stateIn};
+ghost use Rattle.wait_fields.specs.Fields.{stateIn};
 ghost use Rattle.queries.specs.Queries.{phaseNumber, phaseSays, phaseQuery};
 ghost use Rattle.queries.specs.Parts.{boardWith, stateWith};
 

@@ -3,80 +3,25 @@
 use encoding::Outcome;
 use encoding::check_room;
 use encoding::write_number;
-use masks::has32;
 use plans::SLOTS;
 use plans::mask_size;
 use refusals::Verdict;
 use settling::Phases;
+use wait_fields::entry_at;
+use wait_fields::state_at;
+use wait_fields::waited_at;
 ghost use mathlib.Core.Path.{_≡_};
-ghost use mathlib.Core.Bool.{cond};
-ghost use Prim.Native.Nat.{_+_, _-_, _≤_, min};
+ghost use Prim.Native.Nat.{_+_, _≤_};
 ghost use lib.ListN.{length};
 ghost use lib.Seq.{sets};
 ghost use Rattle.refusals.specs.Due.{said};
 ghost use Rattle.encoding.specs.Buffers.{outcomeSays};
 ghost use Rattle.plans.specs.Entries.{slots, maskSizeFor};
-ghost use Rattle.settling.specs.Requests.{unsatisfied, active};
-ghost use Rattle.wait_listing.specs.Listing.{stateIn, listedOf, partBytes, partIn, inTurn};
+ghost use Rattle.wait_listing.specs.Listing.{listedOf, partBytes, partIn, inTurn};
 ghost use Rattle.wait_listing.specs.Listing.{partSize, listSize, listFault, listBuffer};
 
-// The bytes of a part before its mask, and the most ticks that four bytes show.
+// The bytes of a part before its mask.
 const HEAD_BYTES: usize = 6;
-
-const MOST_TICKS: u64 = 4294967295;
-
-// The entry that an idle processor shows.
-const NO_ENTRY: u8 = 255;
-
-// Clause 7.1: the state of processor p by number.
-fn state_at(phases: Phases, p: u32) -> u8
-    ensures { λ r. ⌜ r ≡ stateIn phases p ⌝ }
-{
-    if has32(phases.holding, p) {
-        return 3;
-    }
-    if has32(phases.entitled, p) {
-        return 2;
-    }
-    if has32(phases.waiting, p) { 1 } else { 0 }
-}
-
-// Clause 7.8: the entry that is shown of processor p, whose request has this one.
-fn entry_at(phases: Phases, entry: u8, p: u32) -> u8
-    ensures { λ r. ⌜ r ≡ cond (active phases p) entry 255 ⌝ }
-{
-    if has32(phases.waiting | phases.entitled | phases.holding, p) {
-        entry
-    } else {
-        NO_ENTRY
-    }
-}
-
-// The ticks from one to the other, as far as four bytes show them. Clause 4.10: none where the time would run
-// backwards.
-fn ticks_shown(from: u64, to: u64) -> u64
-    ensures { λ r. ⌜ r ≡ min 4294967295 (to - from) ⌝ }
-{
-    if to < from {
-        return 0;
-    }
-    if MOST_TICKS < to - from {
-        MOST_TICKS
-    } else {
-        to - from
-    }
-}
-
-// Clause 7.8: the ticks that processor p has waited, where its request was issued at `since`.
-fn waited_at(phases: Phases, last: u64, since: u64, p: u32) -> u64
-    ensures { λ r. ⌜ r ≡ cond (unsatisfied phases p) (min 4294967295 (last - since)) 0 ⌝ }
-{
-    if has32(phases.waiting | phases.entitled, p) {
-        ticks_shown(since, last)
-    } else {
-        0
-    }
-}
 
 // Clause 7.7: stores a processor's part from position at, with its direct waits in so many bytes.
 fn store_part(

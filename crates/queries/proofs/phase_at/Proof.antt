@@ -2,7 +2,7 @@
 use mathlib.Core.Path.{_≡_, sym, _∙_}
 use mathlib.Core.Bool.{true, false}
 use Rattle.masks.specs.Sets.{bit}
-use Rattle.wait_listing.specs.Listing.{stateIn}
+use Rattle.wait_fields.specs.Fields.{stateIn}
 use borrow.Author.Needs.{needs}
 use Rattle.queries.proofs.phase_at.Statement.{statement}
 use Rattle.queries.proofs.phase_at.Tie as tie

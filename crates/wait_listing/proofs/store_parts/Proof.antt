@@ -6,7 +6,8 @@ use native.Mathlib.Omega.{arith}
 use lib.ListN.{length}
 use lib.Seq.{sets, length-sets}
 use Rattle.plans.specs.Entries.{slots}
-use Rattle.wait_listing.specs.Listing.{entryIn, waitedIn, partIn, inTurn, partSize, listSize}
+use Rattle.wait_fields.specs.Fields.{entryIn, waitedIn}
+use Rattle.wait_listing.specs.Listing.{partIn, inTurn, partSize, listSize}
 use Rattle.wait_listing.proofs.InTurn.{length-part, turn-stores}
 use Rattle.wait_listing.proofs.Sizes.{part-inside, list-small}
 use borrow.Author.Needs.{needs}

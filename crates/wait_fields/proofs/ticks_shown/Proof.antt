@@ -1,7 +1,7 @@
 -- `ticks_shown` meets its contract. Assumes nothing.
 use borrow.Author.Needs.{needs}
-use Rattle.wait_listing.proofs.ticks_shown.Statement.{statement}
-use Rattle.wait_listing.proofs.ticks_shown.Tie as tie
+use Rattle.wait_fields.proofs.ticks_shown.Statement.{statement}
+use Rattle.wait_fields.proofs.ticks_shown.Tie as tie
 
 returns-3 : tie.Need-returns-3
 returns-3 c = search needs

@@ -1,8 +1,8 @@
 -- `entry_at` meets its contract. Assumes nothing.
 use Rattle.masks.proofs.Places.{bit-or}
 use borrow.Author.Needs.{needs}
-use Rattle.wait_listing.proofs.entry_at.Statement.{statement}
-use Rattle.wait_listing.proofs.entry_at.Tie as tie
+use Rattle.wait_fields.proofs.entry_at.Statement.{statement}
+use Rattle.wait_fields.proofs.entry_at.Tie as tie
 
 returns : tie.Need-returns
 returns c = rw (← bit-or, ← bit-or, ← c .before .has32 .ensures, c .if1 .taken)

@@ -1,8 +1,8 @@
 -- `waited_at` meets its contract. Assumes nothing.
 use Rattle.masks.proofs.Places.{bit-or}
 use borrow.Author.Needs.{needs}
-use Rattle.wait_listing.proofs.waited_at.Statement.{statement}
-use Rattle.wait_listing.proofs.waited_at.Tie as tie
+use Rattle.wait_fields.proofs.waited_at.Statement.{statement}
+use Rattle.wait_fields.proofs.waited_at.Tie as tie
 
 returns : tie.Need-returns
 returns c = rw (← bit-or, ← c .before .before .has32 .ensures, c .before .if1 .taken) (c .ticks-shown .ensures)

@@ -2,10 +2,10 @@
 use mathlib.Core.Path.{_≡_, sym, _∙_}
 use mathlib.Core.Bool.{true, false}
 use Rattle.masks.specs.Sets.{bit}
-use Rattle.wait_listing.specs.Listing.{stateIn}
+use Rattle.wait_fields.specs.Fields.{stateIn}
 use borrow.Author.Needs.{needs}
-use Rattle.wait_listing.proofs.state_at.Statement.{statement}
-use Rattle.wait_listing.proofs.state_at.Tie as tie
+use Rattle.wait_fields.proofs.state_at.Statement.{statement}
+use Rattle.wait_fields.proofs.state_at.Tie as tie
 
 returns : tie.Need-returns
 unfolding stateIn
