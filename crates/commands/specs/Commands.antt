@@ -8,7 +8,8 @@ use Rattle.states.specs.declared.State.{State}
 use Rattle.rules.specs.Calls.{Answer, answered}
 use Rattle.registers.specs.declared.Block.{Block}
 use Rattle.registers.specs.declared.Register.{Register}
-use Rattle.registers.specs.Registers.{registerAt, stored}
+use Rattle.registers.specs.Registers.{registerAt}
+use Rattle.register_stores.specs.Stores.{stored}
 use Rattle.command_registers.specs.Registers.{commandCall, repliedBlock}
 use Rattle.commands.specs.declared.Change.{Change}
 use Rattle.commands.specs.declared.Written.{Written}

@@ -18,7 +18,8 @@ use Rattle.calls.specs.Replies.{Response, refusedWith}
 use Rattle.registers.specs.declared.Block.{Block}
 use Rattle.registers.specs.declared.Register.{Register}
 use Rattle.registers.specs.declared.Register.the-variants.{Pending}
-use Rattle.registers.specs.Registers.{registerAt, refusalIn, lateIn, grantedIn, entitledIn, pendingIn, raised, lineOf, withLine, cleared, newByte, stored}
+use Rattle.registers.specs.Registers.{registerAt, refusalIn, lateIn, grantedIn, entitledIn, pendingIn, raised, lineOf, withLine}
+use Rattle.register_stores.specs.Stores.{cleared, newByte, stored}
 use Rattle.command_registers.specs.Registers.{withMask, joined, acceptedBlock, refusedBlock, repliedBlock}
 use Rattle.register_runs.specs.Steps.{replyIn}
 use Rattle.register_runs.proofs.Bytes.{bit-number, getD-slice, listed, by-elements}

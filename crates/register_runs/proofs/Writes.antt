@@ -12,7 +12,8 @@ use Rattle.rules.specs.Calls.{answered}
 use Rattle.registers.specs.declared.Block.{Block}
 use Rattle.registers.specs.declared.Register.{Register}
 use Rattle.registers.specs.declared.Register.the-variants.{Command, Argument, Answer, Pending, Enabled, Line, Unlisted}
-use Rattle.registers.specs.Registers.{registerAt, stored}
+use Rattle.registers.specs.Registers.{registerAt}
+use Rattle.register_stores.specs.Stores.{stored}
 use Rattle.command_registers.specs.Registers.{commandCall}
 use Rattle.commands.specs.Commands.{unmoved, carriedOut, commanded, writtenTo, registerWrite}
 use Rattle.register_runs.specs.Steps.{carries}

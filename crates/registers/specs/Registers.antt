@@ -1,12 +1,11 @@
--- The register block: what stands at which offset, what a read gives, and what a write that is no command leaves.
--- Specification, section 10.
+-- The register block: what stands at which offset, and what a read gives. Specification, section 10.
 use Prim.Native.Nat.{ℕ}
-use mathlib.Core.Bool.{Bool, cond, not, _&&_, _||_}
+use mathlib.Core.Bool.{Bool, cond, _&&_, _||_}
 use mathlib.Core.List.{List}
 use lib.Dec.{eqb, leb}
 use lib.ListN.{getD, set}
 use lib.Seq.{slice}
-use Rattle.masks.specs.Sets.{bit, some, maskOf}
+use Rattle.masks.specs.Sets.{bit, some}
 use Rattle.refusals.specs.Number.{numberOf}
 use Rattle.refusals.specs.Due.{Said, said}
 use Rattle.encoding.specs.Numbers.{number}
@@ -91,25 +90,6 @@ shownAt Unlisted bytes offset = 0
 -- Clause 10.4: reading an offset of a block.
 unfoldable pub registerRead : Block → ℕ → Said
 registerRead block offset = said (readFault (registerAt offset)) (shownAt (registerAt offset) (block .bytes) offset)
-
--- Clause 10.6: a one that is written clears its bit of a byte, a zero does not.
-unfoldable pub cleared : ℕ → ℕ → ℕ
-cleared old value = maskOf 8 (λ i. bit old i && not (bit value i))
-
--- Clause 10.6: the byte that a write leaves: pending bits are cleared, every other register takes the value.
-abbrev pub newByte : Register → ℕ → ℕ → ℕ
-newByte Command old value = value
-newByte Argument old value = value
-newByte Answer old value = value
-newByte Pending old value = cleared old value
-newByte Enabled old value = value
-newByte Line old value = value
-newByte Unlisted old value = value
-
--- Clause 10.6: the block after a write of a value to an argument, to pending or to enabled.
-unfoldable pub stored : Block → ℕ → ℕ → Block
-stored block offset value =
-    withLine (set (block .bytes) offset (newByte (registerAt offset) (getD (block .bytes) offset 0) value))
 
 -- A read's answer in numbers: the value, or the refusal.
 abbrev pub readSays : ReadAnswer → Said

@@ -1,12 +1,11 @@
-// The register block of the arbiter: 32 bytes, what stands at which offset, what a read gives, and what a write that
-// is no command leaves. Commands are in the crate `commands`.
+// The register block of the arbiter: 32 bytes, what stands at which offset, and what a read gives. Writes are in the
+// crates `register_stores` and `commands`.
 use encoding::byte_at;
 use encoding::read_number;
 use masks::meet64;
 use refusals::Refusal;
 ghost use mathlib.Core.Path.{_≡_};
 ghost use Prim.Native.Nat.{_^_, _<_};
-ghost use lib.ListN.{set};
 ghost use Rattle.registers.specs.Registers.{
   registerAt,
   tickIn,
@@ -14,9 +13,6 @@ ghost use Rattle.registers.specs.Registers.{
   enabledIn,
   lineOf,
   withLine,
-  cleared,
-  newByte,
-  stored,
   registerRead,
   readSays,
 };
@@ -120,24 +116,6 @@ pub fn with_line(bytes: [u8; BLOCK]) -> Block
     Block { bytes: kept }
 }
 
-// Clause 10.6: the bits of a byte without those that the value has.
-fn cleared_by(old: u8, value: u8) -> u8
-    ensures { λ r. ⌜ r ≡ cleared old value ⌝ }
-{
-    old & !value
-}
-
-// The bytes with one changed. Past the end nothing is.
-fn put_byte(bytes: [u8; BLOCK], place: usize, byte: u8) -> [u8; BLOCK]
-    ensures { λ r. ⌜ r ≡ set bytes place byte ⌝ }
-{
-    let mut kept = bytes;
-    if place < BLOCK {
-        kept[place] = byte;
-    }
-    kept
-}
-
 // Reads an offset of a block. Refused by 18.
 pub fn read(block: Block, offset: u8) -> ReadAnswer
     ensures { λ r. ⌜ readSays r ≡ registerRead block offset ⌝ }
@@ -154,30 +132,4 @@ pub fn read(block: Block, offset: u8) -> ReadAnswer
         Register::Line => ReadAnswer::Value(line_of(bytes)),
         Register::Unlisted => ReadAnswer::Refused(Refusal::Register),
     }
-}
-
-// Clause 10.6: the byte that a write leaves at a register.
-fn new_byte(register: Register, old: u8, value: u8) -> u8
-    ensures { λ r. ⌜ r ≡ newByte register old value ⌝ }
-{
-    match register {
-        Register::Command => value,
-        Register::Argument => value,
-        Register::Answer => value,
-        Register::Pending => cleared_by(old, value),
-        Register::Enabled => value,
-        Register::Line => value,
-        Register::Unlisted => value,
-    }
-}
-
-// Clause 10.6: a write that is neither a command nor refused.
-pub fn store(block: Block, offset: u8, value: u8) -> Block
-    ensures { λ r. ⌜ r ≡ stored block offset value ⌝ }
-{
-    let bytes = block.bytes;
-    let place = offset as usize;
-    let byte = new_byte(register_at(offset), byte_at(&bytes, place), value);
-    let changed = put_byte(bytes, place, byte);
-    with_line(changed)
 }

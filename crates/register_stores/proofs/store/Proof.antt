@@ -2,10 +2,11 @@
 use mathlib.Core.Path.{_≡_, ap, _∙_}
 use Prim.Native.Nat.{ℕ}
 use borrow.Author.Needs.{needs}
-use Rattle.registers.specs.Registers.{withLine, newByte}
-use Rattle.registers.proofs.Blocks.{stored-at}
-use Rattle.registers.proofs.store.Statement.{statement}
-use Rattle.registers.proofs.store.Tie as tie
+use Rattle.registers.specs.Registers.{withLine}
+use Rattle.register_stores.specs.Stores.{newByte}
+use Rattle.register_stores.proofs.Stored.{stored-at}
+use Rattle.register_stores.proofs.store.Statement.{statement}
+use Rattle.register_stores.proofs.store.Tie as tie
 
 returns : tie.Need-returns
 returns c =

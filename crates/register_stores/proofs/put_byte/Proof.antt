@@ -3,8 +3,8 @@ use mathlib.Core.Path.{sym}
 use native.Mathlib.Omega.{arith}
 use lib.Seq.{set-out}
 use borrow.Author.Needs.{needs}
-use Rattle.registers.proofs.put_byte.Statement.{statement}
-use Rattle.registers.proofs.put_byte.Tie as tie
+use Rattle.register_stores.proofs.put_byte.Statement.{statement}
+use Rattle.register_stores.proofs.put_byte.Tie as tie
 
 returns-2 : tie.Need-returns-2
 returns-2 c = sym (set-out _ _ _ (search needs))

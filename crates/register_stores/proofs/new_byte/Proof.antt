@@ -1,7 +1,7 @@
 -- `new_byte` meets its contract, register by register. Assumes nothing.
 use borrow.Author.Needs.{needs}
-use Rattle.registers.proofs.new_byte.Statement.{statement}
-use Rattle.registers.proofs.new_byte.Tie as tie
+use Rattle.register_stores.proofs.new_byte.Statement.{statement}
+use Rattle.register_stores.proofs.new_byte.Tie as tie
 
 returns-4 : tie.Need-returns-4
 returns-4 c = rw (c .before .enum-told4 .given .1) (c .cleared-by .ensures)

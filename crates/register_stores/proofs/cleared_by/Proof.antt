@@ -1,8 +1,8 @@
 -- `cleared_by` meets its contract. Assumes nothing.
 use native.Mathlib.Omega.{arith}
-use Rattle.registers.proofs.Blocks.{without-cleared}
-use Rattle.registers.proofs.cleared_by.Statement.{statement}
-use Rattle.registers.proofs.cleared_by.Tie as tie
+use Rattle.register_stores.proofs.Stored.{without-cleared}
+use Rattle.register_stores.proofs.cleared_by.Statement.{statement}
+use Rattle.register_stores.proofs.cleared_by.Tie as tie
 
 returns : tie.Need-returns
 returns c = without-cleared (c .args .old) (c .args .value) (omega arith) (omega arith)
