@@ -58,7 +58,8 @@ pub fn enter(
     ensures { λ r. ⌜ carriedSays r tick (now (entries .exit)) (now (since .exit)) (now (earlier .entry))
         ≡ done (stateBy (record { last = tick; phases = putIn phases processor })
         (set (now (entries .entry)) processor entry) (set (now (since .entry)) processor tick) (now (earlier .entry)))
-        (settled (factsBy (now (rows .entry)) writes (set (now (entries .entry)) processor entry) (now (earlier .entry)))
+        (settled
+        (factsBy (now (rows .entry)) writes (set (now (entries .entry)) processor entry) (now (earlier .entry)))
         (putIn phases processor)) 0 ⌝ }
 {
     store_entry(entries, processor, entry);

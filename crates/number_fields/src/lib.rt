@@ -79,7 +79,8 @@ fn write_labelled(word: &[u8], n: u64, size: usize, buffer: &mut [u8], at: usize
 // A word and a decimal number, where both fit.
 pub fn put_labelled(word: &[u8], n: u64, buffer: &mut [u8], at: usize) -> usize
     ensures size { λ r. ⌜ r ≡ fieldSize (labelled (now (word .entry)) n) (length (now (buffer .entry))) at ⌝ }
-    ensures bytes { λ _. ⌜ now (buffer .exit) ≡ fieldBuffer (labelled (now (word .entry)) n) (now (buffer .entry)) at ⌝ }
+    ensures bytes { λ _. ⌜ now (buffer .exit)
+        ≡ fieldBuffer (labelled (now (word .entry)) n) (now (buffer .entry)) at ⌝ }
 {
     let size = digit_count(n);
     let needed = word.len() + size;
@@ -94,7 +95,8 @@ pub fn put_labelled(word: &[u8], n: u64, buffer: &mut [u8], at: usize) -> usize
 // The same and the line feed: a line's end.
 pub fn put_last(word: &[u8], n: u64, buffer: &mut [u8], at: usize) -> usize
     ensures size { λ r. ⌜ r ≡ fieldSize (lastField (now (word .entry)) n) (length (now (buffer .entry))) at ⌝ }
-    ensures bytes { λ _. ⌜ now (buffer .exit) ≡ fieldBuffer (lastField (now (word .entry)) n) (now (buffer .entry)) at ⌝ }
+    ensures bytes { λ _. ⌜ now (buffer .exit)
+        ≡ fieldBuffer (lastField (now (word .entry)) n) (now (buffer .entry)) at ⌝ }
 {
     let size = digit_count(n);
     let needed = word.len() + size + 1;

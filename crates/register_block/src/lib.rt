@@ -31,7 +31,8 @@ pub fn write_register(
     value: u8,
 ) -> Written
     ensures { λ r. ⌜ writeSays r (now (block .exit))
-        ≡ registerWrite (boardBy terms (now (rows .entry)) (now (lengths .entry))) state (now (block .entry)) offset value ⌝ }
+        ≡ registerWrite (boardBy terms (now (rows .entry)) (now (lengths .entry))) state
+        (now (block .entry)) offset value ⌝ }
 {
     let change = write(terms, rows, lengths, state, *block, offset, value);
     *block = change.block;

@@ -81,7 +81,8 @@ fn replay_record(
         now (out .exit)
         ≡ overwritten (now (out .entry)) at
         (ran (boardBy terms (now (rows .entry)) (now (lengths .entry)))
-        (stateBy moment (now (entries .entry)) (now (since .entry)) (now (earlier .entry))) 1 (now (bytes .entry)) .lines)
+        (stateBy moment (now (entries .entry)) (now (since .entry)) (now (earlier .entry)))
+        1 (now (bytes .entry)) .lines)
         ⌝ }
 {
     let found = read_record(bytes);
