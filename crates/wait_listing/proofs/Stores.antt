@@ -1,5 +1,5 @@
 -- Runs of stores: of a part's bytes, of one part more, and of the whole list; and what is answered then. Assumes nothing.
-use Prim.Native.Nat.{ℕ, suc, _+_, _*_, _≤_, _<_}
+use Prim.Native.Nat.{ℕ, suc, _+_, _*_, _/_, _%_, _≤_, _<_}
 use mathlib.Core.Path.{_≡_, refl, sym, ap, _∙_}
 use mathlib.Core.List.{List, _∷_, _++_}
 use native.Mathlib.Omega.{arith}
@@ -17,6 +17,12 @@ use Rattle.encoding.proofs.Room.{room-fits, stored-where-fits}
 use Rattle.encoding.proofs.Stores.{sets-append, sets-overwritten}
 use Rattle.wait_listing.specs.Listing.{partBytes, inTurn, partSize, listSize, listBytes, listFault, listBuffer}
 use Rattle.wait_listing.proofs.InTurn.{in-turn-agree, length-in-turn}
+
+-- A mask of two bytes, stored one by one.
+pub two-stored : (size mask : ℕ) (l : List ℕ) (at : ℕ) → size ≡ 2
+    → set (set l at (mask % 256)) (at + 1) (mask / 256 % 256) ≡ sets l at (bytesOf size mask)
+unfolding bytesOf
+two-stored size mask l at two = let next : at + 1 ≡ suc at = omega arith in rw (two, next)
 
 -- The stores of a part: state, entry, four bytes and k bytes.
 module _ (k state entry waited waits : ℕ) (l : List ℕ) (at : ℕ) where
@@ -40,14 +46,12 @@ module _ (k state entry waited waits : ℕ) (l : List ℕ) (at : ℕ) where
   -- The same by what `write_number` leaves, where there is room.
   pub part-written : (mid last : List ℕ) → at + partSize k ≤ length l
       → mid ≡ bufferAfter (roomFault 4 (length start) (at + 2)) (bytesOf 4 waited) start (at + 2)
-      → last ≡ bufferAfter (roomFault k (length mid) (at + 6)) (bytesOf k waits) mid (at + 6)
+      → last ≡ sets mid (at + 6) (bytesOf k waits)
       → last ≡ sets l at (partBytes k state entry waited waits)
   part-written mid last h first second =
       let size : length start ≡ length l = length-set (set l at state) (at + 1) entry ∙ length-set l at state in
       let stored = first ∙ stored-where-fits start (at + 2) (bytesOf 4 waited) 4 (length-bytesOf 4 waited) (omega arith) in
-      let kept : length mid ≡ length l = ap length stored ∙ length-sets start (at + 2) (bytesOf 4 waited) ∙ size in
       second
-      ∙ stored-where-fits mid (at + 6) (bytesOf k waits) k (length-bytesOf k waits) (omega arith)
       ∙ ap (λ m. sets m (at + 6) (bytesOf k waits)) stored
       ∙ part-stores
 

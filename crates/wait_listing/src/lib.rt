@@ -15,6 +15,7 @@ ghost use Prim.Native.Nat.{_+_, _≤_};
 ghost use lib.ListN.{length};
 ghost use lib.Seq.{sets};
 ghost use Rattle.refusals.specs.Due.{said};
+ghost use Rattle.encoding.specs.Numbers.{bytesOf};
 ghost use Rattle.encoding.specs.Buffers.{outcomeSays};
 ghost use Rattle.plans.specs.Entries.{slots, maskSizeFor};
 ghost use Rattle.wait_listing.specs.Listing.{listedOf, partBytes, partIn, inTurn};
@@ -22,6 +23,19 @@ ghost use Rattle.wait_listing.specs.Listing.{partSize, listSize, listFau
 
 // The bytes of a part before its mask.
 const HEAD_BYTES: usize = 6;
+
+// Stores a mask in so many bytes from position at: two, as up to 16 processors have them, without a loop.
+fn store_mask(size: usize, mask: u32, buffer: &mut [u8], at: usize)
+    requires { ⌜ at + size ≤ length (now buffer) ⌝ }
+    ensures { λ _. ⌜ now (buffer .exit) ≡ sets (now (buffer .entry)) at (bytesOf size mask) ⌝ }
+{
+    if size == 2 {
+        buffer[at] = (mask % 256) as u8;
+        buffer[at + 1] = (mask / 256 % 256) as u8;
+        return;
+    }
+    write_number(mask as u64, size, buffer, at);
+}
 
 // Clause 7.7: stores a processor's part from position at, with its direct waits in so many bytes.
 fn store_part(
@@ -41,7 +55,7 @@ fn store_part(
     buffer[at] = state;
     buffer[at + 1] = entry;
     write_number(waited, 4, buffer, at + 2);
-    write_number(waits as u64, size, buffer, at + HEAD_BYTES);
+    store_mask(size, waits, buffer, at + HEAD_BYTES);
 }
 
 // Stores the parts of the first count processors, from byte 1.
