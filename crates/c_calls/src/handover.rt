@@ -1,8 +1,10 @@
 // A request is given back and the next one made, in one call, on memory that the caller owns. Specification, section 4.
 use crate::Replied;
-use crate::in_numbers;
+use crate::done;
+use crate::refused;
 use c_boards::moment_of;
 use c_boards::store_moment;
+use calls::Reply;
 use handing_over::handover_in_place;
 use plans::ENTRIES;
 use plans::SLOTS;
@@ -55,7 +57,16 @@ pub extern "C" fn bittmelon_handover_parts(
         tick,
     );
     let reply = changed.reply;
-    let after = changed.moment;
-    store_moment(after, last, phases);
-    in_numbers(reply)
+    match reply {
+        Reply::Done {
+            granted,
+            entitled,
+            late,
+        } => {
+            let after = changed.moment;
+            store_moment(after, last, phases);
+            done(granted, entitled, late)
+        }
+        Reply::Refused(refusal) => refused(refusal),
+    }
 }

@@ -1,9 +1,11 @@
 // A request is made, on memory that the caller owns. Specification, section 4.
 use crate::Replied;
-use crate::in_numbers;
+use crate::done;
+use crate::refused;
 use acting::issue_in_place;
 use c_boards::moment_of;
 use c_boards::store_moment;
+use calls::Reply;
 use plans::ENTRIES;
 use plans::SLOTS;
 use states::Terms;
@@ -54,7 +56,16 @@ pub extern "C" fn bittmelon_issue_parts(
         tick,
     );
     let reply = changed.reply;
-    let after = changed.moment;
-    store_moment(after, last, phases);
-    in_numbers(reply)
+    match reply {
+        Reply::Done {
+            granted,
+            entitled,
+            late,
+        } => {
+            let after = changed.moment;
+            store_moment(after, last, phases);
+            done(granted, entitled, late)
+        }
+        Reply::Refused(refusal) => refused(refusal),
+    }
 }

@@ -6,13 +6,14 @@ mod handover;
 mod issue;
 mod withdraw;
 
-use calls::Reply;
 pub use complete::bittmelon_complete_parts;
 pub use handover::bittmelon_handover_parts;
 pub use issue::bittmelon_issue_parts;
+use refusals::Refusal;
 pub use withdraw::bittmelon_withdraw_parts;
 ghost use mathlib.Core.Path.{_≡_};
-ghost use Rattle.calls.specs.Replies.{replySays};
+ghost use Rattle.refusals.specs.Number.{numberOf};
+ghost use Rattle.calls.specs.Replies.{refusedWith};
 ghost use Rattle.c_calls.specs.Replies.{response};
 
 // A reply in numbers: the refusal's, 0 if the call is accepted; the granted and the entitled mask; late. A refusal is its
@@ -25,25 +26,26 @@ pub struct Replied {
     pub late: u32,
 }
 
-fn in_numbers(reply: Reply) -> Replied
-    ensures { λ r. ⌜ response r ≡ replySays reply ⌝ }
+// What a call that was carried out tells.
+fn done(granted: u32, entitled: u32, late: u8) -> Replied
+    ensures { λ r. ⌜ response r ≡ record { number = 0; granted = granted; entitled = entitled; late = late } ⌝ }
 {
-    match reply {
-        Reply::Done {
-            granted,
-            entitled,
-            late,
-        } => Replied {
-            refusal: 0,
-            granted: granted,
-            entitled: entitled,
-            late: late as u32,
-        },
-        Reply::Refused(refusal) => Replied {
-            refusal: refusals::number(refusal) as u32,
-            granted: 0,
-            entitled: 0,
-            late: 0,
-        },
+    Replied {
+        refusal: 0,
+        granted: granted,
+        entitled: entitled,
+        late: late as u32,
+    }
+}
+
+// What a refused call tells.
+fn refused(refusal: Refusal) -> Replied
+    ensures { λ r. ⌜ response r ≡ refusedWith (numberOf refusal) ⌝ }
+{
+    Replied {
+        refusal: refusals::number(refusal) as u32,
+        granted: 0,
+        entitled: 0,
+        late: 0,
     }
 }

@@ -1,9 +1,11 @@
 // A request leaves the line, on memory that the caller owns. Specification, section 4.
 use crate::Replied;
-use crate::in_numbers;
+use crate::done;
+use crate::refused;
 use acting::withdraw_in_place;
 use c_boards::moment_of;
 use c_boards::store_moment;
+use calls::Reply;
 use plans::ENTRIES;
 use plans::SLOTS;
 use states::Terms;
@@ -43,7 +45,16 @@ pub extern "C" fn bittmelon_withdraw_parts(
     let moment = moment_of(*last, *phases);
     let changed = withdraw_in_place(terms, rows, moment, entry, since, earlier, processor, tick);
     let reply = changed.reply;
-    let after = changed.moment;
-    store_moment(after, last, phases);
-    in_numbers(reply)
+    match reply {
+        Reply::Done {
+            granted,
+            entitled,
+            late,
+        } => {
+            let after = changed.moment;
+            store_moment(after, last, phases);
+            done(granted, entitled, late)
+        }
+        Reply::Refused(refusal) => refused(refusal),
+    }
 }
