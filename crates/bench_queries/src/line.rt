@@ -4,10 +4,10 @@ use encoding::byte_at;
 use plans::ENTRIES;
 use plans::Entry;
 use plans::Plan;
+use reach_queries::reach;
 use row_words::MOST_ROOM;
 use states::Board;
 use states::State;
-use wait_queries::reach;
 ghost use mathlib.Core.Path.{_≡_};
 ghost use Prim.Native.Nat.{_<_};
 

@@ -53,7 +53,7 @@ use Rattle.logs.specs.Records.{fieldsIn, noFields, recordFault, readRecord}
 --                            handing_over::handover_in_place with handedOver
 --   queries::phase_of              phaseSays r ≡ phaseQuery board state processor
 --   wait_queries::direct_waits     maskSays r ≡ waitsQuery board state processor
---   wait_queries::reach            maskSays r ≡ reachQuery board state processor scratch, the scratch after it ≡ reachScratch ..
+--   reach_queries::reach           maskSays r ≡ reachQuery board state processor scratch, the scratch after it ≡ reachScratch ..
 --   board_queries::list_board      outcomeSays r ≡ boardQuery board buffer, the buffer after it ≡ boardBuffer ..
 --   board_queries::list_board_in_place  the same, of the board and the state that it was lent
 --   contention::shared_by    sharedSays r ≡ sharedQuery board first second; what that is on a plan's board, Contention.antt says

@@ -66,7 +66,7 @@ fn print_query(board: Board, state: State, processor: u8) {
             io::print_decimal(STDOUT_FILENO, queries::phase_number(is) as u64);
             print_mask(wait_queries::direct_waits(board, state, processor), digits);
             print_mask(
-                wait_queries::reach(board, state, processor, &mut scratch),
+                reach_queries::reach(board, state, processor, &mut scratch),
                 digits,
             );
         }

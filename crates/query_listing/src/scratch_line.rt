@@ -2,11 +2,11 @@
 // digits. It is filled with 170 before and is 16 bytes longer than needed; these are printed too.
 use crate::board_line::print_bytes;
 use libc::STDOUT_FILENO;
+use reach_queries::reach;
 use row_words::MOST_ROOM;
 use row_words::room_of;
 use states::Board;
 use states::State;
-use wait_queries::reach;
 ghost use Prim.Native.Nat.{_≤_};
 
 // The bytes of the longest scratch, and of what is behind it.

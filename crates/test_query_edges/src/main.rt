@@ -46,7 +46,7 @@ fn print_mask(answer: MaskAnswer) {
 fn print_all(board: Board, state: State, processor: u8, scratch: &mut [u8]) {
     print_phase(queries::phase_of(board, state, processor));
     print_mask(wait_queries::direct_waits(board, state, processor));
-    print_mask(wait_queries::reach(board, state, processor, scratch));
+    print_mask(reach_queries::reach(board, state, processor, scratch));
     io::write_all(STDOUT_FILENO, b"\n");
 }
 
@@ -119,17 +119,17 @@ fn print_bytes(scratch: &[u8]) {
 // Clauses 7.4 and 7.5: a scratch of 31 is refused and stays, 11 comes before 16, 32 are taken, the byte behind stays.
 fn print_scratches(board: Board, state: State) {
     let mut short = [7u8; 31];
-    print_mask(wait_queries::reach(board, state, 2, &mut short));
-    print_mask(wait_queries::reach(board, state, 4, &mut short));
+    print_mask(reach_queries::reach(board, state, 2, &mut short));
+    print_mask(reach_queries::reach(board, state, 4, &mut short));
     print_byte(short[0]);
     print_byte(short[30]);
     io::write_all(STDOUT_FILENO, b"\n");
     let mut long = [7u8; 33];
-    print_mask(wait_queries::reach(board, state, 2, &mut long));
+    print_mask(reach_queries::reach(board, state, 2, &mut long));
     print_byte(long[31]);
     print_byte(long[32]);
     io::write_all(STDOUT_FILENO, b"\n");
-    print_mask(wait_queries::reach(board, state, 32, &mut long));
+    print_mask(reach_queries::reach(board, state, 32, &mut long));
     io::write_all(STDOUT_FILENO, b"\n");
 }
 

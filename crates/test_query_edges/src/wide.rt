@@ -20,7 +20,7 @@ fn three_calls(board: Board, fresh: State, last: u8) -> State {
 
 // The answer for processor 1, and the scratch after it.
 fn print_reach(board: Board, state: State, scratch: &mut [u8]) {
-    print_mask(wait_queries::reach(board, state, 1, scratch));
+    print_mask(reach_queries::reach(board, state, 1, scratch));
     print_hex(scratch);
     io::write_all(STDOUT_FILENO, b"\n");
 }

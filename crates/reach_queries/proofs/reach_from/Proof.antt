@@ -6,8 +6,8 @@ use Rattle.refusals.proofs.Numbers.{number-not-zero}
 use Rattle.queries.specs.Queries.{reachFault, reachScratch}
 use Rattle.queries.proofs.Answers.{reach-accepted, accepted-says, refused-says}
 use borrow.Author.Needs.{needs}
-use Rattle.wait_queries.proofs.reached.reach_from.Statement.{statement}
-use Rattle.wait_queries.proofs.reached.reach_from.Tie as tie
+use Rattle.reach_queries.proofs.reach_from.Statement.{statement}
+use Rattle.reach_queries.proofs.reach_from.Tie as tie
 
 write-reach-requires : tie.Need-write-reach-requires
 write-reach-requires c κs =

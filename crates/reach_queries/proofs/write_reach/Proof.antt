@@ -1,8 +1,8 @@
 -- `write_reach` meets its contract: the rows through all processors, as words. Assumes nothing.
-use Rattle.wait_queries.proofs.AllReached.{rows-reached, row-asked, words-stored}
+use Rattle.reach_queries.proofs.AllReached.{rows-reached, row-asked, words-stored}
 use borrow.Author.Needs.{needs}
-use Rattle.wait_queries.proofs.reached.write_reach.Statement.{statement}
-use Rattle.wait_queries.proofs.reached.write_reach.Tie as tie
+use Rattle.reach_queries.proofs.write_reach.Statement.{statement}
+use Rattle.reach_queries.proofs.write_reach.Tie as tie
 
 returns : tie.Need-returns
 returns c =

@@ -1,5 +1,5 @@
-// Reach, from the direct waits of all. Specification, clauses 7.3 and 7.4.
-use crate::direct::direct_rows;
+// Reach: all for whom a processor waits by a chain of direct waits. Nothing is changed but the lent scratch. Specification,
+// clauses 7.3 and 7.4.
 use encoding::check_room;
 use plans::ENTRIES;
 use plans::SLOTS;
@@ -14,6 +14,7 @@ use settling::Phases;
 use states::Board;
 use states::State;
 use states::Terms;
+use wait_queries::direct_rows;
 ghost use mathlib.Core.Path.{_≡_};
 ghost use Prim.Native.Nat.{_<_, _≤_};
 ghost use lib.ListN.{length};

@@ -2,8 +2,8 @@
 use mathlib.Core.Path.{refl}
 use Rattle.queries.specs.Queries.{waitsFor}
 use borrow.Author.Needs.{needs}
-use Rattle.wait_queries.proofs.reached.reach.Statement.{statement}
-use Rattle.wait_queries.proofs.reached.reach.Tie as tie
+use Rattle.reach_queries.proofs.reach.Statement.{statement}
+use Rattle.reach_queries.proofs.reach.Tie as tie
 
 returns : tie.Need-returns
 unfolding waitsFor

@@ -4,8 +4,8 @@ use Rattle.refusals.specs.Number.{verdictNumber}
 use Rattle.queries.specs.Parts.{boardWith, stateWith}
 use Rattle.queries.proofs.Answers.{processor-below, accepted-says, refused-says, waits-counted}
 use borrow.Author.Needs.{needs}
-use Rattle.wait_queries.proofs.direct.direct_waits_in_place.Statement.{statement}
-use Rattle.wait_queries.proofs.direct.direct_waits_in_place.Tie as tie
+use Rattle.wait_queries.proofs.direct_waits_in_place.Statement.{statement}
+use Rattle.wait_queries.proofs.direct_waits_in_place.Tie as tie
 
 returns : tie.Need-returns
 returns c =

@@ -2,8 +2,8 @@
 use Rattle.queries.specs.Parts.{boardWith, stateWith}
 use Rattle.queries.proofs.Answers.{rows-counted}
 use borrow.Author.Needs.{needs}
-use Rattle.wait_queries.proofs.direct.direct_rows.Statement.{statement}
-use Rattle.wait_queries.proofs.direct.direct_rows.Tie as tie
+use Rattle.wait_queries.proofs.direct_rows.Statement.{statement}
+use Rattle.wait_queries.proofs.direct_rows.Tie as tie
 
 returns : tie.Need-returns
 returns c =

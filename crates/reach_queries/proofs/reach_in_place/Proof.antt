@@ -2,8 +2,8 @@
 use mathlib.Core.Path.{refl}
 use Rattle.queries.specs.Parts.{boardWith, stateWith}
 use borrow.Author.Needs.{needs}
-use Rattle.wait_queries.proofs.reached.reach_in_place.Statement.{statement}
-use Rattle.wait_queries.proofs.reached.reach_in_place.Tie as tie
+use Rattle.reach_queries.proofs.reach_in_place.Statement.{statement}
+use Rattle.reach_queries.proofs.reach_in_place.Tie as tie
 
 returns : tie.Need-returns
 returns c =

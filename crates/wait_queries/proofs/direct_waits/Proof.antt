@@ -1,8 +1,8 @@
 -- `direct_waits` meets its contract: it hands the parts over. Assumes nothing.
 use Rattle.queries.specs.Queries.{waitsFor}
 use borrow.Author.Needs.{needs}
-use Rattle.wait_queries.proofs.direct.direct_waits.Statement.{statement}
-use Rattle.wait_queries.proofs.direct.direct_waits.Tie as tie
+use Rattle.wait_queries.proofs.direct_waits.Statement.{statement}
+use Rattle.wait_queries.proofs.direct_waits.Tie as tie
 
 returns : tie.Need-returns
 unfolding waitsFor

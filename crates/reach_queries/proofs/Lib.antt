@@ -1,0 +1,2 @@
+pub mod AllReached
+pub mod Fits
