@@ -1,52 +1,19 @@
-// When a call is refused, and by which number: specification, clause 4.5, 10 to 15 and 17. The phases are of the requests that
-// count.
+// When a call of one act is refused, and by which number: specification, clause 4.5, 10 to 15 and 17. The phases are of the
+// requests that count.
+use conditions::is_active;
+use conditions::is_counted;
+use conditions::is_in_time;
+use conditions::is_unsatisfied;
 use masks::has32;
-use plans::SLOTS;
 use refusals::Refusal;
 use refusals::Verdict;
 use refusals::refuse_unless;
 use settling::Phases;
 use states::Terms;
 ghost use mathlib.Core.Path.{_≡_};
-ghost use mathlib.Core.Bool.{_&&_};
-ghost use lib.Dec.{leb};
 ghost use Rattle.refusals.specs.Number.{numberOf, verdictNumber};
 ghost use Rattle.refusals.specs.Due.{due};
-ghost use Rattle.settling.specs.Requests.{unsatisfied, active};
-ghost use Rattle.states.specs.Requests.{hasProcessor};
 ghost use Rattle.states.specs.Faults.{issueFault, takeFault, completeFault, withdrawFault};
-
-// Clause 1.4: the largest tick.
-const LAST_TICK: u64 = 1099511627775;
-
-// Clause 4.5: 10 where this fails.
-pub fn is_in_time(last: u64, tick: u64) -> bool
-    ensures { λ r. ⌜ r ≡ (leb last tick && leb tick 1099511627775) ⌝ }
-{
-    (last <= tick) & (tick <= LAST_TICK)
-}
-
-// Clause 4.5: 11 where this fails. A board from no plan can have more processors than a state holds.
-pub fn is_counted(terms: Terms, processor: u8) -> bool
-    ensures { λ r. ⌜ r ≡ hasProcessor terms processor ⌝ }
-{
-    ((processor as usize) < SLOTS) & (processor < terms.processors)
-}
-
-pub fn is_unsatisfied(phases: Phases, processor: u8) -> bool
-    ensures { λ r. ⌜ r ≡ unsatisfied phases processor ⌝ }
-{
-    has32(phases.waiting | phases.entitled, processor as u32)
-}
-
-pub fn is_active(phases: Phases, processor: u8) -> bool
-    ensures { λ r. ⌜ r ≡ active phases processor ⌝ }
-{
-    has32(
-        phases.waiting | phases.entitled | phases.holding,
-        processor as u32,
-    )
-}
 
 // Clause 4.5: 10, 11, 12, 13. It returns at the first: a call that is accepted pays for the tests alone.
 pub fn check_issue(

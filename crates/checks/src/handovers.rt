@@ -1,8 +1,8 @@
 // When a handover is refused, and by which number: specification, clause 4.5. The phases are of the requests that count.
-use crate::faults::is_active;
-use crate::faults::is_counted;
-use crate::faults::is_in_time;
-use crate::faults::is_unsatisfied;
+use conditions::is_active;
+use conditions::is_counted;
+use conditions::is_in_time;
+use conditions::is_unsatisfied;
 use refusals::Refusal;
 use refusals::Verdict;
 use refusals::refuse_unless;

@@ -1,7 +1,7 @@
 -- `is_in_time` meets its contract: the two tests as they stand. Assumes nothing.
 use mathlib.Core.Path.{refl}
-use Rattle.checks.proofs.faults.is_in_time.Statement.{statement}
-use Rattle.checks.proofs.faults.is_in_time.Tie as tie
+use Rattle.conditions.proofs.is_in_time.Statement.{statement}
+use Rattle.conditions.proofs.is_in_time.Tie as tie
 
 returns : tie.Need-returns
 returns c = refl
