@@ -40,7 +40,7 @@ use Rattle.logs.specs.Records.{fieldsIn, noFields, recordFault, readRecord}
 -- functions promise, for every value:
 --   plan_reader::read        outcomeSays (r .outcome) ≡ readSays bytes, and r .plan ≡ planRead bytes
 --   plan_writer::write       outcomeSays r ≡ writeSays plan buffer at, and the buffer after it ≡ writtenBuffer plan buffer at
---   plans::check             verdictNumber r ≡ planFault plan
+--   acceptance::check        verdictNumber r ≡ planFault plan
 --   boards::fresh_of         verdictNumber (r .verdict) ≡ planFault plan, r .board ≡ freshBoard plan, r .state ≡ freshState
 --   arbiter::answer          answerOf r ≡ answered board state call
 --   arbiter::issue           answerOf r ≡ issued board state processor entry tick
