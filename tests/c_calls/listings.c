@@ -2,8 +2,8 @@
  * usage: listings calls|queries|conflicts FOLDER LOG...
  *
  * For each LOG a file of its name in FOLDER gets what lockreplay, query_listing or conflict_listing prints for it. Before the
- * board is made it has junk, on which calls and queries are made. Whatever is asked, the board and the bytes of the buffers
- * are as the header says afterwards. Behind the board, the log and every buffer is a page that cannot be touched, and before
+ * board is made it has junk, on which calls and queries are made. Every answer, and the board and the bytes of the buffers
+ * after it, is held against a model of the rules on any content (model.h). Behind the board, the log and every buffer is a page that cannot be touched, and before
  * them are bytes that have to stay.
  *
  * The last line counts what was asked and what was wrong. Exit status: 0 only if nothing was.
@@ -16,6 +16,7 @@
 #include <sys/mman.h>
 
 #include "bittmelon.h"
+#include "model.h"
 
 #define FILL 170
 #define ACTIONS 24 /* on the junk of a log */
@@ -115,7 +116,10 @@ static struct bittmelon_reply call(unsigned verb, uint8_t processor, uint8_t ent
         : verb == 2 ? bittmelon_withdraw(board, processor, tick)
         : bittmelon_handover(board, processor, entry, tick);
     check((enum asked)(ISSUE + verb), reply.refusal, reply.granted == 0 && reply.entitled == 0 && reply.late == 0);
-    expect(reply.late <= 1, (enum asked)(ISSUE + verb), "late is neither 0 nor 1");
+    struct bittmelon_board after = before;
+    struct bittmelon_reply due = model_call(&after, verb, processor, entry, tick);
+    expect(memcmp(&reply, &due, sizeof due) == 0, (enum asked)(ISSUE + verb), "another answer than the model's");
+    expect(memcmp(board, &after, sizeof after) == 0, (enum asked)(ISSUE + verb), "another board than the model's");
     return reply;
 }
 
@@ -147,11 +151,21 @@ static size_t list_room(void)
     return 1 + m * (board->processors <= 16 ? 8 : 10);
 }
 
+/* The number due for a query about a processor. */
+static uint32_t due_for(uint8_t processor)
+{
+    return processor < model_processors(board) ? 0 : 11;
+}
+
 static struct bittmelon_answer state(uint8_t processor)
 {
     before = *board;
     struct bittmelon_answer answer = bittmelon_state(board, processor);
+    enum phase phase[32];
+    model_phases(board, phase);
     check(STATE, answer.refusal, answer.value == 0);
+    expect(answer.refusal == due_for(processor), STATE, "another refusal than the model's");
+    expect(answer.refusal || answer.value == (uint64_t)phase[processor], STATE, "another state than the model's");
     return answer;
 }
 
@@ -160,6 +174,8 @@ static struct bittmelon_answer waits(uint8_t processor)
     before = *board;
     struct bittmelon_answer answer = bittmelon_waits(board, processor);
     check(WAITS, answer.refusal, answer.value == 0);
+    expect(answer.refusal == due_for(processor), WAITS, "another refusal than the model's");
+    expect(answer.refusal || answer.value == model_waits(board, processor), WAITS, "other waits than the model's");
     return answer;
 }
 
@@ -170,6 +186,14 @@ static struct bittmelon_answer reach(uint8_t processor, size_t size)
     check(REACH, answer.refusal, answer.value == 0);
     expect(answer.refusal == 11 || (answer.refusal == 16) == (size < scratch_room()), REACH, "the wrong room");
     expect(kept_but(size, answer.refusal ? 0 : scratch_room()), REACH, "bytes outside the scratch changed");
+    expect((answer.refusal == 11) == (due_for(processor) == 11), REACH, "another refusal than the model's");
+    if (answer.refusal == 0) {
+        uint8_t words[128];
+        uint32_t reaches[32];
+        model_reaches(board, reaches);
+        expect(answer.value == reaches[processor], REACH, "another reach than the model's");
+        expect(memcmp(of_buffer.end - size, words, model_words(board, words)) == 0, REACH, "other words than the model's");
+    }
     return answer;
 }
 
@@ -181,6 +205,10 @@ static struct bittmelon_answer list(size_t size)
     expect((answer.refusal == 16) == (size < list_room()), LIST, "the wrong room");
     expect(answer.refusal || answer.value == list_room(), LIST, "the wrong size");
     expect(kept_but(size, answer.refusal ? 0 : list_room()), LIST, "bytes outside the list changed");
+    uint8_t due[321];
+    size_t bytes = model_list(board, due);
+    expect(answer.refusal || (answer.value == bytes && memcmp(of_buffer.end - size, due, bytes) == 0), LIST,
+        "another list than the model's");
     return answer;
 }
 
@@ -189,7 +217,11 @@ static struct bittmelon_conflict shared(uint8_t first, uint8_t second)
     before = *board;
     struct bittmelon_conflict answer = bittmelon_shared(board, first, second);
     check(SHARED, answer.refusal, answer.conflict == 0 && answer.lowest == 0 && answer.count == 0);
-    expect(answer.conflict == (answer.count != 0) && answer.lowest < 64 && answer.count <= 64, SHARED, "no conflict at all");
+    uint64_t over = model_shared(board, first, second);
+    int none = first >= board->entries || second >= board->entries;
+    expect(answer.refusal == (none ? 12u : 0u), SHARED, "another refusal than the model's");
+    expect(none || (answer.conflict == (over != 0) && answer.count == (uint32_t)__builtin_popcountll(over)
+        && answer.lowest == (over ? (uint32_t)__builtin_ctzll(over) : 0)), SHARED, "another conflict than the model's");
     return answer;
 }
 
