@@ -3,6 +3,7 @@
 // to 4.10.
 use acts::enter;
 use acts::leave;
+use ages::put_last;
 use answers::accepted;
 use answers::refused;
 use checks::check_complete;
@@ -10,7 +11,6 @@ use checks::check_issue;
 use checks::check_withdraw;
 use effects::late_mark;
 use effects::length_at;
-use placing::put_last;
 use plans::ENTRIES;
 use plans::SLOTS;
 use refusals::Verdict;

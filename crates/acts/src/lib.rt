@@ -2,11 +2,11 @@
 // began to hold and who became entitled by it. Specification, clauses 4.4 to 4.8.
 mod stores;
 
+use ages::stamp;
 use effects::Carried;
 use masks::without32;
 use placing::settle_left;
 use placing::settle_new;
-use placing::stamp;
 use placing::take_out;
 use plans::ENTRIES;
 use plans::SLOTS;

@@ -1,13 +1,13 @@
 // A completion and an issue in one call, on the arrays of a state, in place. Specification, clauses 4.4 to 4.8.
 use acts::enter;
 use acts::leave;
+use ages::put_last;
 use answers::accepted;
 use answers::refused;
 use checks::check_handover;
 use effects::late_mark;
 use effects::length_at;
 use effects::merge;
-use placing::put_last;
 use plans::ENTRIES;
 use plans::SLOTS;
 use refusals::Verdict;

@@ -5,9 +5,9 @@ use Rattle.masks.proofs.Lowest.{rest-less}
 use Rattle.masks.proofs.Walks.{lowest-place}
 use Rattle.masks.proofs.Stores.{Stored, stored-first, stored-more, stored-last}
 use Rattle.plans.specs.Entries.{slots}
-use Rattle.placing.proofs.PutIn.{is-tabulate}
-use Rattle.placing.proofs.stamp.Statement.{statement}
-use Rattle.placing.proofs.stamp.Tie as tie
+use Rattle.ages.proofs.Ages.{is-tabulate}
+use Rattle.ages.proofs.stamp.Statement.{statement}
+use Rattle.ages.proofs.stamp.Tie as tie
 
 abbrev Inv-loop : tie.InvT-loop
 Inv-loop since₀ among tick left₀ since left = Stored slots 32 tick among since₀ left since

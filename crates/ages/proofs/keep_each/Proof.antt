@@ -6,9 +6,9 @@ use lib.Bits.{bitAnd}
 use borrow.Author.Needs.{needs}
 use Rattle.masks.proofs.Stores.{Each, each-first, each-more, each-last}
 use Rattle.plans.specs.Entries.{slots}
-use Rattle.placing.proofs.PutIn.{is-tabulate}
-use Rattle.placing.proofs.keep_each.Statement.{statement}
-use Rattle.placing.proofs.keep_each.Tie as tie
+use Rattle.ages.proofs.Ages.{is-tabulate}
+use Rattle.ages.proofs.keep_each.Statement.{statement}
+use Rattle.ages.proofs.keep_each.Tie as tie
 
 abbrev Inv-loop : tie.InvT-loop
 Inv-loop sets₀ keep q₀ sets q = Each slots (λ n. bitAnd n keep) sets₀ q sets

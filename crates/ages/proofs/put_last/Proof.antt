@@ -1,8 +1,8 @@
 -- `put_last` meets its contract: the new request's place is out of every set, and its own set is who is active. Assumes nothing.
 use borrow.Author.Needs.{needs}
-use Rattle.placing.proofs.PutIn.{all-but-none, last-put, none-put}
-use Rattle.placing.proofs.put_last.Statement.{statement}
-use Rattle.placing.proofs.put_last.Tie as tie
+use Rattle.ages.proofs.Ages.{all-but-none, last-put, none-put}
+use Rattle.ages.proofs.put_last.Statement.{statement}
+use Rattle.ages.proofs.put_last.Tie as tie
 
 returns : tie.Need-returns
 returns c =

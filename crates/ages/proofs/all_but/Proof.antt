@@ -4,8 +4,8 @@ use native.Mathlib.Omega.{arith}
 use borrow.Author.Needs.{needs}
 use Rattle.masks.proofs.Tests.{all-but}
 use Rattle.plans.specs.Entries.{slots}
-use Rattle.placing.proofs.all_but.Statement.{statement}
-use Rattle.placing.proofs.all_but.Tie as tie
+use Rattle.ages.proofs.all_but.Statement.{statement}
+use Rattle.ages.proofs.all_but.Tie as tie
 
 returns : tie.Need-returns
 returns c = c .remove32 .ensures ∙ all-but slots 32 _ (omega arith) .is
