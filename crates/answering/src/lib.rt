@@ -1,14 +1,14 @@
 // Any call on the arrays of a state, in place.
-use acting::complete_in_place;
-use acting::issue_in_place;
-use acting::withdraw_in_place;
 use calls::Call;
+use completing::complete_in_place;
 use handing_over::handover_in_place;
+use issuing::issue_in_place;
 use plans::ENTRIES;
 use plans::SLOTS;
 use rules::Changed;
 use states::Moment;
 use states::Terms;
+use withdrawing::withdraw_in_place;
 ghost use mathlib.Core.Path.{_≡_};
 ghost use Rattle.rules.specs.Calls.{answered};
 ghost use Rattle.rules.specs.InPlace.{boardBy, stateBy, answerBy};

@@ -88,7 +88,7 @@ fn sum_from(board: Board, full: State, processors: u8, turns: u64) -> u64
         seed = next(seed);
         let p = holder_from(moment.phases.holding, place(seed, processors)) as u8;
         let e = (seed / 1048576 % 64) as u8;
-        let first = acting::complete_in_place(
+        let first = completing::complete_in_place(
             terms,
             &rows,
             &lengths,
@@ -100,7 +100,7 @@ fn sum_from(board: Board, full: State, processors: u8, turns: u64) -> u64
             tick,
         );
         let left = first.moment;
-        let second = acting::issue_in_place(
+        let second = issuing::issue_in_place(
             terms,
             &rows,
             left,

@@ -2,10 +2,10 @@
 use crate::Replied;
 use crate::done;
 use crate::refused;
-use acting::issue_in_place;
 use c_boards::moment_of;
 use c_boards::store_moment;
 use calls::Reply;
+use issuing::issue_in_place;
 use plans::ENTRIES;
 use plans::SLOTS;
 use states::Terms;

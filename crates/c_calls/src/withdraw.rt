@@ -2,13 +2,13 @@
 use crate::Replied;
 use crate::done;
 use crate::refused;
-use acting::withdraw_in_place;
 use c_boards::moment_of;
 use c_boards::store_moment;
 use calls::Reply;
 use plans::ENTRIES;
 use plans::SLOTS;
 use states::Terms;
+use withdrawing::withdraw_in_place;
 ghost use mathlib.Core.Path.{_≡_};
 ghost use mathlib.Core.List.{[]};
 ghost use Rattle.rules.specs.Calls.{withdrawn};

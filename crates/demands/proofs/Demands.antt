@@ -49,8 +49,8 @@ use Rattle.logs.specs.Records.{fieldsIn, noFields, recordFault, readRecord}
 --   arbiter::handover        answerOf r ≡ handedOver board state processor entry tick
 --   arbiter::answer_on       answerOf r ≡ answered, of the board whose terms, rows and lengths it was lent
 --   answering::answer_in_place  answerBy r and the arrays after it ≡ answered, of the board and the state that it was lent
---   acting::issue_in_place   the same with issued, complete_in_place with completed, withdraw_in_place with withdrawn, and
---                            handing_over::handover_in_place with handedOver
+--   issuing::issue_in_place  the same with issued, completing::complete_in_place with completed,
+--                            withdrawing::withdraw_in_place with withdrawn, handing_over::handover_in_place with handedOver
 --   queries::phase_of              phaseSays r ≡ phaseQuery board state processor
 --   wait_queries::direct_waits     maskSays r ≡ waitsQuery board state processor
 --   reach_queries::reach           maskSays r ≡ reachQuery board state processor scratch, the scratch after it ≡ reachScratch ..

@@ -2,8 +2,8 @@
 use mathlib.Core.Path.{_∙_}
 use borrow.Author.Needs.{needs}
 use Rattle.answers.proofs.Verdicts.{withdraw-refused, withdraw-done}
-use Rattle.acting.proofs.withdraw_in_place.Statement.{statement}
-use Rattle.acting.proofs.withdraw_in_place.Tie as tie
+use Rattle.withdrawing.proofs.withdraw_in_place.Statement.{statement}
+use Rattle.withdrawing.proofs.withdraw_in_place.Tie as tie
 
 returns : tie.Need-returns
 returns c =

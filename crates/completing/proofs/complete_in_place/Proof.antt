@@ -4,8 +4,8 @@ use Prim.Native.Nat.{_<_}
 use borrow.Author.Needs.{needs}
 use Rattle.plans.specs.Entries.{slots}
 use Rattle.answers.proofs.Verdicts.{complete-refused, complete-counted, complete-done}
-use Rattle.acting.proofs.complete_in_place.Statement.{statement}
-use Rattle.acting.proofs.complete_in_place.Tie as tie
+use Rattle.completing.proofs.complete_in_place.Statement.{statement}
+use Rattle.completing.proofs.complete_in_place.Tie as tie
 
 -- An accepted completion's processor is one of those that a state holds.
 counted : (c : tie.After-enum-told) → c .before .before .before .before .before .before .args .processor < slots

@@ -2,8 +2,8 @@
 use mathlib.Core.Path.{_∙_}
 use borrow.Author.Needs.{needs}
 use Rattle.answers.proofs.Verdicts.{issue-refused, issue-done}
-use Rattle.acting.proofs.issue_in_place.Statement.{statement}
-use Rattle.acting.proofs.issue_in_place.Tie as tie
+use Rattle.issuing.proofs.issue_in_place.Statement.{statement}
+use Rattle.issuing.proofs.issue_in_place.Tie as tie
 
 returns : tie.Need-returns
 returns c =
