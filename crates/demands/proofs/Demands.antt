@@ -58,7 +58,7 @@ use Rattle.logs.specs.Records.{fieldsIn, noFields, recordFault, readRecord}
 --   board_queries::list_board_in_place  the same, of the board and the state that it was lent
 --   contention::shared_by    sharedSays r ≡ sharedQuery board first second; what that is on a plan's board, Contention.antt says
 --   registers::read          readSays r ≡ registerRead block offset (register_block::read_register the same, of the block it is lent)
---   commands::write          changeSays r ≡ registerWrite board state block offset value, in which a refused command changes
+--   register_writes::write   changeSays r ≡ registerWrite board state block offset value, in which a refused command changes
 --                            offset 3 alone (register_block::write_register: writeSays r and the block after it ≡ registerWrite ..)
 --   logs::read_count         countSays r ≡ readCount bytes
 --   logs::read_record        recordSays r ≡ readRecord bytes

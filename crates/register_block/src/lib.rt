@@ -1,8 +1,8 @@
 // The register block as a driver knows it: lent to a call, and changed by it. Each function takes the block apart, calls
 // the one by value, and puts the block back. The arbiter's state goes in by value and comes back.
 use commands::Written;
-use commands::write;
 use plans::ENTRIES;
+use register_writes::write;
 use registers::Block;
 use registers::ReadAnswer;
 use registers::read;

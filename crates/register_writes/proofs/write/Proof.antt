@@ -2,10 +2,10 @@
 use mathlib.Core.Path.{ap, _∙_}
 use borrow.Author.Needs.{needs}
 use Rattle.registers.specs.declared.Register.the-variants.{Command, Argument, Answer, Pending, Enabled, Line, Unlisted}
 use Rattle.commands.specs.Commands.{changeSays}
 use Rattle.commands.proofs.Blocks.{written-at, kept-store}
-use Rattle.commands.proofs.write.Statement.{statement}
-use Rattle.commands.proofs.write.Tie as tie
+use Rattle.register_writes.proofs.write.Statement.{statement}
+use Rattle.register_writes.proofs.write.Tie as tie
 
 returns : tie.Need-returns
 returns c = written-at _ _ _ _ _ _ Command _ (c .before .before .before .register-at .ensures) (c .before .enum-told .given .1) (c .command .ensures)
