@@ -1,7 +1,5 @@
 // Plan values to bytes, into a lent buffer. `plan_reader` takes the same bytes back.
 use encoding::Outcome;
-use encoding::check_room;
-use encoding::write_number;
 use plans::ENTRIES;
 use plans::ENTRY_BYTES;
 use plans::Entry;
@@ -10,6 +8,8 @@ use plans::Plan;
 use plans::plan_size;
 use refusals::Verdict;
 use refusals::first_of;
+use storing::check_room;
+use storing::write_number;
 ghost use mathlib.Core.Path.{_≡_};
 ghost use Prim.Native.Nat.{_+_, _*_, _≤_};
 ghost use lib.ListN.{length, take};

@@ -1,12 +1,12 @@
 // The wait listing: the whole board in bytes, from the phases that count and the direct waits of all. The queries use
 // it. Specification, clauses 7.7 to 7.9.
 use encoding::Outcome;
-use encoding::check_room;
-use encoding::write_number;
 use plans::SLOTS;
 use plans::mask_size;
 use refusals::Verdict;
 use settling::Phases;
+use storing::check_room;
+use storing::write_number;
 use wait_fields::entry_at;
 use wait_fields::state_at;
 use wait_fields::waited_at;

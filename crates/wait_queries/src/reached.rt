@@ -1,6 +1,5 @@
 // Reach, from the direct waits of all. Specification, clauses 7.3 and 7.4.
 use crate::direct::direct_rows;
-use encoding::check_room;
 use plans::ENTRIES;
 use plans::SLOTS;
 use queries::MaskAnswer;
@@ -14,6 +13,7 @@ use settling::Phases;
 use states::Board;
 use states::State;
 use states::Terms;
+use storing::check_room;
 ghost use mathlib.Core.Path.{_≡_};
 ghost use Prim.Native.Nat.{_<_, _≤_};
 ghost use lib.ListN.{length};

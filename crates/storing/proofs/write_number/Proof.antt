@@ -1,11 +1,11 @@
 -- `write_number` meets its contract: with room the bytes are stored, without it nothing is. Assumes nothing.
 use mathlib.Core.Path.{sym, _∙_}
 use borrow.Author.Needs.{needs}
 use Rattle.encoding.specs.Numbers.{bytesOf}
 use Rattle.encoding.proofs.Numbers.{length-bytesOf}
 use Rattle.encoding.proofs.Room.{with-room, without-room}
-use Rattle.encoding.proofs.write_number.Statement.{statement}
-use Rattle.encoding.proofs.write_number.Tie as tie
+use Rattle.storing.proofs.write_number.Statement.{statement}
+use Rattle.storing.proofs.write_number.Tie as tie
 
 store-number-requires : tie.Need-store-number-requires
 store-number-requires c κs = c .before .before .has-room .ensures .1 (c .before .if1 .taken)

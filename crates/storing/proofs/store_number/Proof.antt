@@ -5,10 +5,10 @@ use native.Mathlib.Numerals.{unary-clauses}
 use native.Mathlib.Omega.{arith}
 use lib.ListN.{length, length-set}
 use lib.Seq.{sets}
 use Rattle.encoding.specs.Numbers.{bytesOf}
 use Rattle.encoding.proofs.Stores.{number-turn, number-end}
-use Rattle.encoding.proofs.store_number.Statement.{statement}
-use Rattle.encoding.proofs.store_number.Tie as tie
+use Rattle.storing.proofs.store_number.Statement.{statement}
+use Rattle.storing.proofs.store_number.Tie as tie
 
 abbrev Inv-loop : tie.InvT-loop
 Inv-loop value size buffer₀ at rest₀ i₀ buffer rest i =
