@@ -1,8 +1,8 @@
 -- `check_counts` meets its contract: the three checks in file order. Assumes nothing.
 use borrow.Author.Needs.{needs}
 use Rattle.plans.specs.Acceptance.{countsFault}
-use Rattle.acceptance.proofs.check_counts.Statement.{statement}
-use Rattle.acceptance.proofs.check_counts.Tie as tie
+use Rattle.plan_counts.proofs.check_counts.Statement.{statement}
+use Rattle.plan_counts.proofs.check_counts.Tie as tie
 
 returns : tie.Need-returns
 unfolding countsFault

@@ -1,19 +1,15 @@
 -- `check_head` answers the first fault of the counts, each due before it is checked. Assumes nothing.
-use mathlib.Core.Path.{_≡_}
-use Rattle.refusals.specs.Number.{verdictNumber}
-use Rattle.refusals.specs.Due.{firstOf}
-use Rattle.plan_reader.proofs.Head.{firstCount, secondCount, thirdCount, head-then-body, counts-there}
 use borrow.Author.Needs.{needs}
-use Rattle.plan_reader.proofs.check_head.Statement.{statement}
-use Rattle.plan_reader.proofs.check_head.Tie as tie
+use Rattle.plan_head.specs.Head.{headFault}
+use Rattle.plan_head.proofs.check_head.Statement.{statement}
+use Rattle.plan_head.proofs.check_head.Tie as tie
 
 returns : tie.Need-returns
+unfolding headFault
 returns c =
     let third = c .before .before in
     let second = third .before .before .before .before in
     let first = second .before .before .before .before in
-    let s = first .before .before .before .before .before .args .bytes .now in
-    let is : verdictNumber (c .first-of5 .result) ≡ firstOf (firstCount s) (firstOf (secondCount s) (thirdCount s)) =
     rw (
       c .first-of5 .ensures,
       c .before .first-of4 .ensures,
@@ -30,8 +26,6 @@ returns c =
       first .before .before .byte-at .ensures,
       first .before .before .before .check-due .ensures,
     )
-    in
-    (head-then-body s _ is, counts-there s _ is)
 
 pub check-head-spec : {M : Type 1} → statement M
 check-head-spec =
