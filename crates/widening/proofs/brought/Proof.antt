@@ -1,7 +1,7 @@
 -- `brought` meets its contract: the test decides. Assumes nothing.
 use borrow.Author.Needs.{needs}
-use Rattle.conflicts.proofs.brought.Statement.{statement}
-use Rattle.conflicts.proofs.brought.Tie as tie
+use Rattle.widening.proofs.brought.Statement.{statement}
+use Rattle.widening.proofs.brought.Tie as tie
 
 returns : tie.Need-returns
 returns c = rw (← c .before .before .is-read .ensures, ← c .before .meet64 .ensures, c .if1 .taken)

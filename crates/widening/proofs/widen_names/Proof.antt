@@ -5,11 +5,11 @@ use native.Mathlib.Omega.{arith}
 use mathlib.Core.Path.{_≡_, sym}
 use lib.ListN.{length, drop, length-map}
 use Rattle.plans.specs.Entries.{mostEntries, countedEntries}
-use Rattle.conflicts.specs.Conflict.{widen}
-use Rattle.conflicts.proofs.Widening.{widened-by-none, widened-by-next}
+use Rattle.widening.specs.Widening.{widen}
+use Rattle.widening.proofs.Names.{widened-by-none, widened-by-next}
 use borrow.Author.Needs.{needs}
-use Rattle.conflicts.proofs.widen_names.Statement.{statement}
-use Rattle.conflicts.proofs.widen_names.Tie as tie
+use Rattle.widening.proofs.widen_names.Statement.{statement}
+use Rattle.widening.proofs.widen_names.Tie as tie
 
 abbrev Inv-loop : tie.InvT-loop
 Inv-loop names plan out₀ i₀ out i = (i ≤ min (plan .count) mostEntries) × (out ≡ widen names (drop i (countedEntries plan)))
