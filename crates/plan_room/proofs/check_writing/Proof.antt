@@ -1,8 +1,8 @@
 -- `check_writing` meets its contract: the check of the value, then that of the room. Assumes nothing.
 use Rattle.plans.specs.Writing.{writeFault}
 use borrow.Author.Needs.{needs}
-use Rattle.plan_writer.proofs.check_writing.Statement.{statement}
-use Rattle.plan_writer.proofs.check_writing.Tie as tie
+use Rattle.plan_room.proofs.check_writing.Statement.{statement}
+use Rattle.plan_room.proofs.check_writing.Tie as tie
 
 returns : tie.Need-returns
 unfolding writeFault
