@@ -2,10 +2,10 @@
 use Prim.Native.Nat.{_≤_}
 use native.Mathlib.Omega.{arith}
 use Rattle.plans.specs.Entries.{slots}
-use Rattle.wait_listing.proofs.Sizes.{mask-size-small, list-small}
+use Rattle.listing_sizes.proofs.Sizes.{mask-size-small, list-small}
 use borrow.Author.Needs.{needs}
-use Rattle.wait_listing.proofs.list_size.Statement.{statement}
-use Rattle.wait_listing.proofs.list_size.Tie as tie
+use Rattle.listing_sizes.proofs.list_size.Statement.{statement}
+use Rattle.listing_sizes.proofs.list_size.Tie as tie
 
 add-result : tie.Need-add-result
 add-result c = omega (arith, c .mask-size .ensures, mask-size-small (c .before .args .processors))

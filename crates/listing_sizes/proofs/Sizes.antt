@@ -5,7 +5,7 @@ use native.Mathlib.Nat.{mul-le-mul-left, mul-le-mul-right}
 use native.Mathlib.Omega.{arith}
 use lib.Dec.{leb}
 use Rattle.plans.specs.Entries.{slots, maskSizeFor}
-use Rattle.wait_listing.specs.Listing.{partSize, listSize}
+use Rattle.listing_sizes.specs.Sizes.{partSize, listSize}
 
 pub mask-size-small : (m : ℕ) → maskSizeFor m ≤ 4
 mask-size-small m = go (leb m 16)
