@@ -5,7 +5,7 @@ use encoding::Outcome;
 use number_fields::put_labelled;
 use number_fields::put_last;
 use refusals::Refusal;
-use storing::has_room;
+use room::has_room;
 ghost use mathlib.Core.Path.{_≡_};
 ghost use mathlib.Core.List.{[], _∷_};
 ghost use Prim.Native.Nat.{_+_, _≤_};

@@ -4,7 +4,7 @@ use plans::Plan;
 use plans::plan_size;
 use refusals::Verdict;
 use refusals::first_of;
-use storing::check_room;
+use room::check_room;
 ghost use mathlib.Core.Path.{_≡_};
 ghost use Rattle.refusals.specs.Number.{verdictNumber};
 ghost use Rattle.plans.specs.Writing.{writeFault};

@@ -4,7 +4,7 @@ use encoding::Outcome;
 use plans::SLOTS;
 use plans::mask_size;
 use refusals::Refusal;
-use storing::has_room;
+use room::has_room;
 use storing::write_number;
 ghost use mathlib.Core.Path.{_≡_};
 ghost use Prim.Native.Nat.{_≤_};

@@ -1,37 +1,15 @@
-// Bytes put into a lent buffer: whether there is room for them, and a number stored low byte first. Plans, listings and
-// answers in bytes are written through it. Specification, clauses 2.1, 2.12 and 8.1.
+// A number put into a lent buffer, low byte first. Plans, listings and answers in bytes are written through it.
+// Specification, clauses 2.1, 2.12 and 8.1.
 use encoding::Outcome;
 use refusals::Refusal;
-use refusals::Verdict;
-use refusals::refuse_unless;
+use room::has_room;
 ghost use mathlib.Core.Path.{_≡_};
-ghost use mathlib.Core.Bool.{true};
 ghost use Prim.Native.Nat.{_+_, _≤_};
 ghost use lib.ListN.{length};
 ghost use lib.Seq.{sets};
-ghost use Rattle.refusals.specs.Number.{verdictNumber};
 ghost use Rattle.refusals.specs.Due.{said};
 ghost use Rattle.encoding.specs.Numbers.{bytesOf};
-ghost use Rattle.encoding.specs.Buffers.{hasRoom, roomFault, bufferAfter, outcomeSays};
-
-// Whether a buffer of that size has so many bytes from a position. The position can be any number, so nothing is added
-// to it: the sum might not fit.
-pub fn has_room(needed: usize, size: usize, at: usize) -> bool
-    ensures is { λ r. ⌜ r ≡ hasRoom needed size at ⌝ }
-    ensures room { λ r. ⌜ (r ≡ true → at + needed ≤ size) ⌝ }
-{
-    if size < at {
-        return false;
-    }
-    needed <= size - at
-}
-
-// Refuses by 16 where there is no room.
-pub fn check_room(needed: usize, size: usize, at: usize) -> Verdict
-    ensures { λ r. ⌜ verdictNumber r ≡ roomFault needed size at ⌝ }
-{
-    refuse_unless(has_room(needed, size, at), Refusal::Room)
-}
+ghost use Rattle.encoding.specs.Buffers.{roomFault, bufferAfter, outcomeSays};
 
 // Stores a number from position at as size bytes.
 fn store_number(value: u64, size: usize, buffer: &mut [u8], at: usize)

@@ -6,8 +6,8 @@ use borrow.Author.Tests.{le-leb, lt-leb}
 use lib.Dec.{leb}
 use Rattle.encoding.specs.Buffers.{hasRoom}
 use Rattle.encoding.proofs.Room.{there-is-room}
-use Rattle.storing.proofs.has_room.Statement.{statement}
-use Rattle.storing.proofs.has_room.Tie as tie
+use Rattle.room.proofs.has_room.Statement.{statement}
+use Rattle.room.proofs.has_room.Tie as tie
 
 returns : tie.Need-returns
 returns c = (rw (lt-leb _ _ (c .if1 .taken)) refl, λ e. let z : _≡_ {A = ℕ} 0 1 = cc in omega arith)

@@ -2,8 +2,8 @@
 use mathlib.Core.Path.{ap, _∙_}
 use borrow.Author.Needs.{needs}
 use Rattle.refusals.specs.Due.{due}
-use Rattle.storing.proofs.check_room.Statement.{statement}
-use Rattle.storing.proofs.check_room.Tie as tie
+use Rattle.room.proofs.check_room.Statement.{statement}
+use Rattle.room.proofs.check_room.Tie as tie
 
 returns : tie.Need-returns
 returns c = c .refuse-unless .ensures ∙ ap (λ test. due test 16) (c .before .has-room .ensures .0)
