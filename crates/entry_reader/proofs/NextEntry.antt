@@ -1,46 +1,57 @@
 -- The next entry: what each way out of its check answers, and what an answer that is known tells. Assumes nothing.
-use Prim.Native.Nat.{ℕ, _-_, _≤_, _<_}
-use native.Mathlib.Nat.{le-refl}
-use mathlib.Core.Path.{_≡_, sym, ap, _∙_}
+use Prim.Native.Nat.{ℕ, _≤_, _<_}
+use mathlib.Core.Path.{_≡_, refl, sym, ap, _∙_}
+use mathlib.Core.Bool.{cond}
 use mathlib.Core.List.{List}
 use borrow.Author.Tests.{le-leb, lt-leb}
-use lib.ListN.{length, take, drop, length-drop}
-use lib.Seq.{take-all}
+use lib.Dec.{eqb}
+use lib.ListN.{length}
 use Rattle.refusals.specs.declared.Refusal.{Refusal}
 use Rattle.refusals.specs.declared.Verdict.{Verdict}
 use Rattle.refusals.specs.Number.{numberOf, verdictNumber}
+use Rattle.refusals.proofs.Numbers.{number-not-zero}
 use Rattle.plans.specs.declared.Entry.{Entry}
-use Rattle.plans.specs.Entries.{entrySize}
+use Rattle.plans.specs.Entries.{entrySize, blankEntry}
 use Rattle.plans.specs.Acceptance.{entryFault}
 use Rattle.plans.specs.Reading.{entryIn}
-use Rattle.plan_reader.specs.declared.Next.{Next}
-use Rattle.plan_reader.specs.inner.Body.{nextFault, IsNext}
+use Rattle.entry_reader.specs.declared.Next.{Next}
+use Rattle.entry_reader.specs.NextEntry.{nextFault, nextNumber, nextMet}
 
-module _ (resources : ℕ) (bytes : List ℕ) (at : ℕ) where
-  pub too-short : length bytes - at < entrySize → IsNext resources (drop at bytes) (Next.Fault Refusal.Short)
-  too-short few = rw (length-drop, lt-leb entrySize (length bytes - at) few)
+module _ (resources : ℕ) (s : List ℕ) where
+  -- What `next_entry` promises of an answer.
+  abbrev pub Promised : Next → Type 0
+  Promised next =
+      (nextNumber next ≡ nextFault resources s) × (nextMet next ≡ cond (eqb (nextFault resources s) 0) (entryIn s) blankEntry)
+
+  refused-with : (r : Refusal) → nextFault resources s ≡ numberOf r → Promised (Next.Fault r)
+  refused-with r e = (sym e, rw (e, number-not-zero r) refl)
+
+  pub too-short : length s < entrySize → Promised (Next.Fault Refusal.Short)
+  unfolding nextFault
+  too-short few = refused-with Refusal.Short (rw (lt-leb entrySize (length s) few))
 
   -- There are enough bytes, and the entry in them was checked.
   module _
-      (enough : entrySize ≤ length bytes - at) (e : Entry)
-      (read : e ≡ entryIn (take (length bytes - at) (drop at bytes)))
+      (enough : entrySize ≤ length s) (e : Entry) (read : e ≡ entryIn s)
       (v : Verdict) (is : verdictNumber v ≡ entryFault resources e)
     where
-      is-next : e ≡ entryIn (drop at bytes)
-      is-next = read ∙ ap entryIn (take-all (length bytes - at) (drop at bytes) (rw length-drop (le-refl _)))
+      its-fault : nextFault resources s ≡ verdictNumber v
+      unfolding nextFault
+      its-fault = rw (le-leb entrySize (length s) enough, ← read) (sym is)
 
-      its-fault : nextFault resources (drop at bytes) ≡ verdictNumber v
-      its-fault = rw (length-drop, le-leb entrySize (length bytes - at) enough, ← is-next) (sym is)
+      pub met : v ≡ Verdict.Accepted → Promised (Next.Met e)
+      met a =
+          let none : nextFault resources s ≡ 0 = its-fault ∙ ap verdictNumber a in
+          (sym none, rw none read)
 
-      pub met : v ≡ Verdict.Accepted → IsNext resources (drop at bytes) (Next.Met e)
-      met a = (is-next, its-fault ∙ ap verdictNumber a)
+      pub faulty : (r : Refusal) → v ≡ Verdict.Refused r → Promised (Next.Fault r)
+      faulty r f = refused-with r (its-fault ∙ ap verdictNumber f)
 
-      pub faulty : (r : Refusal) → v ≡ Verdict.Refused r → IsNext resources (drop at bytes) (Next.Fault r)
-      faulty r f = its-fault ∙ ap verdictNumber f
+  module _ (next : Next) (is : Promised next) where
+    pub met-told : (e : Entry) → next ≡ Next.Met e → (e ≡ entryIn s) × (nextFault resources s ≡ 0)
+    met-told e n =
+        let none : nextFault resources s ≡ 0 = sym (is .0) ∙ ap nextNumber n in
+        (sym (ap nextMet n) ∙ rw none at (is .1), none)
 
-module _ (resources : ℕ) (s : List ℕ) (next : Next) (is : IsNext resources s next) where
-  pub met-told : (e : Entry) → next ≡ Next.Met e → (e ≡ entryIn s) × (nextFault resources s ≡ 0)
-  met-told e n = rw n at is
-
-  pub fault-told : (r : Refusal) → next ≡ Next.Fault r → nextFault resources s ≡ numberOf r
-  fault-told r n = rw n at is
+    pub fault-told : (r : Refusal) → next ≡ Next.Fault r → nextFault resources s ≡ numberOf r
+    fault-told r n = sym (is .0) ∙ ap nextNumber n

@@ -1,5 +1,3 @@
-pub mod Entries
 pub mod Head
 pub mod Answers
-pub mod NextEntry
 pub mod Section

@@ -1,7 +1,7 @@
 // From bytes to a plan. A log's reader begins with it, and so does the viewer. Specification, section 2.
-use acceptance::check_entry;
 use encoding::Outcome;
-use encoding::read_number;
+use entry_reader::Next;
+use entry_reader::next_entry;
 use plan_head::check_head;
 use plans::ENTRIES;
 use plans::ENTRY_BYTES;
@@ -14,14 +14,13 @@ use refusals::Refusal;
 use refusals::Verdict;
 ghost use mathlib.Core.Path.{_≡_};
 ghost use mathlib.Core.Bool.{cond};
-ghost use Prim.Native.Nat.{_≤_};
 ghost use lib.Dec.{eqb};
-ghost use lib.ListN.{length, getD, drop};
+ghost use lib.ListN.{getD};
 ghost use Rattle.refusals.specs.Due.{said};
 ghost use Rattle.encoding.specs.Buffers.{outcomeSays};
-ghost use Rattle.plans.specs.Entries.{entrySize, planSize};
-ghost use Rattle.plans.specs.Reading.{entryIn, blankPlan, planIn, readSays, planRead};
-ghost use Rattle.plan_reader.specs.inner.Body.{bodyFault, CountsThere, IsNext, wholeRead};
+ghost use Rattle.plans.specs.Entries.{planSize};
+ghost use Rattle.plans.specs.Reading.{blankPlan, planIn, readSays, planRead};
+ghost use Rattle.plan_reader.specs.inner.Body.{bodyFault, CountsThere, wholeRead};
 
 // What fills the places past the count, and a plan that was not read.
 const BLANK: Entry = Entry {
@@ -29,26 +28,6 @@ const BLANK: Entry = Entry {
     set: 0,
     length: 0,
 };
-
-// The next entry, or what it is refused by.
-enum Next {
-    Met(Entry),
-    Fault(Refusal),
-}
-
-// Clause 2.6: the entry in 11 bytes.
-fn entry_of(bytes: &[u8]) -> Entry
-    requires { ⌜ entrySize ≤ length (now bytes) ⌝ }
-    ensures { λ r. ⌜ r ≡ entryIn (now (bytes .entry)) ⌝ }
-{
-    let set = read_number(&bytes[1..9]);
-    let length = read_number(&bytes[9..ENTRY_BYTES]);
-    Entry {
-        kind: bytes[0],
-        set: set,
-        length: length as u16,
-    }
-}
 
 // Clause 2.9: a refusal has the blank plan beside it.
 fn refused(refusal: Refusal) -> Read
@@ -62,22 +41,6 @@ fn refused(refusal: Refusal) -> Read
             count: 0,
             entries: [BLANK; ENTRIES],
         },
-    }
-}
-
-// Clause 2.9: the entry at a place of the bytes, or its first fault: 1 where they end before it, then 6 to 8.
-fn next_entry(bytes: &[u8], at: usize, resources: u8) -> Next
-    requires { ⌜ at ≤ length (now bytes) ⌝ }
-    ensures { λ r. ⌜ IsNext resources (drop at (now (bytes .entry))) r ⌝ }
-{
-    if bytes.len() - at < ENTRY_BYTES {
-        return Next::Fault(Refusal::Short);
-    }
-    let entry = entry_of(&bytes[at..]);
-    let verdict = check_entry(entry, resources);
-    match verdict {
-        Verdict::Accepted => Next::Met(entry),
-        Verdict::Refused(refusal) => Next::Fault(refusal),
     }
 }
 
@@ -113,7 +76,7 @@ fn read_entries(bytes: &[u8]) -> Read
     let mut at: usize = HEAD_BYTES;
     let mut i: usize = 0;
     while i < count {
-        let next = next_entry(bytes, at, resources);
+        let next = next_entry(&bytes[at..], resources);
         match next {
             Next::Met(entry) => entries[i] = entry,
             Next::Fault(refusal) => return refused(refusal),

@@ -2,10 +2,10 @@
 use native.Mathlib.Omega.{arith}
 use lib.ListN.{drop}
 use Rattle.encoding.proofs.Numbers.{part-below}
-use Rattle.plan_reader.proofs.Entries.{entry-parts}
+use Rattle.entry_reader.proofs.Entries.{entry-parts}
 use borrow.Author.Needs.{needs}
-use Rattle.plan_reader.proofs.entry_of.Statement.{statement}
-use Rattle.plan_reader.proofs.entry_of.Tie as tie
+use Rattle.entry_reader.proofs.entry_of.Statement.{statement}
+use Rattle.entry_reader.proofs.entry_of.Tie as tie
 
 cast-t13 : tie.Need-cast-t13
 cast-t13 c =

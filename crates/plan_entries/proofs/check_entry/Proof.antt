@@ -1,8 +1,8 @@
 -- `check_entry` meets its contract: the three checks of an entry in their order, 6, 7, 8. Assumes nothing.
 use Rattle.plans.specs.Acceptance.{entryFault}
 use borrow.Author.Needs.{needs}
-use Rattle.acceptance.proofs.check_entry.Statement.{statement}
-use Rattle.acceptance.proofs.check_entry.Tie as tie
+use Rattle.plan_entries.proofs.check_entry.Statement.{statement}
+use Rattle.plan_entries.proofs.check_entry.Tie as tie
 
 returns : tie.Need-returns
 unfolding entryFault

@@ -5,8 +5,7 @@ use native.Mathlib.Omega.{arith}
 use borrow.Author.Needs.{needs}
 use lib.ListN.{getD}
 use Rattle.plan_reader.proofs.Answers.{refused-only}
-use Rattle.plan_reader.proofs.NextEntry.{met-told, fault-told}
-use Rattle.plan_reader.proofs.Section.{SoFar, nothing-read, first-fault, one-more-read, read-whole}
+use Rattle.plan_reader.proofs.Section.{SoFar, nothing-read, fault-met, entry-met, read-whole}
 use Rattle.plan_reader.proofs.read_entries.Statement.{statement}
 use Rattle.plan_reader.proofs.read_entries.Tie as tie
 
@@ -29,8 +28,14 @@ cast-count c = omega arith
 loop-holds : tie.Need-loop-holds Inv-loop μ-loop
 loop-holds c = nothing-read _ _ _ (omega arith)
 
-next-entry-requires : tie.Need-next-entry-requires Inv-loop μ-loop
-next-entry-requires c κs = c .before .loop .inv .inside
+sub-next-entry : tie.Need-sub-next-entry Inv-loop μ-loop
+sub-next-entry c = c .before .loop .inv .inside
+
+part-next-entry-start : tie.Need-part-next-entry-start Inv-loop μ-loop
+part-next-entry-start c = c .before .loop .inv .inside
+
+part-next-entry-end : tie.Need-part-next-entry-end Inv-loop μ-loop
+part-next-entry-end c = omega arith
 
 enum-known-next : tie.Need-enum-known-next Inv-loop μ-loop
 enum-known-next c = c .match .keys1
@@ -48,9 +53,10 @@ enum-known-next-2 c = c .match .keys2
 returns : tie.Need-returns Inv-loop μ-loop
 returns c =
     let called = c .before .before .before .before in
+    let looped = called .before .before .before in
     let refusal = c .before .before .next2 .given .0 .0 in
-    let found = fault-told _ _ _ (called .next-entry .ensures) refusal (c .before .before .next2 .given .1) in
-    let fault = first-fault _ _ _ _ _ _ (called .before .before .loop .inv) (called .before .loop-test .taken) refusal found in
+    let fault = fault-met _ _ _ _ _ _ (looped .loop .inv) _ (called .next-entry .ensures) (called .before .before .loop-test .taken)
+    refusal (c .before .before .next2 .given .1) in
     refused-only _ refusal (c .refused .ensures) _ fault _ _
 
 add-at : tie.Need-add-at Inv-loop μ-loop
@@ -65,8 +71,9 @@ loop-less c = omega arith
 loop-again : tie.Need-loop-again Inv-loop μ-loop
 loop-again c =
     let called = c .before .before .before in
-    one-more-read _ _ _ _ _ _ (called .before .before .loop .inv) (called .before .loop-test .taken) (omega arith) _
-    (met-told _ _ _ (called .next-entry .ensures) _ (c .before .next .given .1))
+    let looped = called .before .before .before in
+    entry-met _ _ _ _ _ _ (looped .loop .inv) _ (called .next-entry .ensures) (called .before .before .loop-test .taken) (omega arith)
+    _ (c .before .next .given .1)
 
 returns-2 : tie.Need-returns-2 Inv-loop μ-loop
 returns-2 c = read-whole _ _ _ _ (c .before .before .loop .inv) (c .before .loop-test .left) _ (c .whole .ensures)
@@ -81,7 +88,10 @@ read-entries-spec =
     shared-slice-read-count
     cast-count
     loop-holds
-    next-entry-requires
+    sub-next-entry
+    part-next-entry-start
+    part-next-entry-end
+    (λ c κs. search needs)
     enum-known-next
     mul-entries
     array-set-from-entries

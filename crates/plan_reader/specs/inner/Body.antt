@@ -1,18 +1,12 @@
 -- The entries of a plan in its bytes, after the three counts.
 use Prim.Native.Nat.{ℕ, _≤_}
-use mathlib.Core.Path.{_≡_}
 use mathlib.Core.List.{List}
 use lib.ListN.{length, getD, drop}
-use Rattle.refusals.specs.Number.{numberOf}
-use Rattle.refusals.specs.Due.{firstOf}
 use Rattle.encoding.specs.declared.Outcome.{Outcome}
-use Rattle.encoding.specs.Buffers.{shortFault}
 use Rattle.plans.specs.declared.Entry.{Entry}
 use Rattle.plans.specs.declared.Read.{Read}
-use Rattle.plans.specs.Entries.{mostEntries, headSize, entrySize, planSize}
-use Rattle.plans.specs.Acceptance.{entryFault}
-use Rattle.plans.specs.Reading.{entryIn, sectionFault}
-use Rattle.plan_reader.specs.declared.Next.{Next}
+use Rattle.plans.specs.Entries.{mostEntries, headSize, planSize}
+use Rattle.plans.specs.Reading.{sectionFault}
 
 -- The first fault of the counted entries.
 abbrev pub bodyFault : List ℕ → ℕ
@@ -22,15 +16,6 @@ bodyFault s = sectionFault (getD s 1 0) (getD s 2 0) (drop headSize s)
 pub record CountsThere (s : List ℕ) : Type 0 where
   pub there : headSize ≤ length s
   pub held : getD s 2 0 ≤ mostEntries
-
--- Clause 2.9: the first fault of the entry at the start of the bytes s: it is due (1) before it is looked at.
-abbrev pub nextFault : ℕ → List ℕ → ℕ
-nextFault resources s = firstOf (shortFault entrySize s) (entryFault resources (entryIn s))
-
--- That entry without a fault, or the fault.
-abbrev pub IsNext : ℕ → List ℕ → Next → Type 0
-IsNext resources s (Next.Met e) = (e ≡ entryIn s) × (nextFault resources s ≡ 0)
-IsNext resources s (Next.Fault r) = nextFault resources s ≡ numberOf r
 
 -- Clause 2.8: the counts in the bytes s with these entries, and how many bytes that plan takes.
 abbrev pub wholeRead : List ℕ → List Entry → Read
