@@ -1,68 +1,16 @@
 // Which plan values are taken, and by which number the others are refused: 3 to 8. Specification, section 2.
-use masks::below64;
+use plan_counts::check_counts;
+use plan_entries::check_entry;
 use plans::ENTRIES;
 use plans::Entry;
 use plans::Plan;
-use plans::RESOURCES;
-use plans::SLOTS;
-use plans::is_read;
-use plans::is_write;
-use refusals::Refusal;
 use refusals::Verdict;
-use refusals::first_of;
-use refusals::refuse_unless;
 ghost use mathlib.Core.Path.{_≡_};
 ghost use Prim.Native.Nat.{_≤_};
 ghost use lib.ListN.{take};
 ghost use Rattle.refusals.specs.Number.{verdictNumber};
 ghost use Rattle.plans.specs.Entries.{mostEntries};
-ghost use Rattle.plans.specs.Acceptance.{processorsFault, resourcesFault, countFault};
-ghost use Rattle.plans.specs.Acceptance.{countsFault, entryFault, entriesFault, planFault};
-
-// Clause 2.3: refuses by 3.
-pub fn check_processors(count: u8) -> Verdict
-    ensures { λ r. ⌜ verdictNumber r ≡ processorsFault count ⌝ }
-{
-    refuse_unless((1 <= count) & (count <= SLOTS as u8), Refusal::Processors)
-}
-
-// Clause 2.4: refuses by 4.
-pub fn check_resources(count: u8) -> Verdict
-    ensures { λ r. ⌜ verdictNumber r ≡ resourcesFault count ⌝ }
-{
-    refuse_unless(
-        (1 <= count) & (count <= RESOURCES as u8),
-        Refusal::Resources,
-    )
-}
-
-// Clause 2.5: refuses by 5.
-pub fn check_entry_count(count: u8) -> Verdict
-    ensures { λ r. ⌜ verdictNumber r ≡ countFault count ⌝ }
-{
-    refuse_unless((1 <= count) & (count <= ENTRIES as u8), Refusal::Entries)
-}
-
-// The three counts in the order of their bytes.
-fn check_counts(processors: u8, resources: u8, count: u8) -> Verdict
-    ensures { λ r. ⌜ verdictNumber r ≡ countsFault processors resources count ⌝ }
-{
-    let first = check_processors(processors);
-    let second = check_resources(resources);
-    let third = check_entry_count(count);
-    first_of(first, first_of(second, third))
-}
-
-// An entry of a plan with so many resources: 6, 7, 8.
-pub fn check_entry(entry: Entry, resources: u8) -> Verdict
-    ensures { λ r. ⌜ verdictNumber r ≡ entryFault resources entry ⌝ }
-{
-    let kind = refuse_unless(is_read(entry) | is_write(entry), Refusal::Kind);
-    let named = (entry.set != 0) & below64(entry.set, resources as u32);
-    let set = refuse_unless(named, Refusal::Set);
-    let length = refuse_unless(0 < entry.length, Refusal::Length);
-    first_of(kind, first_of(set, length))
-}
+ghost use Rattle.plans.specs.Acceptance.{entriesFault, planFault};
 
 // The first fault of the counted entries, in their order.
 fn check_entries(entries: [Entry; ENTRIES], count: u8, resources: u8) -> Verdict

@@ -16,7 +16,8 @@ use Rattle.states.specs.declared.State.{State}
 use Rattle.states.specs.Faults.{processorFault}
 use Rattle.rules.specs.Calls.{phasesOf}
 use Rattle.wait_fields.specs.Fields.{entryIn, waitedIn}
-use Rattle.wait_listing.specs.Listing.{partBytes, partIn, partSize, listBytes, listBuffer}
+use Rattle.listing_sizes.specs.Sizes.{partSize}
+use Rattle.wait_listing.specs.Listing.{partBytes, partIn, listBytes, listBuffer}
 use Rattle.wait_listing.proofs.InTurn.{length-part, part-at}
 use Rattle.wait_listing.proofs.Stores.{list-agree}
 use Rattle.queries.specs.Queries.{stateNumber, phaseQuery, waitsFor, waitsQuery, maskSizeOf}

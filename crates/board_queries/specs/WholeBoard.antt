@@ -8,7 +8,8 @@ use Rattle.states.specs.declared.Board.{Board}
 use Rattle.states.specs.declared.State.{State}
 use Rattle.rules.specs.Calls.{phasesOf}
 use Rattle.wait_fields.specs.Fields.{entryIn, waitedIn}
-use Rattle.wait_listing.specs.Listing.{listedOf, partBytes, listBytes, listSize, listFault, listBuffer}
+use Rattle.listing_sizes.specs.Sizes.{listedOf, listSize}
+use Rattle.wait_listing.specs.Listing.{partBytes, listBytes, listFault, listBuffer}
 use Rattle.queries.specs.Queries.{stateNumber, waitsFor, maskSizeOf}
 
 -- Clauses 7.7 and 4.10: how many processors are listed.

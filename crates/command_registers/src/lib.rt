@@ -1,13 +1,13 @@
 // What a command takes from the registers of a block, and what its reply leaves there. Specification, clauses 10.7 to 10.9.
 use calls::Call;
 use calls::Reply;
-use encoding::write_number;
 use refusals::number;
 use registers::BLOCK;
 use registers::Block;
 use registers::pending_in;
 use registers::tick_in;
 use registers::with_line;
+use storing::write_number;
 ghost use mathlib.Core.Path.{_≡_};
 ghost use Prim.Native.Nat.{_+_, _≤_};
 ghost use lib.ListN.{set};

@@ -14,7 +14,8 @@ use Rattle.plans.specs.declared.Entry.{Entry}
 use Rattle.plans.specs.declared.Plan.{Plan}
 use Rattle.plans.specs.Entries.{mostEntries, isRead, isWrite, countedEntries, blankEntry, entryAt}
 use Rattle.sharing.specs.Sharing.{sharedBy, Over, over}
-use Rattle.conflicts.specs.Conflict.{widenedSet, shared, conflict, inConflict, conflictsOf}
+use Rattle.widening.specs.Widening.{widenedSet}
+use Rattle.conflicts.specs.Conflict.{shared, conflict, inConflict, conflictsOf}
 use Rattle.sharing.proofs.Over.{over-is}
 use Rattle.conflicts.proofs.Widening.{entry-at, widened-counted, widened-at}
 

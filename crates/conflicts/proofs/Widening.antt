@@ -1,46 +1,22 @@
--- Widened sets as the loops make them: names widened by the counted entries from i on, and the set of entry i.
--- Assumes nothing.
-use Prim.Native.Nat.{ℕ, suc, _-_, _<_, _≤_, min}
+-- The widened set of entry i, and other numbers of it, as the loops over the whole array meet them. Assumes nothing.
+use Prim.Native.Nat.{ℕ, _<_}
 use native.Mathlib.Omega.{arith}
 use mathlib.Core.Path.{_≡_, refl, sym, ap, ap₂, _∙_}
-use mathlib.Core.Bool.{Bool, true, false, cond, _&&_}
-use lib.Bits.{bitOr}
+use mathlib.Core.Bool.{Bool, true, false, cond}
 use lib.Dec.{ltb}
-use lib.ListN.{length, drop, getD, length-take, drop-of-length-le, List·getD-eq-default}
-use lib.Seq.{drop-cons, getD-take}
+use lib.ListN.{getD, length-take, List·getD-eq-default}
+use lib.Seq.{getD-take}
 use borrow.Author.Tests.{lt-ltb, ltb-true, ltb-false}
-use Rattle.masks.specs.Sets.{meets}
 use Rattle.plans.specs.declared.Entry.{Entry}
 use Rattle.plans.specs.declared.Plan.{Plan}
-use Rattle.plans.specs.Entries.{mostEntries, isRead, countedEntries, blankEntry, entryAt}
-use Rattle.conflicts.specs.Conflict.{widen, widenedSet, conflictsOf}
+use Rattle.plans.specs.Entries.{mostEntries, countedEntries, blankEntry, entryAt}
+use Rattle.widening.specs.Widening.{widenedSet}
+use Rattle.conflicts.specs.Conflict.{conflictsOf}
 use Rattle.conflicts.proofs.Tabulate.{getD-tabulate}
-
--- What an entry brings to the names.
-abbrev pub broughtTo : ℕ → Entry → ℕ
-broughtTo names e = cond (isRead e && meets (e .set) names) (e .set) 0
 
 -- The widened set of entry i, empty past the count.
 abbrev pub widenedAt : Plan → ℕ → ℕ
 widenedAt p i = cond (ltb i (p .count)) (widenedSet (countedEntries p) (entryAt p i)) 0
-
-module _ (p : Plan) (names : ℕ) (full : length (p .entries) ≡ mostEntries) where
-  pub widened-by-none : widen names (drop (min (p .count) mostEntries) (countedEntries p)) ≡ names
-  unfolding widen
-  widened-by-none =
-      ap (widen names)
-      (drop-of-length-le (countedEntries p) {i = min (p .count) mostEntries} (omega (arith, length-take (p .count) (p .entries))))
-
-  -- The entry before place i, where it stands in the plan's array, brings its part to what is made so far.
-  pub widened-by-next : (i out more : ℕ) → 0 < i → i ≤ min (p .count) mostEntries → out ≡ widen names (drop i (countedEntries p))
-      → more ≡ broughtTo names (getD (p .entries) (i - 1) blankEntry) → bitOr out more ≡ widen names (drop (i - 1) (countedEntries p))
-  unfolding widen
-  widened-by-next i out more h l made brings =
-      let next : i ≡ suc (i - 1) = omega arith in
-      let here : getD (p .entries) (i - 1) blankEntry ≡ getD (countedEntries p) (i - 1) blankEntry =
-      sym (getD-take (p .count) (p .entries) (i - 1) blankEntry (omega arith)) in
-      ap₂ bitOr (made ∙ ap (λ (k : ℕ). widen names (drop k (countedEntries p))) next) (brings ∙ ap (broughtTo names) here)
-      ∙ ap (widen names) (sym (drop-cons (countedEntries p) (i - 1) blankEntry (omega (arith, length-take (p .count) (p .entries)))))
 
 module _ (p : Plan) (i : ℕ) (h : i < p .count) where
   -- A counted entry, where it stands in the plan's array.

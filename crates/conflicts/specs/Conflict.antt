@@ -1,25 +1,16 @@
--- Widened sets, and which entries of a plan conflict. Specification, section 3.
+-- Which entries of a plan conflict. Specification, section 3.
 use Prim.Native.Nat.{ℕ, zero, suc}
 use mathlib.Core.Bool.{Bool, cond, not, _&&_}
 use mathlib.Core.List.{List, [], _∷_, _++_}
-use lib.Bits.{bitAnd, bitOr}
+use lib.Bits.{bitAnd}
 use lib.Dec.{eqb, ltb}
-use Rattle.masks.specs.Sets.{meets, maskOf}
+use Rattle.masks.specs.Sets.{maskOf}
 use Rattle.plans.specs.declared.Entry.{Entry}
 use Rattle.plans.specs.declared.Plan.{Plan}
 use Rattle.plans.specs.Entries.{mostEntries, isRead, isWrite, countedEntries, entryAt}
 use Rattle.sharing.specs.Sharing.{sharedBy}
+use Rattle.widening.specs.Widening.{widenedSet}
 use Rattle.conflicts.specs.declared.Conflicts.{Conflicts}
-
--- Clause 3.1: the names, joined with those of each read entry that shares a resource with them. Every entry is held
--- against the names alone, so what was joined brings in no more.
-unfoldable pub widen : ℕ → List Entry → ℕ
-widen names [] = names
-widen names (e ∷ later) = bitOr (widen names later) (cond (isRead e && meets (e .set) names) (e .set) 0)
-
--- Clause 3.1: the widened set of a write entry. That of a read entry, its names, is not used.
-unfoldable pub widenedSet : List Entry → Entry → ℕ
-widenedSet entries e = cond (isWrite e) (widen (e .set) entries) (e .set)
 
 -- Clause 3.2: what stands between two entries of a plan.
 unfoldable pub shared : List Entry → Entry → Entry → ℕ

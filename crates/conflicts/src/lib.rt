@@ -1,22 +1,19 @@
 // Which entries of a plan conflict: worked out once for all pairs of entries, and read by settling.
 use masks::add64;
-use masks::meet64;
 use plans::ENTRIES;
 use plans::Entry;
 use plans::Plan;
-use plans::counted_of;
-use plans::is_read;
-use plans::is_write;
 use sharing::is_conflict;
 use sharing::pair_conflict;
+use widening::widened_set;
 ghost use mathlib.Core.Path.{_≡_};
-ghost use mathlib.Core.Bool.{cond, _&&_};
+ghost use mathlib.Core.Bool.{cond};
 ghost use Prim.Native.Nat.{_<_};
 ghost use lib.Dec.{ltb};
 ghost use lib.ListN.{getD};
-ghost use Rattle.masks.specs.Sets.{added, meets, maskOf};
-ghost use Rattle.plans.specs.Entries.{mostEntries, isRead, isWrite, countedEntries, entryAt};
-ghost use Rattle.conflicts.specs.Conflict.{widen, widenedSet};
+ghost use Rattle.masks.specs.Sets.{added, maskOf};
+ghost use Rattle.plans.specs.Entries.{mostEntries, countedEntries, entryAt};
+ghost use Rattle.widening.specs.Widening.{widenedSet};
 ghost use Rattle.conflicts.specs.Conflict.{inConflict, conflictsOf};
 
 // Bit j of row i: entries i and j conflict. The names of each entry; the widened set of each write, and of each read its
@@ -25,32 +22,6 @@ pub struct Conflicts {
     pub names: [u64; ENTRIES],
     pub widened: [u64; ENTRIES],
     pub rows: [u64; ENTRIES],
-}
-
-// Clause 3.1: what an entry brings to the widened set of these names: its own, if it is a read that shares a resource.
-fn brought(entry: Entry, names: u64) -> u64
-    ensures { λ r. ⌜ r ≡ cond (isRead entry && meets (entry .set) names) (entry .set) 0 ⌝ }
-{
-    if is_read(entry) & meet64(entry.set, names) {
-        entry.set
-    } else {
-        0
-    }
-}
-
-// The names widened by the counted entries, from the last one to the first.
-// Clause 3.1: every entry is held against the names, and not against what was joined.
-fn widen_names(plan: Plan, names: u64) -> u64
-    ensures { λ r. ⌜ r ≡ widen names (countedEntries plan) ⌝ }
-{
-    let mut out = names;
-    let mut i = counted_of(plan.count);
-    while 0 < i {
-        i -= 1;
-        let entry = plan.entries[i as usize];
-        out = out | brought(entry, names);
-    }
-    out
 }
 
 // The widened set of entry i, empty past the count.
@@ -62,11 +33,7 @@ fn widen_entry(plan: Plan, i: usize) -> u64
         return 0;
     }
     let entry = plan.entries[i];
-    if is_write(entry) {
-        widen_names(plan, entry.set)
-    } else {
-        entry.set
-    }
+    widened_set(plan, entry)
 }
 
 fn widen_all(plan: Plan) -> [u64; ENTRIES]

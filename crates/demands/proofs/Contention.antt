@@ -16,7 +16,8 @@ use Rattle.plans.specs.Acceptance.{planFault}
 use Rattle.plans.proofs.Accepted.{accepted-count}
 use Rattle.sharing.specs.Sharing.{sharedBy, Over, over}
 use Rattle.sharing.proofs.Over.{over-is}
-use Rattle.conflicts.specs.Conflict.{widenedSet, shared, conflict, inConflict, conflictsOf}
+use Rattle.widening.specs.Widening.{widenedSet}
+use Rattle.conflicts.specs.Conflict.{shared, conflict, inConflict, conflictsOf}
 use Rattle.conflicts.proofs.Accepted.{read-or-write}
 use Rattle.conflicts.proofs.Tabulate.{getD-tabulate}
 use Rattle.conflicts.proofs.Widening.{widened-at}

@@ -2,10 +2,10 @@
 // that is too short is refused before a byte is written.
 use digits::digit_count;
 use encoding::Outcome;
-use encoding::has_room;
 use number_fields::put_labelled;
 use number_fields::put_last;
 use refusals::Refusal;
+use room::has_room;
 ghost use mathlib.Core.Path.{_≡_};
 ghost use mathlib.Core.List.{[], _∷_};
 ghost use Prim.Native.Nat.{_+_, _≤_};

@@ -2,7 +2,7 @@
 // it stored.
 use digits::byte_digits;
 use digits::digit_count;
-use encoding::has_room;
+use room::has_room;
 ghost use mathlib.Core.Path.{_≡_};
 ghost use mathlib.Core.List.{[], _∷_};
 ghost use Prim.Native.Nat.{_+_, _/_, _%_, _≤_, _<_};

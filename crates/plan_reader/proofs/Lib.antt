@@ -1,4 +1,3 @@
-pub mod Entries
 pub mod Head
 pub mod Answers
 pub mod Section

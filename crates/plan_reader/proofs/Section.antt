@@ -6,23 +6,24 @@ use native.Mathlib.Omega.{arith}
 use mathlib.Core.Path.{_≡_, refl, sym, ap, _∙_}
 use mathlib.Core.Bool.{cond}
 use mathlib.Core.List.{List, [], _∷_, _++_, append-assoc}
-use borrow.Author.Tests.{le-leb, lt-leb}
 use lib.Dec.{eqb}
 use lib.ListN.{length, getD, take, drop, set, replicate, length-drop}
 use lib.Seq.{drop-drop, set-at, take-all}
 use Rattle.refusals.specs.declared.Refusal.{Refusal}
-use Rattle.refusals.specs.declared.Verdict.{Verdict}
-use Rattle.refusals.specs.Number.{verdictNumber}
+use Rattle.refusals.specs.Number.{numberOf}
 use Rattle.refusals.specs.Due.{firstOf, said}
-use Rattle.refusals.proofs.Numbers.{refused-not-zero, first-refuses-verdict}
-use Rattle.encoding.specs.Buffers.{shortFault}
+use Rattle.refusals.proofs.Numbers.{number-positive, first-accepted, first-refuses, first-assoc}
+use Rattle.encoding.specs.Buffers.{shortFault, outcomeSays}
+use Rattle.encoding.proofs.Room.{enough-length}
 use Rattle.plans.specs.declared.Entry.{Entry}
-use Rattle.plans.specs.declared.Plan.{Plan}
+use Rattle.plans.specs.declared.Read.{Read}
 use Rattle.plans.specs.Entries.{mostEntries, headSize, entrySize, planSize, blankEntry}
-use Rattle.plans.specs.Acceptance.{entryFault}
 use Rattle.plans.specs.Reading.{entryIn, entriesIn, sectionFault, blankPlan, planIn}
 use Rattle.plans.proofs.EntryBytes.{length-entriesIn}
-use Rattle.plan_reader.specs.inner.Body.{bodyFault}
+use Rattle.entry_reader.specs.declared.Next.{Next}
+use Rattle.entry_reader.specs.NextEntry.{nextFault}
+use Rattle.entry_reader.proofs.NextEntry.{Promised, met-told, fault-told}
+use Rattle.plan_reader.specs.inner.Body.{bodyFault, wholeRead}
 
 -- The first i of n entries are read and have no fault. The next one stands at place `at` of the bytes.
 pub record SoFar (resources n : ℕ) (bytes : List ℕ) (entries : List Entry) (at i : ℕ) : Type 0 where
@@ -59,79 +60,70 @@ nothing-read resources n bytes h =
     let e : n - 0 ≡ n = omega arith in
     record { place = refl; inside = h; counted = omega arith; fault = rw e; filled = refl }
 
--- The loop was left with this verdict.
-pub record Left (resources n : ℕ) (bytes : List ℕ) (i : ℕ) (verdict : Verdict) : Type 0 where
-  pub whole : sectionFault resources n (drop headSize bytes) ≡ verdictNumber verdict
-  pub full : verdict ≡ Verdict.Accepted → i ≡ n
-
-never-full : {A : Type 0} (verdict : Verdict) (r : Refusal) → verdict ≡ Verdict.Refused r → verdict ≡ Verdict.Accepted → A
-never-full verdict r v a = absurd (refused-not-zero r (ap verdictNumber (sym v ∙ a)))
+-- An entry without a fault is there.
+entry-there : (resources : ℕ) (s : List ℕ) → nextFault resources s ≡ 0 → entrySize ≤ length s
+unfolding nextFault
+entry-there resources s none = enough-length entrySize s (first-accepted (shortFault entrySize s) _ none .first)
 
 module _ (resources n : ℕ) (bytes : List ℕ) (entries : List Entry) (at i : ℕ) (h : SoFar resources n bytes entries at i) where
-  pub all-read : {verdict : Verdict} → i ≡ n → verdict ≡ Verdict.Accepted → Left resources n bytes i verdict
-  unfolding sectionFault
-  all-read e v =
-      let z : n - i ≡ 0 = omega arith in
-      record { whole = h .fault ∙ rw (z, v); full = λ a. e }
-
   left-fault : i < n → sectionFault resources n (drop headSize bytes)
-      ≡ firstOf (shortFault entrySize (drop at bytes))
-      (firstOf (entryFault resources (entryIn (drop at bytes))) (sectionFault resources (n - suc i) (drop (at + entrySize) bytes)))
-  unfolding sectionFault
+      ≡ firstOf (nextFault resources (drop at bytes)) (sectionFault resources (n - suc i) (drop (at + entrySize) bytes))
+  unfolding sectionFault nextFault
   left-fault more =
       let e : n - i ≡ suc (n - suc i) = omega arith in
-      h .fault ∙ rw (e, ← drop-drop entrySize at bytes)
+      h .fault ∙ rw (e, ← drop-drop entrySize at bytes) (sym (first-assoc (shortFault entrySize (drop at bytes)) _ _))
 
-  pub too-short : {verdict : Verdict} → i < n → length bytes - at < entrySize → verdict ≡ Verdict.Refused Refusal.Short
-      → Left resources n bytes i verdict
-  too-short {verdict} more few v =
+  -- The next entry has a fault.
+  first-fault : i < n → (r : Refusal) → nextFault resources (drop at bytes) ≡ numberOf r
+      → sectionFault resources n (drop headSize bytes) ≡ numberOf r
+  first-fault more r f = left-fault more ∙ rw f (first-refuses (numberOf r) _ (number-positive r))
+
+  -- It has none and is stored.
+  one-more-read : i < n → n ≤ mostEntries → (e : Entry) → (e ≡ entryIn (drop at bytes)) × (nextFault resources (drop at bytes) ≡ 0)
+      → SoFar resources n bytes (set entries i e) (at + entrySize) (i + 1)
+  one-more-read more most e (read, none) =
+      let p : at ≡ headSize + entrySize * i = h .place in
+      let small : i < mostEntries = omega arith in
+      let due : entrySize ≤ length (drop at bytes) = entry-there resources (drop at bytes) none in
+      let reached : at ≤ length bytes = h .inside in
       record {
-        whole = left-fault more ∙ rw (length-drop, lt-leb entrySize (length bytes - at) few, v);
-        full = never-full verdict Refusal.Short v;
+        place = omega arith;
+        inside = omega (arith, due, length-drop at bytes);
+        counted = omega arith;
+        fault = left-fault more ∙ rw (none, add-one);
+        filled =
+            rw (h .filled, read, p, ← drop-drop (entrySize * i) headSize bytes, add-one)
+            (store-next i (drop headSize bytes) small);
       }
 
-  module _
-      (more : i < n) (enough : entrySize ≤ length bytes - at) (e : Entry)
-      (read : e ≡ entryIn (take (length bytes - at) (drop at bytes)))
-    where
-      next-entry : e ≡ entryIn (drop at bytes)
-      next-entry = read ∙ ap entryIn (take-all (length bytes - at) (drop at bytes) (rw length-drop (le-refl _)))
+  -- What was answered of the bytes from the place on, as the code takes them.
+  module _ (next : Next) (is : Promised resources (take (length bytes - at) (drop at bytes)) next) where
+    there : Promised resources (drop at bytes) next
+    there = rw (take-all (length bytes - at) (drop at bytes) (rw length-drop (le-refl _))) at is
 
-      next-fault : sectionFault resources n (drop headSize bytes)
-          ≡ firstOf (entryFault resources e) (sectionFault resources (n - suc i) (drop (at + entrySize) bytes))
-      next-fault = left-fault more ∙ rw (length-drop, le-leb entrySize (length bytes - at) enough, ← next-entry)
+    pub fault-met : i < n → (r : Refusal) → next ≡ Next.Fault r → sectionFault resources n (drop headSize bytes) ≡ numberOf r
+    fault-met more r e = first-fault more r (fault-told resources (drop at bytes) next there r e)
 
-      module _ (found : Verdict) (is : verdictNumber found ≡ entryFault resources e) where
-        pub faulty : {verdict : Verdict} {r : Refusal} → found ≡ Verdict.Refused r → verdict ≡ Verdict.Refused r
-            → Left resources n bytes i verdict
-        faulty {verdict} {r} f v =
-            record {
-              whole = next-fault ∙ rw (← is) (first-refuses-verdict found _ r f ∙ sym (ap verdictNumber v));
-              full = never-full verdict r v;
-            }
+    pub entry-met : i < n → n ≤ mostEntries → (e : Entry) → next ≡ Next.Met e
+        → SoFar resources n bytes (set entries i e) (at + entrySize) (i + 1)
+    entry-met more most e m = one-more-read more most e (met-told resources (drop at bytes) next there e m)
 
-        pub one-more-read : n ≤ mostEntries → found ≡ Verdict.Accepted → SoFar resources n bytes (set entries i e) (at + entrySize) (i + 1)
-        one-more-read most f =
-            let p : at ≡ headSize + entrySize * i = h .place in
-            let small : i < mostEntries = omega arith in
-            record {
-              place = omega arith;
-              inside = omega arith;
-              counted = omega arith;
-              fault = next-fault ∙ rw (← is, f, add-one);
-              filled =
-                  rw (h .filled, next-entry, p, ← drop-drop (entrySize * i) headSize bytes, add-one)
-                  (store-next i (drop headSize bytes) small);
-            }
+-- All entries are read: what is said, and the plan.
+module _
+    (bytes : List ℕ) (entries : List Entry) (at i : ℕ) (h : SoFar (getD bytes 1 0) (getD bytes 2 0) bytes entries at i)
+    (all : getD bytes 2 0 ≤ i)
+  where
+    all-read : i ≡ getD bytes 2 0
+    all-read = let most : i ≤ getD bytes 2 0 = h .counted in omega arith
 
--- All entries were read: what is said, and the plan.
-pub read-whole : (bytes : List ℕ) (i : ℕ) (verdict : Verdict) → Left (getD bytes 1 0) (getD bytes 2 0) bytes i verdict
-    → (entries : List Entry) (at : ℕ) → SoFar (getD bytes 1 0) (getD bytes 2 0) bytes entries at i → verdict ≡ Verdict.Accepted
-    → (said 0 at ≡ said (bodyFault bytes) (planSize (getD bytes 2 0)))
-    × (_≡_ {A = Plan}
-    (record { processors = getD bytes 0 0; resources = getD bytes 1 0; count = getD bytes 2 0; entries = entries })
-    (cond (eqb (bodyFault bytes) 0) (planIn bytes) blankPlan))
-unfolding planIn
-read-whole bytes i verdict l entries at h v =
-    let none : bodyFault bytes ≡ 0 = l .whole ∙ ap verdictNumber v in
-    (rw (none, h .place, l .full v), rw (none, h .filled, l .full v))
+    no-fault : bodyFault bytes ≡ 0
+    unfolding sectionFault
+    no-fault =
+        let z : getD bytes 2 0 - i ≡ 0 = omega arith in
+        h .fault ∙ rw z
+
+    pub read-whole : (read : Read) → read ≡ wholeRead bytes entries
+        → (outcomeSays (read .outcome) ≡ said (bodyFault bytes) (planSize (getD bytes 2 0)))
+        × (read .plan ≡ cond (eqb (bodyFault bytes) 0) (planIn bytes) blankPlan)
+    unfolding planIn
+    read-whole read e = rw (e, no-fault) (refl, rw (h .filled, all-read))

@@ -1,7 +1,6 @@
-// Plan values to bytes, into a lent buffer. `plan_reader` takes the same bytes back.
+// Plan values to bytes, into a lent buffer. `plan_reader` takes the same bytes back. Specification, section 2.
 use encoding::Outcome;
-use encoding::check_room;
-use encoding::write_number;
+use plan_room::check_writing;
 use plans::ENTRIES;
 use plans::ENTRY_BYTES;
 use plans::Entry;
@@ -9,15 +8,14 @@ use plans::HEAD_BYTES;
 use plans::Plan;
 use plans::plan_size;
 use refusals::Verdict;
-use refusals::first_of;
+use storing::write_number;
 ghost use mathlib.Core.Path.{_≡_};
 ghost use Prim.Native.Nat.{_+_, _*_, _≤_};
 ghost use lib.ListN.{length, take};
 ghost use lib.Seq.{sets};
-ghost use Rattle.refusals.specs.Number.{verdictNumber};
 ghost use Rattle.encoding.specs.Buffers.{overwritten, outcomeSays};
 ghost use Rattle.plans.specs.Entries.{mostEntries, entrySize, planSize};
-ghost use Rattle.plans.specs.Writing.{entryBytes, sectionBytes, planBytes, writeFault, writeSays, writtenBuffer};
+ghost use Rattle.plans.specs.Writing.{entryBytes, sectionBytes, planBytes, writeSays, writtenBuffer};
 
 // Stores an entry's 11 bytes from position at: kind, set, length.
 fn write_entry(entry: Entry, section: &mut [u8], at: usize)
@@ -55,15 +53,6 @@ fn write_plan(plan: Plan, buffer: &mut [u8], at: usize)
     buffer[at + 2] = plan.count;
     let start = at + HEAD_BYTES;
     write_section(entries, count, &mut buffer[start..]);
-}
-
-// Clause 8.2: first 3 to 8 for the plan, then 16 for the room.
-fn check_writing(plan: Plan, size: usize, at: usize) -> Verdict
-    ensures { λ r. ⌜ verdictNumber r ≡ writeFault plan size at ⌝ }
-{
-    let value = acceptance::check(plan);
-    let room = check_room(plan_size(plan.count), size, at);
-    first_of(value, room)
 }
 
 // Clause 2.12: writes the plan's bytes into the buffer from position at; other bytes stay.

@@ -2,10 +2,10 @@
 // with 170 before and is 16 bytes longer than the list; these are printed too.
 use board_queries::list_board;
 use libc::STDOUT_FILENO;
+use listing_sizes::list_size;
 use plans::SLOTS;
 use states::Board;
 use states::State;
-use wait_listing::list_size;
 ghost use mathlib.Core.Path.{_≡_};
 ghost use Prim.Native.Nat.{_≤_};
 

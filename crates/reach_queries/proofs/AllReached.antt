@@ -18,8 +18,8 @@ use Rattle.conflicts.specs.Conflict.{tabulate}
 use Rattle.conflicts.proofs.Tabulate.{getD-tabulate, tabulate-agree}
 use Rattle.states.specs.declared.Board.{Board}
 use Rattle.states.specs.declared.State.{State}
-use Rattle.wait_listing.specs.Listing.{listedOf}
-use Rattle.wait_listing.proofs.Sizes.{mask-size-small}
+use Rattle.listing_sizes.specs.Sizes.{listedOf}
+use Rattle.listing_sizes.proofs.Sizes.{mask-size-small}
 use Rattle.reaching.specs.Rows.{rowsThrough}
 use Rattle.row_words.specs.Words.{wordCount, wordsOf, wordsScratch}
 use Rattle.row_words.proofs.Words.{words-agree}

@@ -1,6 +1,5 @@
 // Reach: all for whom a processor waits by a chain of direct waits. Nothing is changed but the lent scratch. Specification,
 // clauses 7.3 and 7.4.
-use encoding::check_room;
 use plans::ENTRIES;
 use plans::SLOTS;
 use queries::MaskAnswer;
@@ -8,6 +7,7 @@ use queries::check_processor;
 use reaching::reach_rows;
 use refusals::Verdict;
 use refusals::first_of;
+use room::check_room;
 use row_words::room_of;
 use row_words::write_rows;
 use settling::Phases;

@@ -1,13 +1,13 @@
 // Reach in rows: row p is the mask of all that processor p reaches. The queries use it. Specification, clause 7.3.
+use listing_sizes::listed;
 use masks::has32;
 use plans::SLOTS;
-use wait_listing::listed;
 use waiting::join_if;
 ghost use mathlib.Core.Path.{_≡_};
 ghost use Prim.Native.Nat.{_<_};
 ghost use Rattle.plans.specs.Entries.{slots};
 ghost use Rattle.conflicts.specs.Conflict.{tabulate};
-ghost use Rattle.wait_listing.specs.Listing.{listedOf};
+ghost use Rattle.listing_sizes.specs.Sizes.{listedOf};
 ghost use Rattle.reaching.specs.Rows.{joinedRow, rowsThrough};
 
 // Every row, joined with row k where k is in it.

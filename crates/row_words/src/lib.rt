@@ -1,11 +1,11 @@
 // Rows, one mask for each processor, as the words of a scratch. The reach of a processor leaves all rows there.
 // Specification, clause 7.4.
 use encoding::Outcome;
-use encoding::has_room;
-use encoding::write_number;
 use plans::SLOTS;
 use plans::mask_size;
 use refusals::Refusal;
+use room::has_room;
+use storing::write_number;
 ghost use mathlib.Core.Path.{_≡_};
 ghost use Prim.Native.Nat.{_≤_};
 ghost use lib.ListN.{length, getD};

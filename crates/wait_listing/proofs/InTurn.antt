@@ -12,7 +12,8 @@ use lib.Seq.{sets, take-append-le, drop-append-le, take-all, drop-at}
 use Rattle.encoding.specs.Numbers.{bytesOf}
 use Rattle.encoding.proofs.Numbers.{length-bytesOf}
 use Rattle.encoding.proofs.Stores.{sets-append}
-use Rattle.wait_listing.specs.Listing.{partBytes, partSize, inTurn}
+use Rattle.listing_sizes.specs.Sizes.{partSize}
+use Rattle.wait_listing.specs.Listing.{partBytes, inTurn}
 
 pub in-turn-more : (n : ℕ) (f : ℕ → List ℕ) → inTurn (n + 1) f ≡ inTurn n f ++ f n
 unfolding inTurn

@@ -15,7 +15,8 @@ use Rattle.encoding.specs.Buffers.{roomFault, overwritten, bufferAfter}
 use Rattle.encoding.proofs.Numbers.{length-bytesOf}
 use Rattle.encoding.proofs.Room.{room-fits, stored-where-fits}
 use Rattle.encoding.proofs.Stores.{sets-append, sets-overwritten}
-use Rattle.wait_listing.specs.Listing.{partBytes, inTurn, partSize, listSize, listBytes, listFault, listBuffer}
+use Rattle.listing_sizes.specs.Sizes.{partSize, listSize}
+use Rattle.wait_listing.specs.Listing.{partBytes, inTurn, listBytes, listFault, listBuffer}
 use Rattle.wait_listing.proofs.InTurn.{in-turn-agree, length-in-turn}
 
 -- A mask of two bytes, stored one by one.

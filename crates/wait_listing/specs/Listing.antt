@@ -1,17 +1,13 @@
 -- The wait listing: the part of a processor, and all bytes. The phases are of the requests that count.
 -- Specification, section 7.
-use Prim.Native.Nat.{ℕ, zero, suc, _+_, _*_, min}
+use Prim.Native.Nat.{ℕ, zero, suc}
 use mathlib.Core.List.{List, [], _∷_, _++_}
 use lib.ListN.{length, getD}
 use Rattle.encoding.specs.Numbers.{bytesOf}
 use Rattle.encoding.specs.Buffers.{roomFault, bufferAfter}
-use Rattle.plans.specs.Entries.{slots}
+use Rattle.listing_sizes.specs.Sizes.{listSize}
 use Rattle.settling.specs.declared.Phases.{Phases}
 use Rattle.wait_fields.specs.Fields.{stateIn, entryIn, waitedIn}
-
--- Clauses 7.7 and 4.10: the processors that are listed: the plan's, and no more than a state has places for.
-abbrev pub listedOf : ℕ → ℕ
-listedOf processors = min slots processors
 
 -- Clause 7.7: a processor's part: its state, its entry, the ticks that it has waited, and its direct waits in k bytes.
 unfoldable pub partBytes : ℕ → ℕ → ℕ → ℕ → ℕ → List ℕ
@@ -30,13 +26,6 @@ inTurn (suc n) f = inTurn n f ++ f n
 -- Clause 7.7: the list of m processors: their count, then the part of each.
 unfoldable pub listBytes : ℕ → (ℕ → List ℕ) → List ℕ
 listBytes m part = m ∷ inTurn m part
-
--- Clause 7.7: how many bytes a part takes, and the list.
-abbrev pub partSize : ℕ → ℕ
-partSize k = 6 + k
-
-abbrev pub listSize : ℕ → ℕ → ℕ
-listSize k m = 1 + partSize k * m
 
 -- Clauses 7.9 and 8.1: 16 for a buffer that is too short.
 unfoldable pub listFault : ℕ → ℕ → List ℕ → ℕ

@@ -1,12 +1,15 @@
 // The wait listing: the whole board in bytes, from the phases that count and the direct waits of all. The queries use
 // it. Specification, clauses 7.7 to 7.9.
 use encoding::Outcome;
-use encoding::check_room;
-use encoding::write_number;
+use listing_sizes::HEAD_BYTES;
+use listing_sizes::list_size;
+use listing_sizes::listed;
 use plans::SLOTS;
 use plans::mask_size;
 use refusals::Verdict;
+use room::check_room;
 use settling::Phases;
+use storing::write_number;
 use wait_fields::entry_at;
 use wait_fields::state_at;
 use wait_fields::waited_at;
@@ -18,11 +21,8 @@ ghost use Rattle.refusals.specs.Due.{said};
 ghost use Rattle.encoding.specs.Numbers.{bytesOf};
 ghost use Rattle.encoding.specs.Buffers.{outcomeSays};
 ghost use Rattle.plans.specs.Entries.{slots, maskSizeFor};
-ghost use Rattle.wait_listing.specs.Listing.{listedOf, partBytes, partIn, inTurn};
-ghost use Rattle.wait_listing.specs.Listing.{partSize, listSize, listFault, listBuffer};
-
-// The bytes of a part before its mask.
-const HEAD_BYTES: usize = 6;
+ghost use Rattle.listing_sizes.specs.Sizes.{listedOf, partSize, listSize};
+ghost use Rattle.wait_listing.specs.Listing.{partBytes, partIn, inTurn, listFault, listBuffer};
 
 // Stores a mask in so many bytes from position at: two, as up to 16 processors have them, without a loop.
 fn store_mask(size: usize, mask: u32, buffer: &mut [u8], at: usize)
@@ -91,24 +91,6 @@ fn store_parts(
         );
         i += 1;
     }
-}
-
-// Clause 4.10: the processors that are listed: the plan's, and no more than a state has places for.
-pub fn listed(processors: u8) -> usize
-    ensures { λ r. ⌜ r ≡ listedOf processors ⌝ }
-{
-    if (processors as usize) < SLOTS {
-        processors as usize
-    } else {
-        SLOTS
-    }
-}
-
-// Clause 7.7: how many bytes the list of a board with so many processors takes.
-pub fn list_size(processors: u8) -> usize
-    ensures { λ r. ⌜ r ≡ listSize (maskSizeFor processors) (listedOf processors) ⌝ }
-{
-    1 + (HEAD_BYTES + mask_size(processors)) * listed(processors)
 }
 
 // Writes the list from the start of the buffer and answers how many bytes it took; those behind it stay. Refuses by 16

@@ -8,7 +8,8 @@ use Rattle.encoding.specs.Numbers.{number}
 use Rattle.plans.specs.Acceptance.{countsFault, entryFault, entriesFault, planFault}
 use Rattle.plans.specs.Figures.{longest}
 use Rattle.plans.specs.Reading.{entryIn, entriesIn, sectionFault, readFault, planIn, planRead}
-use Rattle.conflicts.specs.Conflict.{widen, widenedSet, shared, conflict, inConflict, tabulate, conflictsOf}
+use Rattle.widening.specs.Widening.{widen, widenedSet}
+use Rattle.conflicts.specs.Conflict.{shared, conflict, inConflict, tabulate, conflictsOf}
 use Rattle.settling.specs.Settling.{test1, step1, test2, step2, test3, step3, test4, step4, settled}
 use Rattle.states.specs.Requests.{isHolding, isEntitled, isWaiting, cleaned}
 use Rattle.states.specs.Faults.{issueFault, completeFault, withdrawFault, handoverFault}

@@ -1,13 +1,11 @@
--- `read_entries` reads the entries and stops at the first fault. The invariant is `SoFar`. Assumes nothing.
+-- `read_entries` reads the entries and stops at the first fault. The invariant is `SoFar`, the measure how many are left.
+-- Assumes nothing.
 use Prim.Native.Nat.{_-_}
-use mathlib.Core.Path.{ap, _∙_}
-use mathlib.Core.Logic.{⊎-elim}
 use native.Mathlib.Omega.{arith}
 use borrow.Author.Needs.{needs}
 use lib.ListN.{getD}
-use Rattle.refusals.specs.Number.{verdictNumber}
 use Rattle.plan_reader.proofs.Answers.{refused-only}
-use Rattle.plan_reader.proofs.Section.{SoFar, nothing-read, Left, all-read, too-short, faulty, one-more-read, read-whole}
+use Rattle.plan_reader.proofs.Section.{SoFar, nothing-read, fault-met, entry-met, read-whole}
 use Rattle.plan_reader.proofs.read_entries.Statement.{statement}
 use Rattle.plan_reader.proofs.read_entries.Tie as tie
 
@@ -30,29 +28,36 @@ cast-count c = omega arith
 loop-holds : tie.Need-loop-holds Inv-loop μ-loop
 loop-holds c = nothing-read _ _ _ (omega arith)
 
-sub-if2 : tie.Need-sub-if2 Inv-loop μ-loop
-sub-if2 c = omega arith
+sub-next-entry : tie.Need-sub-next-entry Inv-loop μ-loop
+sub-next-entry c = c .before .loop .inv .inside
 
-sub-entry-of : tie.Need-sub-entry-of Inv-loop μ-loop
-sub-entry-of c = omega arith
+part-next-entry-start : tie.Need-part-next-entry-start Inv-loop μ-loop
+part-next-entry-start c = c .before .loop .inv .inside
 
-part-entry-of-start : tie.Need-part-entry-of-start Inv-loop μ-loop
-part-entry-of-start c = omega arith
+part-next-entry-end : tie.Need-part-next-entry-end Inv-loop μ-loop
+part-next-entry-end c = omega arith
 
-part-entry-of-end : tie.Need-part-entry-of-end Inv-loop μ-loop
-part-entry-of-end c = omega arith
-
-enum-known-found : tie.Need-enum-known-found Inv-loop μ-loop
-enum-known-found c = c .match .keys1
-
-enum-told : tie.Need-enum-told Inv-loop μ-loop
-enum-told c = c .match .keys2
+enum-known-next : tie.Need-enum-known-next Inv-loop μ-loop
+enum-known-next c = c .match .keys1
 
 mul-entries : tie.Need-mul-entries Inv-loop μ-loop
 mul-entries c = omega arith
 
 array-set-from-entries : tie.Need-array-set-from-entries Inv-loop μ-loop
 array-set-from-entries c = omega arith
+
+enum-known-next-2 : tie.Need-enum-known-next-2 Inv-loop μ-loop
+enum-known-next-2 c = c .match .keys2
+
+-- The next entry has a fault.
+returns : tie.Need-returns Inv-loop μ-loop
+returns c =
+    let called = c .before .before .before .before in
+    let looped = called .before .before .before in
+    let refusal = c .before .before .next2 .given .0 .0 in
+    let fault = fault-met _ _ _ _ _ _ (looped .loop .inv) _ (called .next-entry .ensures) (called .before .before .loop-test .taken)
+    refusal (c .before .before .next2 .given .1) in
+    refused-only _ refusal (c .refused .ensures) _ fault _ _
 
 add-at : tie.Need-add-at Inv-loop μ-loop
 add-at c = omega arith
@@ -65,45 +70,13 @@ loop-less c = omega arith
 
 loop-again : tie.Need-loop-again Inv-loop μ-loop
 loop-again c =
-    let called = c .before .before in
-    let at-loop = c .before .before .before .before .before .before .before in
-    one-more-read _ _ _ _ _ _ (at-loop .loop .inv) (omega arith) (omega arith) _ (called .before .entry-of .ensures)
-    _ (called .check-entry .ensures) (omega arith) (c .enum-told .given .1)
-
--- The three ways out: all entries are read, the bytes end, or an entry has a fault.
-left : (c : tie.Joined1 Inv-loop μ-loop)
-    → (let bytes = c .before .before .before .before .before .args .bytes .now in
-    Left (getD bytes 1 0) (getD bytes 2 0) bytes (c .before .loop .i) (c .if1 .verdict))
-left c =
-    let h = c .before .loop .inv in
-    ⊎-elim
-    (λ w. all-read _ _ _ _ _ _ h (w .0 .taken) (w .1))
-    (⊎-elim
-    (λ w. too-short _ _ _ _ _ _ h (omega arith) (w .1 .taken) (w .2))
-    (λ w. faulty _ _ _ _ _ _ h (omega arith) (w .1 .left) _ (w .3 .ensures) _ (w .4 .ensures) (w .6 .given .1) (w .8)))
-    (c .if1 .came)
-
-enum-told-2 : tie.Need-enum-told-2 Inv-loop μ-loop
-enum-told-2 c = c .match2 .keys1
-
-shared-slice-read-t29 : tie.Need-shared-slice-read-t29 Inv-loop μ-loop
-shared-slice-read-t29 c = omega arith
-
-shared-slice-read-t31 : tie.Need-shared-slice-read-t31 Inv-loop μ-loop
-shared-slice-read-t31 c = omega arith
-
-enum-known-verdict : tie.Need-enum-known-verdict Inv-loop μ-loop
-enum-known-verdict c = c .match2 .keys2
-
-returns : tie.Need-returns Inv-loop μ-loop
-returns c =
-    read-whole _ _ _ (left (c .before .before .before .before)) _ _ (c .before .before .before .before .before .loop .inv)
-    (c .before .before .enum-told2 .given .1)
+    let called = c .before .before .before in
+    let looped = called .before .before .before in
+    entry-met _ _ _ _ _ _ (looped .loop .inv) _ (called .next-entry .ensures) (called .before .before .loop-test .taken) (omega arith)
+    _ (c .before .next .given .1)
 
 returns-2 : tie.Need-returns-2 Inv-loop μ-loop
-returns-2 c =
-    let fault = left (c .before .before .before .before) .whole ∙ ap verdictNumber (c .before .before .verdict .given .1) in
-    refused-only _ _ (c .refused .ensures) _ fault _ _
+returns-2 c = read-whole _ _ _ _ (c .before .before .loop .inv) (c .before .loop-test .left) _ (c .whole .ensures)
 
 pub read-entries-spec : {M : Type 1} → statement M
 read-entries-spec =
@@ -115,24 +88,19 @@ read-entries-spec =
     shared-slice-read-count
     cast-count
     loop-holds
-    sub-if2
-    sub-entry-of
-    part-entry-of-start
-    part-entry-of-end
+    sub-next-entry
+    part-next-entry-start
+    part-next-entry-end
     (λ c κs. search needs)
-    (λ c κs. search needs)
-    enum-known-found
-    enum-told
+    enum-known-next
     mul-entries
     array-set-from-entries
+    enum-known-next-2
+    (λ c κs. search needs)
+    returns
     add-at
     add-i
     loop-less
     loop-again
-    enum-told-2
-    shared-slice-read-t29
-    shared-slice-read-t31
-    enum-known-verdict
     (λ c κs. search needs)
-    returns
     returns-2)

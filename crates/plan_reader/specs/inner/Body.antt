@@ -2,7 +2,10 @@
 use Prim.Native.Nat.{ℕ, _≤_}
 use mathlib.Core.List.{List}
 use lib.ListN.{length, getD, drop}
-use Rattle.plans.specs.Entries.{mostEntries, headSize}
+use Rattle.encoding.specs.declared.Outcome.{Outcome}
+use Rattle.plans.specs.declared.Entry.{Entry}
+use Rattle.plans.specs.declared.Read.{Read}
+use Rattle.plans.specs.Entries.{mostEntries, headSize, planSize}
 use Rattle.plans.specs.Reading.{sectionFault}
 
 -- The first fault of the counted entries.
@@ -13,3 +16,11 @@ bodyFault s = sectionFault (getD s 1 0) (getD s 2 0) (drop headSize s)
 pub record CountsThere (s : List ℕ) : Type 0 where
   pub there : headSize ≤ length s
   pub held : getD s 2 0 ≤ mostEntries
+
+-- Clause 2.8: the counts in the bytes s with these entries, and how many bytes that plan takes.
+abbrev pub wholeRead : List ℕ → List Entry → Read
+wholeRead s entries =
+    record {
+      outcome = Outcome.Bytes (planSize (getD s 2 0));
+      plan = record { processors = getD s 0 0; resources = getD s 1 0; count = getD s 2 0; entries = entries };
+    }

@@ -1,6 +1,6 @@
 -- `digits_of` does not run over: a mask has at most four bytes. Assumes nothing.
 use native.Mathlib.Omega.{arith}
-use Rattle.wait_listing.proofs.Sizes.{mask-size-small}
+use Rattle.listing_sizes.proofs.Sizes.{mask-size-small}
 use borrow.Author.Needs.{needs}
 use Rattle.query_listing.proofs.digits_of.Statement.{statement}
 use Rattle.query_listing.proofs.digits_of.Tie as tie

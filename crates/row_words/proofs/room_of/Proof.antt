@@ -1,6 +1,6 @@
 -- `room_of` meets its contract: a mask's bytes are few, and so nothing runs over. Assumes nothing.
 use native.Mathlib.Omega.{arith}
-use Rattle.wait_listing.proofs.Sizes.{mask-size-small}
+use Rattle.listing_sizes.proofs.Sizes.{mask-size-small}
 use Rattle.row_words.proofs.Words.{words-small}
 use borrow.Author.Needs.{needs}
 use Rattle.row_words.proofs.room_of.Statement.{statement}

@@ -6,7 +6,7 @@ use lib.ListN.{length, getD}
 use Rattle.encoding.specs.Buffers.{hasRoom}
 use Rattle.encoding.proofs.Room.{with-room, without-room}
 use Rattle.plans.specs.Entries.{maskSizeFor}
-use Rattle.wait_listing.proofs.Sizes.{mask-size-small}
+use Rattle.listing_sizes.proofs.Sizes.{mask-size-small}
 use Rattle.row_words.specs.Words.{wordCount, wordsOf, wordsSize}
 use Rattle.row_words.proofs.Words.{length-words}
 use borrow.Author.Needs.{needs}

@@ -7,9 +7,10 @@ use lib.ListN.{length}
 use lib.Seq.{sets, length-sets}
 use Rattle.plans.specs.Entries.{slots}
 use Rattle.wait_fields.specs.Fields.{entryIn, waitedIn}
-use Rattle.wait_listing.specs.Listing.{partIn, inTurn, partSize, listSize}
+use Rattle.listing_sizes.specs.Sizes.{partSize, listSize}
+use Rattle.wait_listing.specs.Listing.{partIn, inTurn}
 use Rattle.wait_listing.proofs.InTurn.{length-part, turn-stores}
-use Rattle.wait_listing.proofs.Sizes.{part-inside, list-small}
+use Rattle.listing_sizes.proofs.Sizes.{part-inside, list-small}
 use borrow.Author.Needs.{needs}
 use Rattle.wait_listing.proofs.store_parts.Statement.{statement}
 use Rattle.wait_listing.proofs.store_parts.Tie as tie

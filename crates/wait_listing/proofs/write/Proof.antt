@@ -3,9 +3,10 @@ use mathlib.Core.Path.{_∙_}
 use native.Mathlib.Omega.{arith}
 use lib.ListN.{length, length-set}
 use Rattle.plans.specs.Entries.{maskSizeFor}
-use Rattle.wait_listing.specs.Listing.{listedOf, partIn}
+use Rattle.listing_sizes.specs.Sizes.{listedOf}
+use Rattle.wait_listing.specs.Listing.{partIn}
 use Rattle.wait_listing.proofs.InTurn.{length-part}
-use Rattle.wait_listing.proofs.Sizes.{mask-size-small}
+use Rattle.listing_sizes.proofs.Sizes.{mask-size-small}
 use Rattle.wait_listing.proofs.Stores.{room-for-list, list-written, list-refused}
 use borrow.Author.Needs.{needs}
 use Rattle.wait_listing.proofs.write.Statement.{statement}

@@ -2,8 +2,8 @@
 use Prim.Native.Nat.{_≤_}
 use native.Mathlib.Omega.{arith}
 use Rattle.plans.specs.Entries.{slots, maskSizeFor}
-use Rattle.wait_listing.specs.Listing.{listedOf}
-use Rattle.wait_listing.proofs.Sizes.{mask-size-small, list-small}
+use Rattle.listing_sizes.specs.Sizes.{listedOf}
+use Rattle.listing_sizes.proofs.Sizes.{mask-size-small, list-small}
 use borrow.Author.Needs.{needs}
 use Rattle.query_listing.proofs.board_line.size_of.Statement.{statement}
 use Rattle.query_listing.proofs.board_line.size_of.Tie as tie

@@ -2,7 +2,7 @@
 use Prim.Native.Nat.{_≤_}
 use native.Mathlib.Omega.{arith}
 use Rattle.plans.specs.Entries.{maskSizeFor}
-use Rattle.wait_listing.proofs.Sizes.{mask-size-small}
+use Rattle.listing_sizes.proofs.Sizes.{mask-size-small}
 use Rattle.row_words.specs.Words.{wordsSize}
 use Rattle.row_words.proofs.Words.{words-small}
 use borrow.Author.Needs.{needs}

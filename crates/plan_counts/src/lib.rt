@@ -1,0 +1,46 @@
+// The three counts of a plan: which are taken, and by which number the others are refused: 3, 4 and 5. Specification,
+// clauses 2.3 to 2.5.
+use plans::ENTRIES;
+use plans::RESOURCES;
+use plans::SLOTS;
+use refusals::Refusal;
+use refusals::Verdict;
+use refusals::first_of;
+use refusals::refuse_unless;
+ghost use mathlib.Core.Path.{_≡_};
+ghost use Rattle.refusals.specs.Number.{verdictNumber};
+ghost use Rattle.plans.specs.Acceptance.{processorsFault, resourcesFault, countFault, countsFault};
+
+// Clause 2.3: refuses by 3.
+pub fn check_processors(count: u8) -> Verdict
+    ensures { λ r. ⌜ verdictNumber r ≡ processorsFault count ⌝ }
+{
+    refuse_unless((1 <= count) & (count <= SLOTS as u8), Refusal::Processors)
+}
+
+// Clause 2.4: refuses by 4.
+pub fn check_resources(count: u8) -> Verdict
+    ensures { λ r. ⌜ verdictNumber r ≡ resourcesFault count ⌝ }
+{
+    refuse_unless(
+        (1 <= count) & (count <= RESOURCES as u8),
+        Refusal::Resources,
+    )
+}
+
+// Clause 2.5: refuses by 5.
+pub fn check_entry_count(count: u8) -> Verdict
+    ensures { λ r. ⌜ verdictNumber r ≡ countFault count ⌝ }
+{
+    refuse_unless((1 <= count) & (count <= ENTRIES as u8), Refusal::Entries)
+}
+
+// The three counts in the order of their bytes.
+pub fn check_counts(processors: u8, resources: u8, count: u8) -> Verdict
+    ensures { λ r. ⌜ verdictNumber r ≡ countsFault processors resources count ⌝ }
+{
+    let first = check_processors(processors);
+    let second = check_resources(resources);
+    let third = check_entry_count(count);
+    first_of(first, first_of(second, third))
+}

@@ -1,0 +1,18 @@
+-- Widened sets. Specification, section 3.
+use Prim.Native.Nat.{ℕ}
+use mathlib.Core.Bool.{cond, _&&_}
+use mathlib.Core.List.{List, [], _∷_}
+use lib.Bits.{bitOr}
+use Rattle.masks.specs.Sets.{meets}
+use Rattle.plans.specs.declared.Entry.{Entry}
+use Rattle.plans.specs.Entries.{isRead, isWrite}
+
+-- Clause 3.1: the names, joined with those of each read entry that shares a resource with them. Every entry is held
+-- against the names alone, so what was joined brings in no more.
+unfoldable pub widen : ℕ → List Entry → ℕ
+widen names [] = names
+widen names (e ∷ later) = bitOr (widen names later) (cond (isRead e && meets (e .set) names) (e .set) 0)
+
+-- Clause 3.1: the widened set of a write entry. That of a read entry, its names, is not used.
+unfoldable pub widenedSet : List Entry → Entry → ℕ
+widenedSet entries e = cond (isWrite e) (widen (e .set) entries) (e .set)
