@@ -1,30 +1,19 @@
 -- The lines in the parts that are stored: a lead and the fields behind it. Assumes nothing.
-use Prim.Native.Nat.{ℕ, _+_, _*_, _≤_}
+use Prim.Native.Nat.{ℕ, _+_, _≤_}
 use native.Mathlib.Omega.{arith}
 use mathlib.Core.Path.{_≡_, refl}
 use mathlib.Core.List.{List, [], _∷_, _++_, append-assoc}
 use lib.ListN.{length, length-append}
-use Rattle.digits.specs.Digits.{decimal, maskBy}
+use Rattle.digits.specs.Digits.{decimal}
 use Rattle.digits.proofs.Decimals.{some-digit}
 use Rattle.number_fields.specs.Fields.{lastField, callLead}
-use Rattle.mask_fields.specs.Fields.{maskFields}
-use Rattle.mask_fields.proofs.MaskLengths.{length-mask}
-use Rattle.lines.specs.Lines.{refusedWord, furtherFields, fieldsLine, doneFields, refusedFields, refusalLine}
+use Rattle.lines.specs.Lines.{refusedWord, furtherFields, fieldsLine, refusedFields, refusalLine}
 
--- What stands behind the lead of an accepted call, and of a refused one.
-abbrev pub doneTail : List ℕ → ℕ → ℕ → ℕ → ℕ → List ℕ
-doneTail pairs n granted entitled late = maskFields pairs n granted entitled ++ lastField (32 ∷ []) late
-
+-- What stands behind the lead of a refused call.
 abbrev pub refusedTail : ℕ → List ℕ
 refusedTail number = lastField (32 ∷ refusedWord ++ (32 ∷ [])) number
 
 module _ (letter processor tick : ℕ) where
-  pub done-parts : (pairs : List ℕ) (n granted entitled late : ℕ)
-      → fieldsLine letter processor tick (doneFields (maskBy pairs n) granted entitled late)
-      ≡ callLead letter processor tick ++ doneTail pairs n granted entitled late
-  unfolding furtherFields
-  done-parts pairs n granted entitled late = simp append-assoc
-
   pub refused-parts : (number : ℕ)
       → fieldsLine letter processor tick (refusedFields number) ≡ callLead letter processor tick ++ refusedTail number
   unfolding furtherFields
@@ -39,11 +28,6 @@ fault-parts number = refl
 
 pub some-fault : (number : ℕ) → 1 ≤ length (lastField (refusedWord ++ (32 ∷ [])) number)
 some-fault number = simp length-append (omega arith)
-
-pub done-tail-length : (pairs : List ℕ) (n k granted entitled late d : ℕ) → k ≡ n → d ≡ length (decimal late)
-    → 4 + 4 * k + d ≡ length (doneTail pairs n granted entitled late)
-done-tail-length pairs n k granted entitled late d size e =
-    simp length-append (omega (arith, length-mask pairs n granted, length-mask pairs n entitled))
 
 pub refused-tail-length : (number d : ℕ) → d ≡ length (decimal number) → 10 + d ≡ length (refusedTail number)
 refused-tail-length number d e = simp length-append (omega arith)

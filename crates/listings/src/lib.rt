@@ -3,10 +3,10 @@
 use calls::Call;
 use calls::Reply;
 use digits::hex_pairs;
+use done_lines::done_line;
 use encoding::Outcome;
 use figures::figures_of;
 use first_lines::numbers_line;
-use lines::done_line;
 use lines::fault_line;
 use lines::refused_line;
 use plans::Plan;

@@ -1,24 +1,24 @@
 // `lockreplay`: a log on standard input, its listing on standard output.
-// A thin loop over `log_input`, `log_ends` and `replay`: no contract can say what is read or written, so the work is done
-// on slices there. `whole_listing/specs/Arrivals.antt` has the same turns over the same buffers as a definition, which
-// is proved to be the listing.
+// A thin loop over `log_input`, `log_openings`, `log_ends` and `replay`: no contract can say what is read or written, so the
+// work is done on slices there. `whole_listing/specs/Arrivals.antt` has the same turns over the same buffers as a
+// definition, which is proved to be the listing.
 use encoding::Outcome;
 use fronts::bring_to_front;
 use fronts::copy_in;
 use libc::STDERR_FILENO;
 use libc::STDIN_FILENO;
 use libc::STDOUT_FILENO;
-use log_ends::begin;
+use lines::line_size;
 use log_ends::count;
 use log_ends::finish;
 use log_input::Fed;
 use log_input::due_size;
 use log_input::fill_plan;
 use log_input::fill_to;
+use log_openings::begin;
 use logs::COUNT_BYTES;
 use logs::CountAnswer;
 use logs::RECORD_BYTES;
-use replay::line_size;
 use replay::run;
 use states::Board;
 use states::State;

@@ -1,20 +1,14 @@
--- The lines before and after the calls: the opening of a log, its call count, and its end.
+-- The lines of a log's call count and of its end. Specification, section 9.
 use Prim.Native.Nat.{ℕ}
 use mathlib.Core.Bool.{cond}
 use mathlib.Core.List.{List, []}
 use lib.Dec.{eqb}
-use Rattle.plans.specs.Reading.{readFault, planRead}
 use Rattle.logs.specs.Records.{readCount, recordFault, tailFault}
 use Rattle.lines.specs.Lines.{refusalLine}
-use Rattle.listings.specs.Lines.{firstLine}
 
 -- Clause 9.8: the line of a number that is due, and none for 0.
 abbrev pub faultLine : ℕ → List ℕ
 faultLine number = cond (eqb number 0) [] (refusalLine number)
-
--- Clauses 9.6 and 9.8: the first line where the plan is accepted, else the line of its refusal.
-abbrev pub openingLine : List ℕ → List ℕ
-openingLine s = cond (eqb (readFault s) 0) (firstLine (planRead s)) (refusalLine (readFault s))
 
 -- Clause 9.8: the line of the count's refusal.
 abbrev pub countLine : List ℕ → List ℕ

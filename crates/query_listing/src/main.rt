@@ -87,7 +87,7 @@ fn print_queries(board: Board, state: State) {
 fn show(line: Outcome, out: &[u8])
     requires { ⌜ outcomeSays line .value ≤ length (now out) ⌝ }
 {
-    let size = replay::line_size(line);
+    let size = lines::line_size(line);
     io::write_all(STDOUT_FILENO, &out[..size]);
 }
 
@@ -170,7 +170,7 @@ fn print_log(plan: &mut [u8], block: &mut [u8], out: &mut [u8]) {
         return;
     }
     let filled = fed.have;
-    let begun = log_ends::begin(&plan[..filled], out);
+    let begun = log_openings::begin(&plan[..filled], out);
     let line = begun.line;
     show(line, out);
     let board = begun.board;

@@ -1,42 +1,47 @@
 -- The loop over a block's records: what holds before each, that a turn keeps it, and what it gives at the end. Assumes nothing.
 use Prim.Native.Nat.{ℕ, zero, suc, _+_, _-_, _*_, _≤_, _<_}
 use mathlib.Core.Path.{_≡_, refl, ap, sym, _∙_}
-use mathlib.Core.Bool.{Bool, true, false}
+use mathlib.Core.Bool.{Bool, true, false, not, _&&_}
 use mathlib.Core.List.{List, [], _++_}
 use native.Mathlib.Nat.{add-zero, le-refl}
 use native.Mathlib.Omega.{arith}
+use borrow.Author.Tests.{ltb-true, ltb-false, not-true}
+use mir.Val.{boolByte}
+use lib.Dec.{ltb}
 use lib.ListN.{length, take, drop, length-append, length-drop, take-append-drop}
 use lib.Seq.{drop-drop, take-all}
+use Rattle.masks.proofs.Truth.{and-left, and-right}
 use Rattle.states.specs.declared.Board.{Board}
 use Rattle.states.specs.declared.State.{State}
 use Rattle.encoding.specs.Buffers.{overwritten}
+use Rattle.digits.specs.Digits.{hexPairs}
+use Rattle.lines.specs.Lines.{lineBuffer}
+use Rattle.lines.proofs.Room.{fitting-line, fitting-buffer}
+use Rattle.carrying_out.specs.Steps.{Stands, stands}
+use Rattle.replay_records.specs.Records.{recordStep}
 use Rattle.replay.specs.declared.RanBlock.{RanBlock}
 use Rattle.replay.specs.Blocks.{Ran, ran, lineRoom, ranBlock}
-use Rattle.replay.specs.inner.Parts.{Stands, carried}
-use Rattle.replay.proofs.Records.{one-line-room}
-use Rattle.replay.proofs.Turns.{over-over, front, one-then-more, one-ends}
+use Rattle.replay.proofs.Records.{step, step-room, front, remaining, step-then-more}
+use Rattle.replay.proofs.Turns.{over-over}
 
--- Before a record: what is left from the state st and the bytes behind the calls so far still gives the whole block.
-pub record Leaves (whole : Ran) (b : Board) (due : ℕ) (s out₀ : List ℕ) (st : State) (calls at : ℕ) (out : List ℕ) : Type 0 where
+-- Before a record, or after one that ended the replay: what is left from the state st and the bytes behind the calls so far
+-- still gives the whole block.
+pub record Leaves (whole : Ran) (b : Board) (due : ℕ) (s out₀ : List ℕ) (st : State) (calls at : ℕ) (ended : Bool) (out : List ℕ) : Type 0 where
   pub some : calls ≤ due
-  pub room : at ≤ lineRoom * calls
+  pub room : ended ≡ false → at ≤ lineRoom * calls
   pub long : length out ≡ length out₀
-  pub stands : overwritten out at (ran b st (due - calls) (drop (8 * calls) s) .lines) ≡ overwritten out₀ 0 (whole .lines)
-  pub size : at + length (ran b st (due - calls) (drop (8 * calls) s) .lines) ≡ length (whole .lines)
-  pub after : ran b st (due - calls) (drop (8 * calls) s) .state ≡ whole .state
-  pub counts : calls + ran b st (due - calls) (drop (8 * calls) s) .calls ≡ whole .calls
-  pub ends : ran b st (due - calls) (drop (8 * calls) s) .ended ≡ whole .ended
+  pub stands : overwritten out at (remaining ended b st (due - calls) (drop (8 * calls) s) .lines) ≡ overwritten out₀ 0 (whole .lines)
+  pub size : at + length (remaining ended b st (due - calls) (drop (8 * calls) s) .lines) ≡ length (whole .lines)
+  pub after : remaining ended b st (due - calls) (drop (8 * calls) s) .state ≡ whole .state
+  pub counts : calls + remaining ended b st (due - calls) (drop (8 * calls) s) .calls ≡ whole .calls
+  pub ends : remaining ended b st (due - calls) (drop (8 * calls) s) .ended ≡ whole .ended
 
--- A record's line has room.
-pub one-fits : (b : Board) (st : State) (s : List ℕ) (r : Stands) → r ≡ carried (ran b st 1 s) → r .written ≤ lineRoom
-one-fits b st s r e = omega (arith, ap (λ (x : Stands). x .written) e, one-line-room b st s)
-
-pub first-turn : (b : Board) (st : State) (due : ℕ) (s out : List ℕ) → Leaves (ran b st due s) b due s out st 0 0 out
+pub first-turn : (b : Board) (st : State) (due : ℕ) (s out : List ℕ) → Leaves (ran b st due s) b due s out st 0 0 false out
 first-turn b st due s out =
     let all : due - 0 ≡ due = omega arith in
     record {
       some = omega arith;
-      room = omega arith;
+      room = λ e. omega arith;
       long = refl;
       stands = rw all refl;
       size = rw all (omega arith);
@@ -45,18 +50,36 @@ first-turn b st due s out =
       ends = rw all refl;
     }
 
-module _ (whole : Ran) (b : Board) (due : ℕ) (s out₀ : List ℕ) (st : State) (calls at : ℕ) (out : List ℕ)
-    (h : Leaves whole b due s out₀ st calls at out) where
-  -- After the last record.
-  pub last-turn : due ≤ calls
-      → (_≡_ {A = RanBlock} (record { state = st; calls = calls; written = at; ended = false }) (ranBlock whole)) × (out ≡ overwritten out₀ 0 (whole .lines))
-  unfolding ran
+-- Another turn is due where a call is left and no refusal ended the replay.
+module _ (calls due : ℕ) (ended : Bool) where
+  pub more-due : (ltb calls due && not ended) ≡ true → calls < due
+  more-due e = ltb-true calls due (and-left (ltb calls due) (not ended) e)
+
+  pub not-ended : (ltb calls due && not ended) ≡ true → ended ≡ false
+  not-ended e = not-true ended (and-right (ltb calls due) (not ended) e)
+
+-- Where none is, nothing is left.
+none-left : (b : Board) (st : State) (calls due : ℕ) (ended : Bool) (s : List ℕ) → (ltb calls due && not ended) ≡ false
+    → remaining ended b st (due - calls) s ≡ record { lines = []; state = st; calls = 0; ended = ended }
+unfolding ran
+none-left b st calls due true s e = refl
+none-left b st calls due false s e = go (ltb calls due) refl e
+  where
+    go : (t : Bool) → ltb calls due ≡ t → (t && true) ≡ false → ran b st (due - calls) s ≡ record { lines = []; state = st; calls = 0; ended = false }
+    go true h f = absurd (let z : _≡_ {A = ℕ} 0 1 = cc in omega arith)
+    go false h f = let none : due - calls ≡ 0 = omega (arith, ltb-false calls due h) in rw none refl
+
+module _ (whole : Ran) (b : Board) (due : ℕ) (s out₀ : List ℕ) (st : State) (calls at : ℕ) (ended : Bool) (out : List ℕ)
+    (h : Leaves whole b due s out₀ st calls at ended out) where
+  -- After the last turn.
+  pub last-turn : (ltb calls due && not ended) ≡ false
+      → (_≡_ {A = RanBlock} (record { state = st; calls = calls; written = at; ended = ended }) (ranBlock whole)) × (out ≡ overwritten out₀ 0 (whole .lines))
   last-turn e =
-      let none : due - calls ≡ 0 = omega arith in
+      let none = none-left b st calls due ended (drop (8 * calls) s) e in
       let size : at + 0 ≡ length (whole .lines) = rw none at (h .size) in
       let counts : calls + 0 ≡ whole .calls = rw none at (h .counts) in
       let after : st ≡ whole .state = rw none at (h .after) in
-      let ends : false ≡ whole .ended = rw none at (h .ends) in
+      let ends : ended ≡ whole .ended = rw none at (h .ends) in
       let stands : overwritten out at [] ≡ overwritten out₀ 0 (whole .lines) = rw none at (h .stands) in
       let w : at ≡ length (whole .lines) = omega arith in
       let n : calls ≡ whole .calls = omega arith in (
@@ -64,58 +87,82 @@ module _ (whole : Ran) (b : Board) (due : ℕ) (s out₀ : List ℕ) (st : State
         rw (add-zero, take-append-drop) at stands,
       )
 
-  module _ (more : calls < due) (fits : lineRoom * due ≤ length out₀) (r : Stands) (out′ : List ℕ)
-      (answered : r ≡ carried (ran b st 1 (take (length s - 8 * calls) (drop (8 * calls) s))))
-      (written : out′ ≡ overwritten out at (ran b st 1 (take (length s - 8 * calls) (drop (8 * calls) s)) .lines)) where
-    -- The bytes from the position on are lent whole.
-    lent : take (length s - 8 * calls) (drop (8 * calls) s) ≡ drop (8 * calls) s
-    lent = take-all (length s - 8 * calls) (drop (8 * calls) s) (rw length-drop (le-refl _))
+  module _ (test : (ltb calls due && not ended) ≡ true) (fits : lineRoom * due ≤ length out₀) where
+    more : calls < due
+    more = more-due calls due ended test
 
-    e : r ≡ carried (ran b st 1 (drop (8 * calls) s))
-    e = rw lent at answered
+    go-on : ended ≡ false
+    go-on = not-ended calls due ended test
 
-    eo : out′ ≡ overwritten out at (ran b st 1 (drop (8 * calls) s) .lines)
-    eo = rw lent at written
+    -- The bytes behind the calls so far, and the step of the record in front of them.
+    abbrev rest : List ℕ
+    rest = drop (8 * calls) s
 
-    one-written : r .written ≡ length (ran b st 1 (drop (8 * calls) s) .lines)
-    one-written = ap (λ (x : Stands). x .written) e
+    line-fits : at + length (step b st rest .line) ≤ length out
+    line-fits = omega (arith, more, h .room go-on, h .long, step-room b st rest)
 
-    eight-more : 8 * (calls + 1) ≡ 8 * calls + 8
-    eight-more = omega arith
+    module _ (pairs : List ℕ) (table : pairs ≡ hexPairs) (r : Stands) (out′ : List ℕ)
+        (told : r ≡ stands (recordStep pairs b st (take (length s - 8 * calls) (drop (8 * calls) s))) (length out) at)
+        (put : out′ ≡ lineBuffer (recordStep pairs b st (take (length s - 8 * calls) (drop (8 * calls) s)) .line) out at) where
+      -- The bytes from the position on are lent whole.
+      lent : take (length s - 8 * calls) (drop (8 * calls) s) ≡ drop (8 * calls) s
+      lent = take-all (length s - 8 * calls) (drop (8 * calls) s) (rw length-drop (le-refl _))
 
-    left-over : due - calls ≡ suc (due - (calls + 1))
-    left-over = omega arith
+      e : r ≡ stands (step b st rest) (length out) at
+      e = rw (table, lent) at told
 
-    -- After a record that ended the replay.
-    pub ended-turn : r .ended ≡ true
-        → (_≡_ {A = RanBlock} (record { state = r .state; calls = calls; written = at + r .written; ended = true }) (ranBlock whole)) × (out′ ≡ overwritten out₀ 0 (whole .lines))
-    ended-turn t =
-        let split = one-ends b st (due - (calls + 1)) (drop (8 * calls) s) (sym (ap (λ (x : Stands). x .ended) e) ∙ t) in
-        let counts : calls + 0 ≡ whole .calls = rw (left-over, split) at (h .counts) in
-        let n : calls ≡ whole .calls = omega arith in
-        let size : at + length (ran b st 1 (drop (8 * calls) s) .lines) ≡ length (whole .lines) = rw (left-over, split) at (h .size) in
-        let w : at + r .written ≡ length (whole .lines) = ap (λ (k : ℕ). at + k) one-written ∙ size in
-        let after : r .state ≡ whole .state = ap (λ (x : Stands). x .state) e ∙ (rw (left-over, split) at (h .after)) in
-        let ends : true ≡ whole .ended = rw (left-over, split) at (h .ends) in
-        (λ i. record { state = after i; calls = n i; written = w i; ended = ends i }, eo ∙ (rw (left-over, split) at (h .stands)))
+      eo : out′ ≡ overwritten out at (step b st rest .line)
+      eo = (rw (table, lent) at put) ∙ fitting-buffer (step b st rest .line) out at line-fits
 
-    -- After a call.
-    pub next-turn : r .ended ≡ false → length out′ ≡ length out → Leaves whole b due s out₀ (r .state) (calls + 1) (at + r .written) out′
-    next-turn t kept =
-        let one = ran b st 1 (drop (8 * calls) s) in
-        let later = ran b (r .state) (due - (calls + 1)) (drop (8 * (calls + 1)) s) in
-        let split : ran b st (due - calls) (drop (8 * calls) s) ≡ front (one .lines) 1 later =
-        rw (left-over, one-then-more b st (due - (calls + 1)) (drop (8 * calls) s) (sym (ap (λ (x : Stands). x .ended) e) ∙ t), ← ap (λ (x : Stands). x .state) e, drop-drop 8 (8 * calls) s, ← eight-more) refl in
-        let room : length (one .lines) ≤ lineRoom = one-line-room b st (drop (8 * calls) s) in
-        let fit : at + length (one .lines) ≤ length out = omega (arith, h .room, h .long) in
-        let lines : ran b st (due - calls) (drop (8 * calls) s) .lines ≡ one .lines ++ later .lines = ap (λ (x : Ran). x .lines) split in
-        record {
-          some = omega arith;
-          room = omega (arith, h .room, one-written);
-          long = kept ∙ h .long;
-          stands = rw (eo, one-written) (over-over out at (one .lines) (later .lines) fit ∙ ap (overwritten out at) (sym lines) ∙ h .stands);
-          size = omega (arith, one-written, h .size, ap length lines ∙ length-append (one .lines) (later .lines));
-          after = sym (ap (λ (x : Ran). x .state) split) ∙ h .after;
-          counts = omega (arith, ap (λ (x : Ran). x .calls) split, h .counts);
-          ends = sym (ap (λ (x : Ran). x .ended) split) ∙ h .ends;
-        }
+      one-written : r .written ≡ length (step b st rest .line)
+      one-written = ap (λ (x : Stands). x .written) e ∙ ap (λ x. x .value) (fitting-line (step b st rest .line) out at line-fits)
+
+      -- The line takes no more than its room.
+      pub written-room : r .written ≤ lineRoom
+      written-room = omega (arith, one-written, step-room b st rest)
+
+      module _ (n : ℕ) (one : n ≡ boolByte (not (r .ended))) where
+        pub at-most-one : n ≤ 1
+        at-most-one = go (r .ended) one
+          where
+            go : (t : Bool) → n ≡ boolByte (not t) → n ≤ 1
+            go true k = omega arith
+            go false k = omega arith
+
+        one-call : r .ended ≡ false → n ≡ 1
+        one-call k = one ∙ rw k refl
+
+        pub fewer : due - (calls + n) + boolByte (not (r .ended)) < due - calls + boolByte (not ended)
+        fewer = rw (← one, go-on) (omega (arith, more, at-most-one))
+
+        abbrev later : Ran
+        later = remaining (r .ended) b (r .state) (due - (calls + n)) (drop (8 * (calls + n)) s)
+
+        behind : (t : Bool) → n ≡ boolByte (not t)
+            → remaining t b (r .state) (due - (calls + 1)) (drop 8 rest) ≡ remaining t b (r .state) (due - (calls + n)) (drop (8 * (calls + n)) s)
+        behind true k = refl
+        behind false k =
+            let eight : 8 * calls + 8 ≡ 8 * (calls + 1) = omega arith in
+            rw (k, drop-drop 8 (8 * calls) s, eight) refl
+
+        split : remaining ended b st (due - calls) rest ≡ front (step b st rest .line) n later
+        split =
+            let left-over : due - calls ≡ suc (due - (calls + 1)) = omega (arith, more) in
+            let state : r .state ≡ step b st rest .state = ap (λ (x : Stands). x .state) e in
+            let end : r .ended ≡ step b st rest .ended = ap (λ (x : Stands). x .ended) e in
+            rw (go-on, left-over, step-then-more b st (due - (calls + 1)) rest, ← end, ← state, ← one, behind (r .ended) one) refl
+
+        -- After a record.
+        pub next-turn : length out′ ≡ length out → Leaves whole b due s out₀ (r .state) (calls + n) (at + r .written) (r .ended) out′
+        next-turn kept =
+            let lines : remaining ended b st (due - calls) rest .lines ≡ step b st rest .line ++ later .lines = ap (λ (x : Ran). x .lines) split in
+            record {
+              some = omega (arith, more, at-most-one);
+              room = λ k. omega (arith, h .room go-on, one-call k, written-room);
+              long = kept ∙ h .long;
+              stands = rw (eo, one-written) (over-over out at (step b st rest .line) (later .lines) line-fits ∙ ap (overwritten out at) (sym lines) ∙ h .stands);
+              size = omega (arith, one-written, h .size, ap length lines ∙ length-append (step b st rest .line) (later .lines));
+              after = sym (ap (λ (x : Ran). x .state) split) ∙ h .after;
+              counts = omega (arith, ap (λ (x : Ran). x .calls) split, h .counts);
+              ends = sym (ap (λ (x : Ran). x .ended) split) ∙ h .ends;
+            }

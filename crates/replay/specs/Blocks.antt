@@ -4,19 +4,14 @@ use mathlib.Core.Bool.{Bool, true, false, cond}
 use mathlib.Core.List.{List, [], _++_}
 use lib.Dec.{eqb}
 use lib.ListN.{length, drop}
-use Rattle.calls.specs.declared.Call.{Call}
-use Rattle.calls.specs.Calls.{callOf}
 use Rattle.states.specs.declared.Board.{Board}
 use Rattle.states.specs.declared.State.{State}
 use Rattle.rules.specs.Calls.{answered}
-use Rattle.logs.specs.Records.{recordSize, fieldsIn, recordFault}
+use Rattle.logs.specs.Records.{recordSize, recordFault}
 use Rattle.lines.specs.Lines.{refusalLine}
 use Rattle.listings.specs.Lines.{callLine}
+use Rattle.replay_records.specs.Records.{callIn}
 use Rattle.replay.specs.declared.RanBlock.{RanBlock}
-
--- The call in the record at the start of the bytes.
-abbrev pub callIn : List ℕ → Call
-callIn s = callOf (fieldsIn s)
 
 -- The lines of some records, the state after them, how many calls were carried out, and whether a refusal ended it.
 pub record Ran : Type 0 where

@@ -1,37 +1,33 @@
-// The calls of a log to their lines, block by block: what `lockreplay` does between reading and writing. The bytes of a
-// log come in blocks of any size, and each block's lines go into a lent buffer. `log_ends` has the lines before and after
-// the calls.
-use answering::answer_in_place;
+// The calls of a log to their lines, block by block: what `lockreplay` does between reading and writing (specification,
+// section 9). The bytes of a log come in blocks of any size, and each block's lines go into a lent buffer.
+// `replay_records` has a record, and `log_openings` and `log_ends` have the lines before and after the calls.
 use digits::hex_pairs;
-use encoding::Outcome;
-use listings::call_line_by;
-use listings::refusal_line;
 use logs::RECORD_BYTES;
-use logs::RecordAnswer;
-use logs::read_record;
 use plans::ENTRIES;
 use plans::SLOTS;
+use replay_records::replay_record;
 use states::Board;
 use states::Moment;
 use states::State;
 use states::Terms;
 ghost use mathlib.Core.Path.{_≡_};
-ghost use Prim.Native.Nat.{_+_, _/_, _≤_, min};
+ghost use Prim.Native.Nat.{_*_, _/_, _≤_, min};
 ghost use lib.ListN.{length};
-ghost use Rattle.encoding.specs.Buffers.{overwritten, outcomeSays};
+ghost use Rattle.encoding.specs.Buffers.{overwritten};
 ghost use Rattle.rules.specs.InPlace.{boardBy, stateBy};
 ghost use Rattle.logs.specs.Records.{recordSize};
 ghost use Rattle.digits.specs.Digits.{hexPairs};
 ghost use Rattle.replay.specs.Blocks.{lineRoom, ran, budget, ranBlock};
-ghost use Rattle.replay.specs.inner.Parts.{carried, carriedBy};
+ghost use Rattle.replay.specs.inner.Parts.{ranBy};
 
 // The room that a line needs: the longest of a call, whatever the plan, or of a refusal, rounded up.
 const LINE_ROOM: usize = 88;
 
-// What one record did beside the arrays of the state: the moment after it, how many bytes its line took, and whether it
-// ended the replay.
-struct Carried {
+// What some records did beside the arrays of the state: the moment after them, how many calls were carried out, how many
+// bytes their lines took, and whether a refusal ended the replay.
+struct Progress {
     moment: Moment,
+    calls: u16,
     written: usize,
     ended: bool,
 }
@@ -45,76 +41,14 @@ pub struct RanBlock {
     pub ended: bool,
 }
 
-// How many bytes a line took: none where there was no room.
-pub fn line_size(line: Outcome) -> usize
-    ensures { λ r. ⌜ r ≡ outcomeSays line .value ⌝ }
+// What a state has beside its arrays.
+fn moment_of(state: State) -> Moment
+    ensures { λ r. ⌜ stateBy r (state .entry) (state .since) (state .earlier) ≡ state ⌝ }
 {
-    match line {
-        Outcome::Bytes(size) => size,
-        Outcome::Refused(_) => 0,
-    }
-}
-
-// One record: its call is carried out and has its line, or its refusal is a line of its own and ends the replay. The
-// arrays of the board and of the state are lent, and so are the digits of every byte.
-fn replay_record(
-    terms: Terms,
-    rows: &[u64; ENTRIES],
-    lengths: &[u16; ENTRIES],
-    pairs: &[u16],
-    moment: Moment,
-    entries: &mut [u8; SLOTS],
-    since: &mut [u64; SLOTS],
-    earlier: &mut [u32; SLOTS],
-    bytes: &[u8],
-    out: &mut [u8],
-    at: usize,
-) -> Carried
-    requires { ⌜ (now pairs ≡ hexPairs) × (at + lineRoom ≤ length (now out)) ⌝ }
-    ensures result { λ r. ⌜
-        carriedBy r (now (entries .exit)) (now (since .exit)) (now (earlier .exit))
-        ≡ carried
-        (ran (boardBy terms (now (rows .entry)) (now (lengths .entry)))
-        (stateBy moment (now (entries .entry)) (now (since .entry)) (now (earlier .entry))) 1 (now (bytes .entry)))
-        ⌝ }
-    ensures written { λ _. ⌜
-        now (out .exit)
-        ≡ overwritten (now (out .entry)) at
-        (ran (boardBy terms (now (rows .entry)) (now (lengths .entry)))
-        (stateBy moment (now (entries .entry)) (now (since .entry)) (now (earlier .entry)))
-        1 (now (bytes .entry)) .lines)
-        ⌝ }
-{
-    let found = read_record(bytes);
-    match found {
-        RecordAnswer::Is(call) => {
-            let changed = answer_in_place(
-                terms,
-                rows,
-                lengths,
-                moment,
-                entries,
-                since,
-                earlier,
-                call,
-            );
-            let reply = changed.reply;
-            let after = changed.moment;
-            let size = line_size(call_line_by(pairs, terms.processors, call, reply, out, at));
-            Carried {
-                moment: after,
-                written: size,
-                ended: false,
-            }
-        }
-        RecordAnswer::Refused(refusal) => {
-            let written = line_size(refusal_line(refusal, out, at));
-            Carried {
-                moment: moment,
-                written: written,
-                ended: true,
-            }
-        }
+    let phases = state.phases;
+    Moment {
+        last: state.last,
+        phases: phases,
     }
 }
 
@@ -151,8 +85,71 @@ fn budget_of(left: u16, size: usize, room: usize) -> u16
     }
 }
 
+// So many records, one by one, up to the first that is refused. Their lines go to the start of `out`. The arrays of the
+// board and of the state are lent, and so are the digits of every byte.
+fn run_records(
+    terms: Terms,
+    rows: &[u64; ENTRIES],
+    lengths: &[u16; ENTRIES],
+    pairs: &[u16],
+    first: Moment,
+    entries: &mut [u8; SLOTS],
+    since: &mut [u64; SLOTS],
+    earlier: &mut [u32; SLOTS],
+    due: u16,
+    bytes: &[u8],
+    out: &mut [u8],
+) -> Progress
+    requires { ⌜
+        (now pairs ≡ hexPairs) × ((recordSize * due ≤ length (now bytes)) × (lineRoom * due ≤ length (now out)))
+        ⌝ }
+    ensures result { λ r. ⌜
+        ranBy r (now (entries .exit)) (now (since .exit)) (now (earlier .exit))
+        ≡ ranBlock
+        (ran (boardBy terms (now (rows .entry)) (now (lengths .entry)))
+        (stateBy first (now (entries .entry)) (now (since .entry)) (now (earlier .entry))) due (now (bytes .entry)))
+        ⌝ }
+    ensures written { λ _. ⌜
+        now (out .exit)
+        ≡ overwritten (now (out .entry)) 0
+        (ran (boardBy terms (now (rows .entry)) (now (lengths .entry)))
+        (stateBy first (now (entries .entry)) (now (since .entry)) (now (earlier .entry))) due (now (bytes .entry)) .lines)
+        ⌝ }
+{
+    let mut moment = first;
+    let mut calls: u16 = 0;
+    let mut at: usize = 0;
+    let mut ended = false;
+    while (calls < due) & !ended {
+        let from = RECORD_BYTES * (calls as usize);
+        let carried = replay_record(
+            terms,
+            rows,
+            lengths,
+            pairs,
+            moment,
+            entries,
+            since,
+            earlier,
+            &bytes[from..],
+            out,
+            at,
+        );
+        let after = carried.moment;
+        moment = after;
+        at += carried.written;
+        ended = carried.ended;
+        calls += !ended as u16;
+    }
+    Progress {
+        moment: moment,
+        calls: calls,
+        written: at,
+        ended: ended,
+    }
+}
+
 // The records of a block, one by one, up to the first that is refused. Their lines go to the start of `out`.
-// The arrays of the board and of the state are lent to each call, and the digits of every byte to each line.
 pub fn run(board: Board, state: State, left: u16, bytes: &[u8], out: &mut [u8]) -> RanBlock
     ensures result { λ r. ⌜
         r
@@ -170,48 +167,28 @@ pub fn run(board: Board, state: State, left: u16, bytes: &[u8], out: &mut [u8]) 
     let lengths = board.lengths;
     let pairs = hex_pairs();
     let due = budget_of(left, bytes.len(), out.len());
-    let phases = state.phases;
-    let mut moment = Moment {
-        last: state.last,
-        phases: phases,
-    };
+    let moment = moment_of(state);
     let mut entries = state.entry;
     let mut since = state.since;
     let mut earlier = state.earlier;
-    let mut calls: u16 = 0;
-    let mut at: usize = 0;
-    while calls < due {
-        let from = RECORD_BYTES * (calls as usize);
-        let carried = replay_record(
-            terms,
-            &rows,
-            &lengths,
-            &pairs,
-            moment,
-            &mut entries,
-            &mut since,
-            &mut earlier,
-            &bytes[from..],
-            out,
-            at,
-        );
-        let after = carried.moment;
-        moment = after;
-        at += carried.written;
-        if carried.ended {
-            return RanBlock {
-                state: state_of(moment, entries, since, earlier),
-                calls: calls,
-                written: at,
-                ended: true,
-            };
-        }
-        calls += 1;
-    }
+    let done = run_records(
+        terms,
+        &rows,
+        &lengths,
+        &pairs,
+        moment,
+        &mut entries,
+        &mut since,
+        &mut earlier,
+        due,
+        bytes,
+        out,
+    );
+    let after = done.moment;
     RanBlock {
-        state: state_of(moment, entries, since, earlier),
-        calls: calls,
-        written: at,
-        ended: false,
+        state: state_of(after, entries, since, earlier),
+        calls: done.calls,
+        written: done.written,
+        ended: done.ended,
     }
 }

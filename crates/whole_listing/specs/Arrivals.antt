@@ -12,7 +12,8 @@ use Rattle.boards.specs.Fresh.{freshState, freshBoard}
 use Rattle.logs.specs.Records.{countSize, recordSize, readCount}
 use Rattle.log_input.specs.Stages.{isShort, dueSize}
 use Rattle.replay.specs.Blocks.{ran, budget, goingOn}
-use Rattle.log_ends.specs.Ends.{openingLine, countLine, endLine}
+use Rattle.log_openings.specs.Openings.{openingLine}
+use Rattle.log_ends.specs.Ends.{countLine, endLine}
 use Rattle.whole_listing.specs.Rooms.{planRoom, blockRoom, linesRoom}
 
 -- The pieces of an input, one after the other.

@@ -12,7 +12,7 @@ use Rattle.boards.specs.Fresh.{boardOf, freshState}
 use Rattle.logs.specs.Records.{countSize, recordSize, readCount, recordFault, tailFault}
 use Rattle.lines.specs.Lines.{refusalLine}
 use Rattle.listings.specs.Lines.{firstLine, callLine}
-use Rattle.replay.specs.Blocks.{callIn}
+use Rattle.replay_records.specs.Records.{callIn}
 use Rattle.log_ends.specs.Ends.{faultLine}
 
 -- Clauses 9.4 and 9.5: the lines of n calls in the bytes s. A record that is refused ends the listing, and the calls

@@ -14,7 +14,7 @@ use Rattle.logs.specs.Records.{countSize, recordSize, readCount, recordFault, t
 use Rattle.lines.specs.Lines.{refusalLine}
 use Rattle.listings.specs.Lines.{firstLine, callLine}
 use Rattle.log_input.specs.Stages.{isShort}
-use Rattle.replay.specs.Blocks.{callIn}
+use Rattle.replay_records.specs.Records.{callIn}
 use Rattle.log_ends.specs.Ends.{faultLine}
 
 -- Some bytes begin with others.

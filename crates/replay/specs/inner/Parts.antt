@@ -1,23 +1,16 @@
--- What one record did.
+-- What some records did.
 use Prim.Native.Nat.{ℕ}
-use mathlib.Core.Bool.{Bool}
 use mathlib.Core.List.{List}
-use lib.ListN.{length}
-use Rattle.states.specs.declared.State.{State}
 use Rattle.rules.specs.InPlace.{stateBy}
-use Rattle.replay.specs.Blocks.{Ran}
-use Rattle.replay.specs.declared.Carried.{Carried}
+use Rattle.replay.specs.declared.RanBlock.{RanBlock}
+use Rattle.replay.specs.declared.Progress.{Progress}
 
--- The state after some records, how many bytes their lines take, and whether a refusal ended it.
-pub record Stands : Type 0 where
-  pub state : State
-  pub written : ℕ
-  pub ended : Bool
-
-abbrev pub carried : Ran → Stands
-carried r = record { state = r .state; written = length (r .lines); ended = r .ended }
-
--- The same of what one record returns and leaves in the arrays of the state.
-abbrev pub carriedBy : Carried → List ℕ → List ℕ → List ℕ → Stands
-carriedBy c entry since earlier =
-    record { state = stateBy (c .moment) entry since earlier; written = c .written; ended = c .ended }
+-- What a block answers, by what its records return and leave in the arrays of the state.
+abbrev pub ranBy : Progress → List ℕ → List ℕ → List ℕ → RanBlock
+ranBy p entry since earlier =
+    record {
+      state = stateBy (p .moment) entry since earlier;
+      calls = p .calls;
+      written = p .written;
+      ended = p .ended;
+    }

@@ -1,8 +1,8 @@
--- `log_ends::opening_line` meets its contract. Assumes nothing.
+-- `log_openings::opening_line` meets its contract. Assumes nothing.
 use Rattle.refusals.proofs.Numbers.{number-not-zero}
 use borrow.Author.Needs.{needs}
-use Rattle.log_ends.proofs.opening_line.Statement.{statement}
-use Rattle.log_ends.proofs.opening_line.Tie as tie
+use Rattle.log_openings.proofs.opening_line.Statement.{statement}
+use Rattle.log_openings.proofs.opening_line.Tie as tie
 
 returns : tie.Need-returns
 returns c = rw (c .before .before .before .before .enum-told .given .1) (c .before .before .first-line .ensures)

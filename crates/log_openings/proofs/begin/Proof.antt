@@ -1,10 +1,10 @@
--- `log_ends::begin` meets its contract, the plan and its outcome are those that were read. Assumes nothing.
+-- `log_openings::begin` meets its contract, the plan and its outcome are those that were read. Assumes nothing.
 use mathlib.Core.Path.{ap, _∙_}
 use Rattle.refusals.specs.Due.{Said}
 use Rattle.boards.specs.Fresh.{freshBoard}
 use borrow.Author.Needs.{needs}
-use Rattle.log_ends.proofs.begin.Statement.{statement}
-use Rattle.log_ends.proofs.begin.Tie as tie
+use Rattle.log_openings.proofs.begin.Statement.{statement}
+use Rattle.log_openings.proofs.begin.Tie as tie
 
 returns : tie.Need-returns
 returns c =

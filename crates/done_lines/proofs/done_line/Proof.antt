@@ -5,12 +5,13 @@ use Rattle.digits.proofs.Placed.{fields-stored}
 use Rattle.number_fields.specs.Fields.{lastField, callLead}
 use Rattle.mask_fields.specs.Fields.{maskFields}
 use Rattle.mask_fields.proofs.MaskLengths.{most-bytes}
-use Rattle.lines.proofs.Parts.{doneTail, done-parts, some-lead, done-tail-length}
+use Rattle.lines.proofs.Parts.{some-lead}
 use Rattle.lines.proofs.Room.{no-line, line-fits, led-all, rest-fits, whole-line}
+use Rattle.done_lines.proofs.Parts.{doneTail, done-parts, done-tail-length}
 use mathlib.Core.List.{[], _∷_}
 use borrow.Author.Needs.{needs}
-use Rattle.lines.proofs.done_line.Statement.{statement}
-use Rattle.lines.proofs.done_line.Tie as tie
+use Rattle.done_lines.proofs.done_line.Statement.{statement}
+use Rattle.done_lines.proofs.done_line.Tie as tie
 
 mul-more : tie.Need-mul-more
 mul-more c = omega (arith, c .mask-size .ensures, most-bytes (c .before .before .before .args .processors))
