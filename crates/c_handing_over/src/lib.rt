@@ -1,10 +1,8 @@
-// A request is given back and the next one made, in one call, on memory that the caller owns. Specification, section 4.
-use crate::Replied;
-use crate::done;
-use crate::refused;
+// A request is given back and the next one made, in one call, on memory that a program in C or Rust owns.
+// include/bittmelon.h declares what is exported. Specification, sections 4 and 11.
 use c_boards::moment_of;
-use c_boards::store_moment;
-use calls::Reply;
+use c_replies::Replied;
+use c_replies::finish;
 use handing_over::handover_in_place;
 use plans::ENTRIES;
 use plans::SLOTS;
@@ -13,7 +11,7 @@ ghost use mathlib.Core.Path.{_≡_};
 ghost use Rattle.rules.specs.Calls.{handedOver};
 ghost use Rattle.rules.specs.InPlace.{boardBy, stateBy};
 ghost use Rattle.c_boards.specs.Parts.{termsBy, momentBy};
-ghost use Rattle.c_calls.specs.Replies.{answerIn};
+ghost use Rattle.c_replies.specs.Replies.{answerIn};
 
 // Processor gives its request back and asks for an entry, at one tick. Refused by 10, 11, 12, 14, 15, in that order.
 #[no_mangle]
@@ -56,17 +54,5 @@ pub extern "C" fn bittmelon_handover_parts(
         requested,
         tick,
     );
-    let reply = changed.reply;
-    match reply {
-        Reply::Done {
-            granted,
-            entitled,
-            late,
-        } => {
-            let after = changed.moment;
-            store_moment(after, last, phases);
-            done(granted, entitled, late)
-        }
-        Reply::Refused(refusal) => refused(refusal),
-    }
+    finish(changed, last, phases)
 }

@@ -1,7 +1,7 @@
 -- `done` meets its contract. Assumes nothing.
 use mathlib.Core.Path.{refl}
-use Rattle.c_calls.proofs.done.Statement.{statement}
-use Rattle.c_calls.proofs.done.Tie as tie
+use Rattle.c_replies.proofs.done.Statement.{statement}
+use Rattle.c_replies.proofs.done.Tie as tie
 
 returns : tie.Need-returns
 returns c = refl

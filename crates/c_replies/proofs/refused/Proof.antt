@@ -2,8 +2,8 @@
 use mathlib.Core.Path.{ap}
 use borrow.Author.Needs.{needs}
 use Rattle.calls.specs.Replies.{refusedWith}
-use Rattle.c_calls.proofs.refused.Statement.{statement}
-use Rattle.c_calls.proofs.refused.Tie as tie
+use Rattle.c_replies.proofs.refused.Statement.{statement}
+use Rattle.c_replies.proofs.refused.Tie as tie
 
 returns : tie.Need-returns
 returns c = ap refusedWith (c .number .ensures)
