@@ -5,6 +5,7 @@ use mathlib.Core.List.{List}
 use lib.ListN.{getD}
 use Rattle.settling.specs.declared.Phases.{Phases}
 use Rattle.states.specs.declared.Terms.{Terms}
+use Rattle.states.specs.declared.Board.{Board}
 use Rattle.states.specs.declared.Moment.{Moment}
 
 -- Clause 11.1: the counts of processors and of entries, and which entries are writes.
@@ -18,3 +19,8 @@ phasesBy words = record { waiting = getD words 0 0; entitled = getD words 1 0; h
 -- Clause 11.1: the last accepted tick, and the phases.
 abbrev pub momentBy : ℕ → List ℕ → Moment
 momentBy last words = record { last = last; phases = phasesBy words }
+
+-- Clause 11.1: the board of these parts.
+abbrev pub boardIn : Terms → List ℕ → List ℕ → List ℕ → List ℕ → Board
+boardIn terms lengths names widened rows =
+    record { terms = terms; lengths = lengths; names = names; widened = widened; rows = rows }

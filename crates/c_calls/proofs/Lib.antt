@@ -1,1 +1,1 @@
-mod Memory
+mod Refusals

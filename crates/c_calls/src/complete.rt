@@ -1,10 +1,7 @@
 // A request is given back, on memory that the caller owns. Specification, section 4.
-use crate::Replied;
-use crate::done;
-use crate::refused;
 use c_boards::moment_of;
-use c_boards::store_moment;
-use calls::Reply;
+use c_replies::Replied;
+use c_replies::finish;
 use completing::complete_in_place;
 use plans::ENTRIES;
 use plans::SLOTS;
@@ -13,7 +10,7 @@ ghost use mathlib.Core.Path.{_≡_};
 ghost use Rattle.rules.specs.Calls.{completed};
 ghost use Rattle.rules.specs.InPlace.{boardBy, stateBy};
 ghost use Rattle.c_boards.specs.Parts.{termsBy, momentBy};
-ghost use Rattle.c_calls.specs.Replies.{answerIn};
+ghost use Rattle.c_replies.specs.Replies.{answerIn};
 
 // Processor gives its request back at a tick. Refused by 10, 11, 14, 15, in that order.
 #[no_mangle]
@@ -54,17 +51,5 @@ pub extern "C" fn bittmelon_complete_parts(
         processor,
         tick,
     );
-    let reply = changed.reply;
-    match reply {
-        Reply::Done {
-            granted,
-            entitled,
-            late,
-        } => {
-            let after = changed.moment;
-            store_moment(after, last, phases);
-            done(granted, entitled, late)
-        }
-        Reply::Refused(refusal) => refused(refusal),
-    }
+    finish(changed, last, phases)
 }

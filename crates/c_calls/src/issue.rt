@@ -1,10 +1,7 @@
 // A request is made, on memory that the caller owns. Specification, section 4.
-use crate::Replied;
-use crate::done;
-use crate::refused;
 use c_boards::moment_of;
-use c_boards::store_moment;
-use calls::Reply;
+use c_replies::Replied;
+use c_replies::finish;
 use issuing::issue_in_place;
 use plans::ENTRIES;
 use plans::SLOTS;
@@ -14,7 +11,7 @@ ghost use mathlib.Core.List.{[]};
 ghost use Rattle.rules.specs.Calls.{issued};
 ghost use Rattle.rules.specs.InPlace.{boardBy, stateBy};
 ghost use Rattle.c_boards.specs.Parts.{termsBy, momentBy};
-ghost use Rattle.c_calls.specs.Replies.{answerIn};
+ghost use Rattle.c_replies.specs.Replies.{answerIn};
 
 // Processor asks for an entry at a tick. Refused by 10, 11, 12, 13, in that order.
 #[no_mangle]
@@ -55,17 +52,5 @@ pub extern "C" fn bittmelon_issue_parts(
         requested,
         tick,
     );
-    let reply = changed.reply;
-    match reply {
-        Reply::Done {
-            granted,
-            entitled,
-            late,
-        } => {
-            let after = changed.moment;
-            store_moment(after, last, phases);
-            done(granted, entitled, late)
-        }
-        Reply::Refused(refusal) => refused(refusal),
-    }
+    finish(changed, last, phases)
 }

@@ -1,20 +1,18 @@
 // A request leaves the line, on memory that the caller owns. Specification, section 4.
-use crate::Replied;
-use crate::done;
-use crate::refused;
 use c_boards::moment_of;
-use c_boards::store_moment;
-use calls::Reply;
+use c_replies::Replied;
+use c_replies::finish;
 use plans::ENTRIES;
 use plans::SLOTS;
 use states::Terms;
+use withdrawing::withdraw_in_place;
 use withdrawing::withdraw_in_place;
 ghost use mathlib.Core.Path.{_≡_};
 ghost use mathlib.Core.List.{[]};
 ghost use Rattle.rules.specs.Calls.{withdrawn};
 ghost use Rattle.rules.specs.InPlace.{boardBy, stateBy};
 ghost use Rattle.c_boards.specs.Parts.{termsBy, momentBy};
-ghost use Rattle.c_calls.specs.Replies.{answerIn};
+ghost use Rattle.c_replies.specs.Replies.{answerIn};
 
 // Processor leaves the line at a tick, with a request that does not hold. Refused by 10, 11, 14, 17, in that order.
 #[no_mangle]
@@ -44,17 +42,5 @@ pub extern "C" fn bittmelon_withdraw_parts(
     };
     let moment = moment_of(*last, *phases);
     let changed = withdraw_in_place(terms, rows, moment, entry, since, earlier, processor, tick);
-    let reply = changed.reply;
-    match reply {
-        Reply::Done {
-            granted,
-            entitled,
-            late,
-        } => {
-            let after = changed.moment;
-            store_moment(after, last, phases);
-            done(granted, entitled, late)
-        }
-        Reply::Refused(refusal) => refused(refusal),
-    }
+    finish(changed, last, phases)
 }

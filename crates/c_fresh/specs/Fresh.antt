@@ -7,17 +7,11 @@ use lib.Dec.{eqb}
 use Rattle.plans.specs.Reading.{readFault, planRead}
 use Rattle.states.specs.declared.Board.{Board}
 use Rattle.states.specs.declared.State.{State}
-use Rattle.states.specs.declared.Terms.{Terms}
 use Rattle.boards.specs.Fresh.{freshBoard, freshState}
 
 -- Clause 11.5: the version of the archive: 10,000 for each major, 100 for each minor one.
 abbrev pub versionNumber : ℕ
 versionNumber = 30100
-
--- Clause 11.1: the board of these parts.
-abbrev pub boardIn : Terms → List ℕ → List ℕ → List ℕ → List ℕ → Board
-boardIn terms lengths names widened rows =
-    record { terms = terms; lengths = lengths; names = names; widened = widened; rows = rows }
 
 -- Clause 11.2: the board that is left: that of the plan, or the one before where the bytes are refused.
 unfoldable pub boardAfter : List ℕ → Board → Board

@@ -1,20 +1,17 @@
 // A fresh arbiter from the bytes of a plan, into memory that a program in C or Rust owns; and the version of the archive.
 // include/bittmelon.h declares what is exported. Specification, sections 4 and 11.
-use boards::fresh_of;
+use c_answers::told_bytes;
 use c_boards::Told;
-use c_boards::store_moment;
-use encoding::Outcome;
+use c_stores::store_board;
+use c_stores::store_state;
 use plans::ENTRIES;
 use plans::SLOTS;
-use states::Board;
-use states::Moment;
-use states::State;
 ghost use mathlib.Core.Path.{_≡_};
 ghost use Rattle.plans.specs.Reading.{readSays};
 ghost use Rattle.rules.specs.InPlace.{stateBy};
-ghost use Rattle.c_boards.specs.Parts.{termsBy, momentBy};
+ghost use Rattle.c_boards.specs.Parts.{termsBy, momentBy, boardIn};
 ghost use Rattle.c_boards.specs.Answers.{toldSays};
-ghost use Rattle.c_fresh.specs.Fresh.{versionNumber, boardIn, boardAfter, stateAfter};
+ghost use Rattle.c_fresh.specs.Fresh.{versionNumber, boardAfter, stateAfter};
 
 // The version of the archive, to hold against the header's.
 #[no_mangle]
@@ -22,60 +19,6 @@ pub extern "C" fn bittmelon_version_number() -> u32
     ensures { λ r. ⌜ r ≡ versionNumber ⌝ }
 {
     30100
-}
-
-// Puts a board into the caller's memory.
-fn store_board(
-    board: Board,
-    processors: &mut u8,
-    entries: &mut u8,
-    writes: &mut u64,
-    lengths: &mut [u16; ENTRIES],
-    names: &mut [u64; ENTRIES],
-    widened: &mut [u64; ENTRIES],
-    rows: &mut [u64; ENTRIES],
-)
-    ensures { λ _. ⌜ boardIn (termsBy (now (processors .exit)) (now (entries .exit)) (now (writes .exit)))
-        (now (lengths .exit)) (now (names .exit)) (now (widened .exit)) (now (rows .exit)) ≡ board ⌝ }
-{
-    let terms = board.terms;
-    *processors = terms.processors;
-    *entries = terms.count;
-    *writes = terms.writes;
-    let new_lengths = board.lengths;
-    let new_names = board.names;
-    let new_widened = board.widened;
-    let new_rows = board.rows;
-    *lengths = new_lengths;
-    *names = new_names;
-    *widened = new_widened;
-    *rows = new_rows;
-}
-
-// Puts a state into the caller's memory.
-fn store_state(
-    state: State,
-    last: &mut u64,
-    phases: &mut [u32; 3],
-    entry: &mut [u8; SLOTS],
-    since: &mut [u64; SLOTS],
-    earlier: &mut [u32; SLOTS],
-)
-    ensures { λ _. ⌜ stateBy (momentBy (now (last .exit)) (now (phases .exit)))
-        (now (entry .exit)) (now (since .exit)) (now (earlier .exit)) ≡ state ⌝ }
-{
-    let after = state.phases;
-    let moment = Moment {
-        last: state.last,
-        phases: after,
-    };
-    store_moment(moment, last, phases);
-    let new_entry = state.entry;
-    let new_since = state.since;
-    let new_earlier = state.earlier;
-    *entry = new_entry;
-    *since = new_since;
-    *earlier = new_earlier;
 }
 
 // A fresh arbiter of the plan in the bytes; bytes behind it are not looked at. Answers how many it took, or its refusal by
@@ -110,30 +53,17 @@ pub extern "C" fn bittmelon_fresh_parts(
     let read = plan_reader::read(plan);
     let outcome = read.outcome;
     let value = read.plan;
-    match outcome {
-        Outcome::Refused(refusal) => Told {
-            refusal: refusals::number(refusal) as u32,
-            value: 0,
-        },
-        Outcome::Bytes(size) => {
-            let fresh = fresh_of(value);
-            let board = fresh.board;
-            let state = fresh.state;
-            store_board(
-                board,
-                processors,
-                entries,
-                writes,
-                lengths,
-                names,
-                widened,
-                rows,
-            );
-            store_state(state, last, phases, entry, since, earlier);
-            Told {
-                refusal: 0,
-                value: size as u64,
-            }
-        }
-    }
+    store_board(
+        outcome,
+        value,
+        processors,
+        entries,
+        writes,
+        lengths,
+        names,
+        widened,
+        rows,
+    );
+    store_state(outcome, last, phases, entry, since, earlier);
+    told_bytes(outcome)
 }

@@ -1,12 +1,9 @@
 // The queries on memory that a program in C or Rust owns. Its parts are lent as pointers, and nothing but a lent buffer
 // is changed. include/bittmelon.h declares these functions. Specification, sections 7 and 11.
-mod answers;
-mod shared;
-
-use answers::told_bytes;
-use answers::told_mask;
-use answers::told_phase;
 use board_queries::list_board_in_place;
+use c_answers::told_bytes;
+use c_answers::told_mask;
+use c_answers::told_phase;
 use c_boards::Told;
 use c_boards::moment_of;
 use c_boards::phases_of;
@@ -14,7 +11,6 @@ use plans::ENTRIES;
 use plans::SLOTS;
 use queries::phase_in_place;
 use reach_queries::reach_in_place;
-pub use shared::bittmelon_shared_parts;
 use states::Terms;
 use wait_queries::direct_waits_in_place;
 ghost use mathlib.Core.Path.{_≡_};
@@ -25,15 +21,6 @@ ghost use Rattle.queries.specs.Parts.{boardWith, stateWith};
 ghost use Rattle.board_queries.specs.WholeBoard.{boardQuery, boardBuffer};
 ghost use Rattle.c_boards.specs.Parts.{termsBy, phasesBy, momentBy};
 ghost use Rattle.c_boards.specs.Answers.{toldSays};
-
-// The refusal's number, 0 if there is none; 1 for a conflict, with the lowest shared resource and how many they are.
-#[repr(C)]
-pub struct SharedTold {
-    pub refusal: u32,
-    pub conflict: u32,
-    pub lowest: u32,
-    pub count: u32,
-}
 
 // Clause 7.1: the state of a processor, by its number. Refuses by 11.
 #[no_mangle]

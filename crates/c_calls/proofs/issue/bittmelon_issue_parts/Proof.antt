@@ -3,48 +3,24 @@
 use mathlib.Core.List.{[]}
 use mathlib.Core.Path.{refl, sym, ap, _∙_}
 use borrow.Author.Needs.{needs}
-use Rattle.calls.specs.Replies.{replySays}
 use Rattle.rules.specs.Calls.{issued}
 use Rattle.rules.specs.InPlace.{boardBy, stateBy}
 use Rattle.c_boards.specs.Parts.{termsBy, momentBy}
-use Rattle.c_calls.proofs.Memory.{stored, kept, issue-stays, from-memory}
+use Rattle.c_replies.proofs.Memory.{answered, from-memory}
+use Rattle.c_calls.proofs.Refusals.{issue-stays}
 use Rattle.c_calls.proofs.issue.bittmelon_issue_parts.Statement.{statement}
 use Rattle.c_calls.proofs.issue.bittmelon_issue_parts.Tie as tie
 
 returns : tie.Need-returns
 returns c =
-    let kept = c .before in
-    let told = kept .before .before .before .before .before in
-    let called = told .before .before in
-    let read = called .before .before .before .before in
-    let a = read .before .before .before .args in
-    let b = boardBy (termsBy (a .processors) (a .entries) (a .writes)) (a .rows .now) [] in
-    stored _ (called .issue-in-place .result) _ _ _ _ _ (c .done .ensures ∙ sym (ap replySays (told .reply .given .1))) (kept .store-moment .ensures)
-    ∙ from-memory (λ s. issued b s (a .processor) (a .requested) (a .tick)) _ _ _ (a .entry .now) (a .since .now) (a .earlier .now) _ (read .moment-of .ensures)
-    (called .issue-in-place .ensures)
-
-returns-2 : tie.Need-returns-2
-returns-2 c =
-    let told = c .before .before in
-    let called = told .before .before in
+    let called = c .before .before .before in
     let read = called .before .before .before .before in
     let a = read .before .before .before .args in
     let b = boardBy (termsBy (a .processors) (a .entries) (a .writes)) (a .rows .now) [] in
     let s = stateBy (momentBy (a .last .now) (a .phases .now)) (a .entry .now) (a .since .now) (a .earlier .now) in
-    kept _ s (issue-stays b s (a .processor) (a .requested) (a .tick)) _ _ (called .issue-in-place .result) (a .last .now) (a .phases .now) _ _ _ (c .refused .ensures) (told .reply2 .given .1) refl
+    answered _ s (issue-stays b s (a .processor) (a .requested) (a .tick)) _ (called .issue-in-place .result) _ _ _ _ _ (c .finish .ensures .0) (c .finish .ensures .1)
     (from-memory (λ s. issued b s (a .processor) (a .requested) (a .tick)) _ _ _ (a .entry .now) (a .since .now) (a .earlier .now) _ (read .moment-of .ensures)
     (called .issue-in-place .ensures))
 
 pub bittmelon-issue-parts-spec : {M : Type 1} → statement M
-bittmelon-issue-parts-spec =
-    tie.close
-    (tie.spec
-    (λ c κs. search needs)
-    (λ c κs. search needs)
-    (λ c. search needs)
-    (λ c κs. search needs)
-    (λ c κs. search needs)
-    (λ c. search needs)
-    (λ c κs. search needs)
-    returns
-    returns-2)
+bittmelon-issue-parts-spec = tie.close (tie.spec (λ c κs. search needs) (λ c κs. search needs) (λ c κs. search needs) returns)
