@@ -21,7 +21,7 @@ pub call-carried : (pairs : List ℕ) (b : Board) (st : State) (c : Call) (out :
     → n ≡ outcomeSays la .value
     → (_≡_ {A = Stands} (record { state = a .state; written = n; ended = false }) (stands (callStep pairs b st c) (length out) at))
     × (out′ ≡ lineBuffer (callStep pairs b st c .line) out at)
-unfolding callStep
+unfolding callStep stands
 call-carried pairs b st c out at a la out′ n e says put size =
     let took : n ≡ lineSays (callLineBy pairs (b .terms .processors) c (a .reply)) (length out) at .value = size ∙ ap (λ x. x .value) says in
     rw (← e) (λ i. record { state = a .state; written = took i; ended = false }, put)

@@ -34,7 +34,7 @@ pub record Stands : Type 0 where
   pub ended : Bool
 
 -- The line goes into a buffer of so many bytes, from a position. It takes none where there is no room for it.
-abbrev pub stands : Step → ℕ → ℕ → Stands
+unfoldable pub stands : Step → ℕ → ℕ → Stands
 stands step size at =
     record { state = step .state; written = lineSays (step .line) size at .value; ended = step .ended }
 

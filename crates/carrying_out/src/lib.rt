@@ -1,9 +1,9 @@
 // A call of a log: it is carried out on the arrays of a state in place, and its line goes into a lent buffer
 // (specification, sections 4 and 9). `replay_records` has the record that it stands in.
 use answering::answer_in_place;
+use call_lines::call_line_by;
 use calls::Call;
 use lines::line_size;
-use listings::call_line_by;
 use plans::ENTRIES;
 use plans::SLOTS;
 use states::Moment;

@@ -60,10 +60,10 @@ use Rattle.logs.specs.Records.{fieldsIn, noFields, recordFault, readRecord}
 --   registers::read          readSays r ≡ registerRead block offset (register_block::read_register the same, of the block it is lent)
 --   register_writes::write   changeSays r ≡ registerWrite board state block offset value, in which a refused command changes
 --                            offset 3 alone (register_block::write_register: writeSays r and the block after it ≡ registerWrite ..)
---   logs::read_count         countSays r ≡ readCount bytes
+--   call_counts::read_count  countSays r ≡ readCount bytes
 --   logs::read_record        recordSays r ≡ readRecord bytes
---   logs::check_tail         verdictNumber r ≡ tailFault bytes
--- and the lines of listings and replay: lineSays and lineBuffer of firstLine, callLine and refusalLine.
+--   call_counts::check_tail  verdictNumber r ≡ tailFault bytes
+-- and the lines of listings, call_lines and replay: lineSays and lineBuffer of firstLine, callLine and refusalLine.
 
 pub refused-reading-gives-number-only : (s : List ℕ) → 0 < readFault s
     → (readSays s ≡ record { number = readFault s; value = 0 }) × (planRead s ≡ blankPlan)

@@ -2,6 +2,7 @@
 // A thin loop over `log_input`, `log_openings`, `log_ends` and `replay`: no contract can say what is read or written, so the
 // work is done on slices there. `whole_listing/specs/Arrivals.antt` has the same turns over the same buffers as a
 // definition, which is proved to be the listing.
+use call_counts::COUNT_BYTES;
 use encoding::Outcome;
 use fronts::bring_to_front;
 use fronts::copy_in;
@@ -16,7 +17,6 @@ use log_input::due_size;
 use log_input::fill_plan;
 use log_input::fill_to;
 use log_openings::begin;
-use logs::COUNT_BYTES;
 use logs::CountAnswer;
 use logs::RECORD_BYTES;
 use replay::run;

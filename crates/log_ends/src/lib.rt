@@ -1,11 +1,11 @@
 // The lines of a log's call count and of its end (specification, section 9). `log_openings` has the line before them, and
 // `replay` the calls between them. A line goes to the start of a lent buffer.
+use call_counts::check_tail;
+use call_counts::read_count;
 use encoding::Outcome;
 use listings::refusal_line;
 use logs::CountAnswer;
 use logs::RecordAnswer;
-use logs::check_tail;
-use logs::read_count;
 use logs::read_record;
 use refusals::Verdict;
 ghost use mathlib.Core.Path.{_≡_};

@@ -4,6 +4,7 @@
 mod board_line;
 mod scratch_line;
 
+use call_counts::COUNT_BYTES;
 use encoding::Outcome;
 use fronts::bring_to_front;
 use fronts::copy_in;
@@ -12,7 +13,6 @@ use libc::STDOUT_FILENO;
 use log_input::due_size;
 use log_input::fill_plan;
 use log_input::fill_to;
-use logs::COUNT_BYTES;
 use logs::CountAnswer;
 use logs::RECORD_BYTES;
 use plans::SLOTS;

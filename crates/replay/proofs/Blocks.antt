@@ -1,13 +1,13 @@
 -- The loop over a block's records: what holds before each, that a turn keeps it, and what it gives at the end. Assumes nothing.
 use Prim.Native.Nat.{ℕ, zero, suc, _+_, _-_, _*_, _≤_, _<_}
 use mathlib.Core.Path.{_≡_, refl, ap, sym, _∙_}
-use mathlib.Core.Bool.{Bool, true, false, not, _&&_}
+use mathlib.Core.Bool.{Bool, true, false, cond, not, _&&_}
 use mathlib.Core.List.{List, [], _++_}
 use native.Mathlib.Nat.{add-zero, le-refl}
 use native.Mathlib.Omega.{arith}
 use borrow.Author.Tests.{ltb-true, ltb-false, not-true}
 use mir.Val.{boolByte}
-use lib.Dec.{ltb}
+use lib.Dec.{eqb, ltb}
 use lib.ListN.{length, take, drop, length-append, length-drop, take-append-drop}
 use lib.Seq.{drop-drop, take-all}
 use Rattle.masks.proofs.Truth.{and-left, and-right}
@@ -15,12 +15,13 @@ use Rattle.states.specs.declared.Board.{Board}
 use Rattle.states.specs.declared.State.{State}
 use Rattle.encoding.specs.Buffers.{overwritten}
 use Rattle.digits.specs.Digits.{hexPairs}
-use Rattle.lines.specs.Lines.{lineBuffer}
+use Rattle.lines.specs.Lines.{lineFault, lineBuffer}
 use Rattle.lines.proofs.Room.{fitting-line, fitting-buffer}
 use Rattle.carrying_out.specs.Steps.{Stands, stands}
 use Rattle.replay_records.specs.Records.{recordStep}
+use Rattle.budgets.specs.Budgets.{lineRoom}
 use Rattle.replay.specs.declared.RanBlock.{RanBlock}
-use Rattle.replay.specs.Blocks.{Ran, ran, lineRoom, ranBlock}
+use Rattle.replay.specs.Blocks.{Ran, ran, ranBlock}
 use Rattle.replay.proofs.Records.{step, step-room, front, remaining, step-then-more}
 use Rattle.replay.proofs.Turns.{over-over}
 
@@ -58,7 +59,31 @@ module _ (calls due : ℕ) (ended : Bool) where
   pub not-ended : (ltb calls due && not ended) ≡ true → ended ≡ false
   not-ended e = not-true ended (and-right (ltb calls due) (not ended) e)
 
--- Where none is, nothing is left.
+-- A record is a call, or it ends the replay and is none.
+pub at-most-one : (ended : Bool) → boolByte (not ended) ≤ 1
+at-most-one true = omega arith
+at-most-one false = omega arith
+
+-- A turn leaves less: a call fewer, or the end is new.
+pub fewer : (calls due : ℕ) (ended later : Bool) → (ltb calls due && not ended) ≡ true
+    → due - (calls + boolByte (not later)) + boolByte (not later) < due - calls + boolByte (not ended)
+fewer calls due ended later e =
+    rw (not-ended calls due ended e) (omega (arith, more-due calls due ended e, at-most-one later))
+
+-- A line takes no more than its room, wherever it goes.
+pub written-room : (pairs : List ℕ) (b : Board) (st : State) (s : List ℕ) (size at : ℕ) (r : Stands) → pairs ≡ hexPairs
+    → r ≡ stands (recordStep pairs b st s) size at
+    → r .written ≤ lineRoom
+unfolding stands
+written-room pairs b st s size at r table told =
+    let e : r ≡ stands (step b st s) size at = rw table at told in
+    omega (arith, ap (λ (x : Stands). x .written) e, at-most (eqb (lineFault (step b st s .line) size at) 0) (length (step b st s .line)), step-room b st s)
+  where
+    at-most : (t : Bool) (n : ℕ) → cond t n 0 ≤ n
+    at-most true n = omega arith
+    at-most false n = omega arith
+
+-- Where none is due, nothing is left.
 none-left : (b : Board) (st : State) (calls due : ℕ) (ended : Bool) (s : List ℕ) → (ltb calls due && not ended) ≡ false
     → remaining ended b st (due - calls) s ≡ record { lines = []; state = st; calls = 0; ended = ended }
 unfolding ran
@@ -115,25 +140,12 @@ module _ (whole : Ran) (b : Board) (due : ℕ) (s out₀ : List ℕ) (st : State
       eo = (rw (table, lent) at put) ∙ fitting-buffer (step b st rest .line) out at line-fits
 
       one-written : r .written ≡ length (step b st rest .line)
+      unfolding stands
       one-written = ap (λ (x : Stands). x .written) e ∙ ap (λ x. x .value) (fitting-line (step b st rest .line) out at line-fits)
 
-      -- The line takes no more than its room.
-      pub written-room : r .written ≤ lineRoom
-      written-room = omega (arith, one-written, step-room b st rest)
-
       module _ (n : ℕ) (one : n ≡ boolByte (not (r .ended))) where
-        pub at-most-one : n ≤ 1
-        at-most-one = go (r .ended) one
-          where
-            go : (t : Bool) → n ≡ boolByte (not t) → n ≤ 1
-            go true k = omega arith
-            go false k = omega arith
-
         one-call : r .ended ≡ false → n ≡ 1
         one-call k = one ∙ rw k refl
-
-        pub fewer : due - (calls + n) + boolByte (not (r .ended)) < due - calls + boolByte (not ended)
-        fewer = rw (← one, go-on) (omega (arith, more, at-most-one))
 
         abbrev later : Ran
         later = remaining (r .ended) b (r .state) (due - (calls + n)) (drop (8 * (calls + n)) s)
@@ -146,6 +158,7 @@ module _ (whole : Ran) (b : Board) (due : ℕ) (s out₀ : List ℕ) (st : State
             rw (k, drop-drop 8 (8 * calls) s, eight) refl
 
         split : remaining ended b st (due - calls) rest ≡ front (step b st rest .line) n later
+        unfolding stands
         split =
             let left-over : due - calls ≡ suc (due - (calls + 1)) = omega (arith, more) in
             let state : r .state ≡ step b st rest .state = ap (λ (x : Stands). x .state) e in
@@ -157,8 +170,8 @@ module _ (whole : Ran) (b : Board) (due : ℕ) (s out₀ : List ℕ) (st : State
         next-turn kept =
             let lines : remaining ended b st (due - calls) rest .lines ≡ step b st rest .line ++ later .lines = ap (λ (x : Ran). x .lines) split in
             record {
-              some = omega (arith, more, at-most-one);
-              room = λ k. omega (arith, h .room go-on, one-call k, written-room);
+              some = omega (arith, more, one, at-most-one (r .ended));
+              room = λ k. omega (arith, h .room go-on, one-call k, one-written, step-room b st rest);
               long = kept ∙ h .long;
               stands = rw (eo, one-written) (over-over out at (step b st rest .line) (later .lines) line-fits ∙ ap (overwritten out at) (sym lines) ∙ h .stands);
               size = omega (arith, one-written, h .size, ap length lines ∙ length-append (step b st rest .line) (later .lines));

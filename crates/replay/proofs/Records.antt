@@ -21,7 +21,8 @@ use Rattle.listings.proofs.Fields.{line-by-table}
 use Rattle.listings.proofs.LongestCall.{any-plans-call, any-refusal}
 use Rattle.carrying_out.specs.Steps.{Step, callStep}
 use Rattle.replay_records.specs.Records.{callIn, recordStep}
-use Rattle.replay.specs.Blocks.{Ran, oneMore, ran, lineRoom}
+use Rattle.budgets.specs.Budgets.{lineRoom}
+use Rattle.replay.specs.Blocks.{Ran, oneMore, ran}
 
 -- The record is a call, or it is refused.
 pub data Found (s : List ℕ) : Type 0 where

@@ -1,5 +1,5 @@
 -- A log in pieces: what a block of its bytes adds to the listing, and where the next one goes on.
-use Prim.Native.Nat.{ℕ, zero, suc, _/_, min}
+use Prim.Native.Nat.{ℕ, zero, suc}
 use mathlib.Core.Bool.{Bool, true, false, cond}
 use mathlib.Core.List.{List, [], _++_}
 use lib.Dec.{eqb}
@@ -11,6 +11,7 @@ use Rattle.logs.specs.Records.{recordSize, recordFault}
 use Rattle.lines.specs.Lines.{refusalLine}
 use Rattle.listings.specs.Lines.{callLine}
 use Rattle.replay_records.specs.Records.{callIn}
+use Rattle.budgets.specs.Budgets.{budgetOf}
 use Rattle.replay.specs.declared.RanBlock.{RanBlock}
 
 -- The lines of some records, the state after them, how many calls were carried out, and whether a refusal ended it.
@@ -34,13 +35,9 @@ ran b st (suc k) s =
     (ran b (answered b st (callIn s) .state) k (drop recordSize s)))
     (record { lines = refusalLine (recordFault s); state = st; calls = 0; ended = true })
 
--- The longest line of a call, whatever the plan, or of a refusal, rounded up.
-abbrev pub lineRoom : ℕ
-lineRoom = 88
-
 -- How many records a block carries out: those that are left, are whole in the bytes, and have room for their lines.
 abbrev pub budget : ℕ → List ℕ → ℕ → ℕ
-budget left s room = min left (min (length s / recordSize) (room / lineRoom))
+budget left s room = budgetOf left (length s) room
 
 -- What follows some records: nothing after a refusal, and else what the state after them makes of the rest.
 abbrev pub goingOn : Ran → (State → List ℕ) → List ℕ

@@ -1,6 +1,7 @@
 // The calls of a log to their lines, block by block: what `lockreplay` does between reading and writing (specification,
 // section 9). The bytes of a log come in blocks of any size, and each block's lines go into a lent buffer.
 // `replay_records` has a record, and `log_openings` and `log_ends` have the lines before and after the calls.
+use budgets::budget_of;
 use digits::hex_pairs;
 use logs::RECORD_BYTES;
 use plans::ENTRIES;
@@ -11,17 +12,15 @@ use states::Moment;
 use states::State;
 use states::Terms;
 ghost use mathlib.Core.Path.{_≡_};
-ghost use Prim.Native.Nat.{_*_, _/_, _≤_, min};
+ghost use Prim.Native.Nat.{_*_, _≤_};
 ghost use lib.ListN.{length};
 ghost use Rattle.encoding.specs.Buffers.{overwritten};
 ghost use Rattle.rules.specs.InPlace.{boardBy, stateBy};
 ghost use Rattle.logs.specs.Records.{recordSize};
 ghost use Rattle.digits.specs.Digits.{hexPairs};
-ghost use Rattle.replay.specs.Blocks.{lineRoom, ran, budget, ranBlock};
+ghost use Rattle.budgets.specs.Budgets.{lineRoom};
+ghost use Rattle.replay.specs.Blocks.{ran, budget, ranBlock};
 ghost use Rattle.replay.specs.inner.Parts.{ranBy};
-
-// The room that a line needs: the longest of a call, whatever the plan, or of a refusal, rounded up.
-const LINE_ROOM: usize = 88;
 
 // What some records did beside the arrays of the state: the moment after them, how many calls were carried out, how many
 // bytes their lines took, and whether a refusal ended the replay.
@@ -68,20 +67,6 @@ fn state_of(
         since: since,
         earlier: earlier,
         entry: entries,
-    }
-}
-
-// How many records a block carries out: those that are left, are whole in the bytes, and have room for their lines.
-fn budget_of(left: u16, size: usize, room: usize) -> u16
-    ensures { λ r. ⌜ r ≡ min left (min (size / recordSize) (room / lineRoom)) ⌝ }
-{
-    let whole = size / RECORD_BYTES;
-    let lines = room / LINE_ROOM;
-    let most = if whole < lines { whole } else { lines };
-    if most < left as usize {
-        most as u16
-    } else {
-        left
     }
 }
 

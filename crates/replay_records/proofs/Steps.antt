@@ -34,6 +34,7 @@ module _ (pairs : List ℕ) (b : Board) (st : State) (s : List ℕ) (a : RecordA
       → n ≡ outcomeSays la .value
       → (_≡_ {A = Stands} (record { state = st; written = n; ended = true }) (stands (recordStep pairs b st s) (length out) at))
       × (out′ ≡ lineBuffer (recordStep pairs b st s .line) out at)
+  unfolding stands
   refusal-carried r is out at la out′ n says put size =
       let took : n ≡ lineSays (refusalLine (numberOf r)) (length out) at .value = size ∙ ap (λ x. x .value) says in
       rw (refusal-step r is) (λ i. record { state = st; written = took i; ended = true }, put)

@@ -12,7 +12,8 @@ use Rattle.states.specs.declared.Board.{Board}
 use Rattle.states.specs.declared.State.{State}
 use Rattle.logs.specs.Records.{recordSize}
 use Rattle.log_input.specs.Stages.{dueSize}
-use Rattle.replay.specs.Blocks.{Ran, ran, budget, lineRoom, goingOn}
+use Rattle.budgets.specs.Budgets.{lineRoom}
+use Rattle.replay.specs.Blocks.{Ran, ran, budget, goingOn}
 use Rattle.log_ends.specs.Ends.{endLine}
 use Rattle.whole_listing.specs.Rooms.{blockRoom, linesRoom}
 use Rattle.whole_listing.specs.Arrivals.{together, Arrived, fed, waited, callThere, inBlocks}

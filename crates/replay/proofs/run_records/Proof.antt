@@ -38,7 +38,7 @@ add-at c =
       start .good .1 .1 .1 .1 .1 .1 .1 .1 .1 .0,
       more-due (at .loop .calls) (start .args .due) (at .loop .ended) (test .loop-test .taken),
       at .loop .inv .room (not-ended (at .loop .calls) (start .args .due) (at .loop .ended) (test .loop-test .taken)),
-      written-room _ _ _ _ _ _ _ _ _ _ (at .loop .inv) (test .loop-test .taken) (start .pre .1 .1) _ (start .pre .0) _ _ (called .replay-record .ensures .0) (called .replay-record .ensures .1),
+      written-room _ _ _ _ _ _ _ (start .pre .0) (called .replay-record .ensures .0),
     )
 
 add-calls : tie.Need-add-calls Inv-loop μ-loop
@@ -46,16 +46,17 @@ add-calls c =
     let called = c .before .before .before .before in
     let test = called .before .before .before .before .before .before in
     let at = test .before in
-    let start = at .before .before .before .before in
-    omega (arith, more-due (at .loop .calls) (start .args .due) (at .loop .ended) (test .loop-test .taken), at-most-one _ _ _ _ _ _ _ _ _ _ (at .loop .inv) (test .loop-test .taken) (start .pre .1 .1) _ (start .pre .0) _ _ (called .replay-record .ensures .0) (called .replay-record .ensures .1) _ refl)
+    omega (
+      arith,
+      more-due (at .loop .calls) (at .before .before .before .before .args .due) (at .loop .ended) (test .loop-test .taken),
+      at-most-one (called .replay-record .result .ended),
+    )
 
 loop-less : tie.Need-loop-less Inv-loop μ-loop
 loop-less c =
     let called = c .before .before .before .before in
     let test = called .before .before .before .before .before .before in
-    let at = test .before in
-    let start = at .before .before .before .before in
-    fewer _ _ _ _ _ _ _ _ _ _ (at .loop .inv) (test .loop-test .taken) (start .pre .1 .1) _ (start .pre .0) _ _ (called .replay-record .ensures .0) (called .replay-record .ensures .1) _ refl
+    fewer _ _ (test .before .loop .ended) (called .replay-record .result .ended) (test .loop-test .taken)
 
 loop-again : tie.Need-loop-again Inv-loop μ-loop
 loop-again c =

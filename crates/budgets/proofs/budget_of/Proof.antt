@@ -1,9 +1,9 @@
--- `replay::budget_of` meets its contract: the least of the three counts. Assumes nothing.
+-- `budget_of` meets its contract: the least of the three counts. Assumes nothing.
 use mathlib.Core.Logic.{⊎-elim}
 use native.Mathlib.Omega.{arith}
 use borrow.Author.Needs.{needs}
-use Rattle.replay.proofs.budget_of.Statement.{statement}
-use Rattle.replay.proofs.budget_of.Tie as tie
+use Rattle.budgets.proofs.budget_of.Statement.{statement}
+use Rattle.budgets.proofs.budget_of.Tie as tie
 
 returns : tie.Need-returns
 returns c = ⊎-elim (λ w. omega arith) (λ w. omega arith) (c .before .before .if1 .came)

@@ -1,9 +1,9 @@
 -- `reply_line` meets its contract: the fields are those of the reply. Assumes nothing.
 use mathlib.Core.Path.{_∙_}
 use Rattle.listings.proofs.Fields.{done-fields, refused-fields}
 use borrow.Author.Needs.{needs}
-use Rattle.listings.proofs.reply_line.Statement.{statement}
-use Rattle.listings.proofs.reply_line.Tie as tie
+use Rattle.call_lines.proofs.reply_line.Statement.{statement}
+use Rattle.call_lines.proofs.reply_line.Tie as tie
 
 returns : tie.Need-returns
 returns c = rw (done-fields _ _ _ _ _ (c .before .before .before .before .before .reply .given .1)) (c .before .before .done-line .ensures)

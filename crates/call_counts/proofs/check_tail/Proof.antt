@@ -1,7 +1,7 @@
 -- `check_tail` meets its contract. Assumes nothing.
 use borrow.Author.Tests.{eq-eqb, ne-eqb}
-use Rattle.logs.proofs.check_tail.Statement.{statement}
-use Rattle.logs.proofs.check_tail.Tie as tie
+use Rattle.call_counts.proofs.check_tail.Statement.{statement}
+use Rattle.call_counts.proofs.check_tail.Tie as tie
 
 returns : tie.Need-returns
 returns c = rw (eq-eqb _ _ (c .if1 .taken))

@@ -4,9 +4,9 @@ use borrow.Author.Needs.{needs}
 use borrow.Author.Tests.{lt-leb}
 use lib.Seq.{length-take-le}
 use Rattle.encoding.proofs.Numbers.{part-below}
 use Rattle.logs.proofs.Fields.{count-read}
-use Rattle.logs.proofs.read_count.Statement.{statement}
-use Rattle.logs.proofs.read_count.Tie as tie
+use Rattle.call_counts.proofs.read_count.Statement.{statement}
+use Rattle.call_counts.proofs.read_count.Tie as tie
 
 returns : tie.Need-returns
 returns c = rw (lt-leb _ _ (c .if1 .taken))

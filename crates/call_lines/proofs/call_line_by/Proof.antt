@@ -1,8 +1,8 @@
 -- `call_line_by` meets its contract: the letter is that of the verb. Assumes nothing.
 use Rattle.listings.specs.Lines.{callLineBy}
 use borrow.Author.Needs.{needs}
-use Rattle.listings.proofs.call_line_by.Statement.{statement}
-use Rattle.listings.proofs.call_line_by.Tie as tie
+use Rattle.call_lines.proofs.call_line_by.Statement.{statement}
+use Rattle.call_lines.proofs.call_line_by.Tie as tie
 
 returns : tie.Need-returns
 unfolding callLineBy

@@ -1,9 +1,9 @@
 -- `call_line` meets its contract: by the table of all bytes, a call's line is the call's line. Assumes nothing.
 use Rattle.calls.specs.Replies.{replySays}
 use Rattle.listings.proofs.Fields.{line-by-table}
 use borrow.Author.Needs.{needs}
-use Rattle.listings.proofs.call_line.Statement.{statement}
-use Rattle.listings.proofs.call_line.Tie as tie
+use Rattle.call_lines.proofs.call_line.Statement.{statement}
+use Rattle.call_lines.proofs.call_line.Tie as tie
 
 returns : tie.Need-returns
 returns c =
