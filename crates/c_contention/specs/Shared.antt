@@ -1,5 +1,4 @@
 -- What two entries share, in the caller's numbers. Specification, sections 7 and 11.
-use Prim.Native.Nat.{ℕ}
 use Rattle.contention.specs.Contention.{SharedSaid}
 use Rattle.c_contention.specs.declared.SharedTold.{SharedTold}
 

@@ -1,7 +1,6 @@
 -- `told_refusal` meets its contract. Assumes nothing.
 use mathlib.Core.Path.{ap}
 use borrow.Author.Needs.{needs}
-use Rattle.refusals.specs.Due.{Said}
 use Rattle.c_answers.proofs.told_refusal.Statement.{statement}
 use Rattle.c_answers.proofs.told_refusal.Tie as tie
 

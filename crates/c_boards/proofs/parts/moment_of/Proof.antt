@@ -1,7 +1,5 @@
 -- `moment_of` meets its contract. Assumes nothing.
-use mathlib.Core.Path.{ap}
 use borrow.Author.Needs.{needs}
-use Rattle.states.specs.declared.Moment.{Moment}
 use Rattle.c_boards.proofs.parts.moment_of.Statement.{statement}
 use Rattle.c_boards.proofs.parts.moment_of.Tie as tie
 

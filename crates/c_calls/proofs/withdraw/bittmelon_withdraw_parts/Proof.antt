@@ -1,7 +1,6 @@
 -- `bittmelon_withdraw_parts` meets its contract: a withdrawal in place, told in numbers; its moment is stored where it was carried out.
 -- Assumes nothing.
 use mathlib.Core.List.{[]}
-use mathlib.Core.Path.{refl, sym, ap, _∙_}
 use borrow.Author.Needs.{needs}
 use Rattle.rules.specs.Calls.{withdrawn}
 use Rattle.rules.specs.InPlace.{boardBy, stateBy}
