@@ -1,10 +1,10 @@
 // Where a call puts a request in and takes one out: the phases, who is earlier than whom, and the ticks of grants.
 // Specification, clauses 4.2, 4.4 and 4.8. A processor that a state has no place for changes nothing.
+use known_requests::ALL;
 use masks::add32;
 use masks::remove32;
 use plans::ENTRIES;
 use plans::SLOTS;
-use settling::ALL;
 use settling::Phases;
 use settling::settle;
 ghost use mathlib.Core.Path.{_≡_};
