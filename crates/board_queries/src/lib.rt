@@ -1,5 +1,6 @@
 // The whole board in one buffer, in one pass: who writes and which requests count is worked out once. Specification,
 // clauses 7.7 to 7.9.
+use board_waits::waits_of_all;
 use encoding::Outcome;
 use plans::ENTRIES;
 use plans::SLOTS;
@@ -8,7 +9,6 @@ use states::Moment;
 use states::State;
 use states::Terms;
 use states::clean;
-use waiting::waits_of_all;
 ghost use mathlib.Core.Path.{_≡_};
 ghost use mathlib.Core.List.{[]};
 ghost use Rattle.encoding.specs.Buffers.{outcomeSays};

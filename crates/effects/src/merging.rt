@@ -1,6 +1,6 @@
 // Two acts that are answered as one. Specification, clause 4.7.
 use crate::Carried;
-use settling::ALL;
+use known_requests::ALL;
 ghost use mathlib.Core.Path.{_≡_};
 ghost use mathlib.Core.List.{List};
 ghost use Prim.Native.Nat.{ℕ};

@@ -1,13 +1,13 @@
 -- Two sets meet exactly if they share a place. Assumes nothing.
 use mathlib.Core.Path.{_≡_, refl, sym, ap, ap₂, _∙_}
-use mathlib.Core.Bool.{Bool, true, false, cond, not, _&&_, _||_, true≢false, and-false, and-eq-true-iff, and-or-distrib-left}
+use mathlib.Core.Bool.{Bool, true, false, not, _&&_, _||_, true≢false, and-eq-true-iff, and-or-distrib-right}
 use Prim.Native.Nat.{ℕ, _^_, _<_}
-use lib.Bits.{bitAnd, and-comm}
-use lib.Dec.{eqb, ltb}
+use lib.Bits.{bitAnd, and-comm, and-zero-r}
+use lib.Dec.{eqb}
 use lib.Pow.{pow-pos}
-use borrow.Author.Tests.{eqb-true, eq-eqb, ne-eqb, ltb-true, ltb-false}
+use borrow.Author.Tests.{eqb-true, eq-eqb, ne-eqb}
 use Rattle.masks.specs.Sets.{bit, added, meets, some}
-use Rattle.masks.proofs.Places.{bit-zero, bit-past, bit-and, bit-added-if, and-below}
+use Rattle.masks.proofs.Places.{bit-zero, bit-and, bit-added, and-below, added-below}
 use Rattle.masks.proofs.Equal.{same-places}
 use Rattle.masks.proofs.Some.{some-found, some-at, some-agree, some-none, some-none-at, some-or}
 
@@ -39,30 +39,29 @@ share-meets a b k ha hb = has-not-empty (bitAnd a b) k (bit-and a b k ∙ ap₂ 
 pub meets-comm : (a b : ℕ) → meets a b ≡ meets b a
 meets-comm a b = ap (λ (x : ℕ). not (eqb x 0)) (and-comm a b)
 
--- ---- a row, and a set that grows by one place
+-- ---- any row, and a set that grows by one place
 
-pub meets-none : (w row : ℕ) → row < 2 ^ w → meets row 0 ≡ false
-meets-none w row h =
-    meets-some w row 0 h
-    ∙ some-none w (λ k. bit row k && bit 0 k) (λ k l. ap (λ t. bit row k && t) (bit-zero k) ∙ and-false (bit row k))
-
-some-place : (w row e : ℕ) → row < 2 ^ w → some w (λ k. bit row k && (eqb k e && ltb e w)) ≡ bit row e
-some-place w row e h = go (bit row e) (ltb e w) refl refl
+some-one : (w row e : ℕ) → e < w → some w (λ k. eqb k e && bit row k) ≡ bit row e
+some-one w row e l = go (bit row e) refl
   where
-    other : (k : ℕ) (t u : Bool) → eqb k e ≡ t → bit row e ≡ false → (bit row k && (t && u)) ≡ false
-    other k true u s n = ap (λ t. t && u) (ap (bit row) (eqb-true k e s) ∙ n)
-    other k false u s n = and-false (bit row k)
+    other : (k : ℕ) (t : Bool) → eqb k e ≡ t → bit row e ≡ false → (t && bit row k) ≡ false
+    other k true same none = ap (bit row) (eqb-true k e same) ∙ none
+    other k false same none = refl
 
-    go : (t u : Bool) → bit row e ≡ t → ltb e w ≡ u → some w (λ k. bit row k && (eqb k e && u)) ≡ t
-    go true true a b =
-        some-at w (λ k. bit row k && (eqb k e && true)) e (ltb-true e w b) (ap₂ (λ t u. t && (u && true)) a (eq-eqb e e refl))
-    go true false a b = absurd (true≢false (sym a ∙ bit-past w row e h (ltb-false e w b)))
-    go false u a b = some-none w (λ k. bit row k && (eqb k e && u)) (λ k l. other k (eqb k e) u refl a)
+    go : (t : Bool) → bit row e ≡ t → some w (λ k. eqb k e && bit row k) ≡ t
+    go true h = some-at w (λ k. eqb k e && bit row k) e l (ap₂ _&&_ (eq-eqb e e refl) h)
+    go false h = some-none w (λ k. eqb k e && bit row k) (λ k m. other k (eqb k e) refl h)
 
-pub meets-added : (w row set e : ℕ) → row < 2 ^ w → meets row (cond (ltb e w) (added set e) set) ≡ (meets row set || bit row e)
-meets-added w row set e h =
-    meets-some w row (cond (ltb e w) (added set e) set) h
-    ∙ some-agree w (λ k. bit row k && bit (cond (ltb e w) (added set e) set) k) (λ k. bit row k && bit set k || bit row k && (eqb k e && ltb e w))
-    (λ k l. ap (λ t. bit row k && t) (bit-added-if set e k (ltb e w)) ∙ and-or-distrib-left (bit row k) (bit set k) (eqb k e && ltb e w))
-    ∙ some-or w (λ k. bit row k && bit set k) (λ k. bit row k && (eqb k e && ltb e w))
-    ∙ ap₂ _||_ (sym (meets-some w row set h)) (some-place w row e h)
+meets-set : (w row set : ℕ) → set < 2 ^ w → meets row set ≡ some w (λ k. bit set k && bit row k)
+meets-set w row set h = meets-comm row set ∙ meets-some w set row h
+
+pub meets-none : (row : ℕ) → meets row 0 ≡ false
+meets-none row = ap (λ (x : ℕ). not (eqb x 0)) (and-zero-r row)
+
+pub meets-added : (w row set e : ℕ) → set < 2 ^ w → e < w → meets row (added set e) ≡ (meets row set || bit row e)
+meets-added w row set e h l =
+    meets-set w row (added set e) (added-below w set e h l)
+    ∙ some-agree w (λ k. bit (added set e) k && bit row k) (λ k. bit set k && bit row k || eqb k e && bit row k)
+    (λ k m. ap (λ t. t && bit row k) (bit-added set e k) ∙ and-or-distrib-right (bit set k) (eqb k e) (bit row k))
+    ∙ some-or w (λ k. bit set k && bit row k) (λ k. eqb k e && bit row k)
+    ∙ ap₂ _||_ (sym (meets-set w row set h)) (some-one w row e l)

@@ -159,13 +159,6 @@ added-below w n p h l = or-lt w n (2 ^ p) h (pow-lt l)
 pub removed-below : (w n p : ℕ) → n < 2 ^ w → removed w n p < 2 ^ w
 removed-below w n p h = without-below w n (2 ^ p) h
 
-pub added-if-below : (w n p : ℕ) → n < 2 ^ w → cond (ltb p w) (added n p) n < 2 ^ w
-added-if-below w n p h = go (ltb p w) refl
-  where
-    go : (t : Bool) → ltb p w ≡ t → cond t (added n p) n < 2 ^ w
-    go true e = added-below w n p h (ltb-true p w e)
-    go false e = h
-
 pub removed-if-below : (w n p : ℕ) (t : Bool) → n < 2 ^ w → cond t (removed w n p) n < 2 ^ w
 removed-if-below w n p true h = removed-below w n p h
 removed-if-below w n p false h = h

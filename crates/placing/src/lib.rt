@@ -1,10 +1,10 @@
 // Where a call puts a request in and takes one out, and what is settled then. Specification, clauses 4.4 and 5.2. A processor
 // that a state has no place for changes nothing.
 use ages::all_but;
+use known_requests::ALL;
 use masks::add32;
 use plans::ENTRIES;
 use plans::SLOTS;
-use settling::ALL;
 use settling::Phases;
 use settling::settle;
 ghost use mathlib.Core.Path.{_≡_};

@@ -14,9 +14,9 @@ use Rattle.masks.proofs.Tests.{Mask, agree-is, same-is, own-is, places-is, none
 use Rattle.plans.specs.Entries.{slots}
 use Rattle.settling.specs.Requests.{Facts, isWriter, isEarlier, conflicts, against}
 use Rattle.settling.specs.Settling.{settled}
-use Rattle.settling.specs.inner.Moves.{unopposedIn, firstInLine, Follows}
+use Rattle.settling.specs.inner.Moves.{Follows}
 use Rattle.settling.specs.declared.Phases.{Phases}
-use Rattle.settling.proofs.FourSteps.{fit, At, at-first, after1, after2, after3, after4, at-last}
+use Rattle.settling.proofs.FourSteps.{fit, unopposedIn, firstInLine, At, at-first, after1, after2, after3, after4, at-last}
 use Rattle.settling.proofs.Quiet.{none-unopposed, none-first}
 
 abbrev aloneWaiting : ℕ → Phases

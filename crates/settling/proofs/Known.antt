@@ -8,7 +8,6 @@ use Prim.Native.Nat.{ℕ, _^_, _<_}
 use native.Mathlib.Omega.{arith}
 use native.Mathlib.Nat.{lt-of-le-of-lt}
 use lib.Bits.{bitAnd, bitOr, and-le-r}
-use lib.Count.{trailingZeros}
 use lib.Dec.{ltb}
 use lib.ListN.{getD, List·getD-eq-default}
 use borrow.Author.Tests.{ltb-true, ltb-false}
@@ -17,24 +16,19 @@ use Rattle.masks.proofs.Truth.{and-left, and-right, or-cases}
 use Rattle.masks.proofs.Places.{bit-past, bit-zero, bit-and, bit-or, and-below, or-below}
 use Rattle.masks.proofs.Some.{some-agree, some-none}
 use Rattle.masks.proofs.Masks.{mask-below, mask-agree, bit-mask}
-use Rattle.masks.proofs.Walks.{Left, lowest-bit, lowest-place}
 use Rattle.masks.proofs.Tests.{Mask, bit-is, agree-is, same-is, and-is, or-is, without-is}
 use Rattle.plans.specs.Entries.{slots, mostEntries}
 use Rattle.settling.specs.Requests.{Facts, entryOf, isWriter, conflicts, against}
-use Rattle.settling.specs.inner.Moves.{Table, knownIn, Known, inRow, unopposedIn}
-use Rattle.settling.proofs.FourSteps.{fit}
+use Rattle.settling.specs.inner.Moves.{Table, knownIn}
+use Rattle.settling.proofs.FourSteps.{fit, unopposedIn}
 
 -- ---- masks of such processors alone
 
+pub record Known (entry : List ℕ) (among : ℕ) : Type 0 where
+  pub within : among < 2 ^ slots
+  pub entries : (p : ℕ) → bit among p ≡ true → getD entry p 0 < mostEntries
+
 module _ {entry : List ℕ} where
-  pub known-walk : {a : ℕ} → Known entry a → Left slots 32 a
-  known-walk h = record { fit = fit; rest = h .within }
-
-  -- The lowest one is a processor with such an entry.
-  pub known-lowest : {a : ℕ} → Known entry a → 0 < a
-      → (trailingZeros 32 a < slots) × (getD entry (trailingZeros 32 a) 0 < mostEntries)
-  known-lowest h p = (lowest-place (known-walk h) p, h .entries _ (lowest-bit (known-walk h) p))
-
   pub known-kept : {a b : ℕ} (P : ℕ → Bool) → Known entry a → b ≡ maskOf slots (λ p. bit a p && P p) → Known entry b
   known-kept {a} {b} P h e =
       record {

@@ -8,9 +8,9 @@ use Rattle.masks.proofs.Tests.{cut-is, neither}
 use Rattle.plans.specs.Entries.{slots}
 use Rattle.settling.specs.Requests.{Facts}
 use Rattle.settling.specs.Settling.{settled}
-use Rattle.settling.specs.inner.Moves.{unopposedIn, firstInLine, Follows}
+use Rattle.settling.specs.inner.Moves.{Follows}
 use Rattle.settling.specs.declared.Phases.{Phases}
-use Rattle.settling.proofs.FourSteps.{At, at-first, after1, after2, after3, after4, at-last}
+use Rattle.settling.proofs.FourSteps.{unopposedIn, firstInLine, At, at-first, after1, after2, after3, after4, at-last}
 
 -- The places of any phases, cut to the processors.
 pub cut-follows : (ph : Phases)

@@ -1,25 +1,32 @@
 // Settling: which requests become entitled, and which begin to hold, when a request was put in or taken out.
-// It goes by masks of processors and 64-bit sets of entries, and changes the phases alone. The arbiter uses it.
-mod requests;
+// It goes by masks of processors, and changes the phases alone. The arbiter uses it. Specification, section 5.
 mod steps;
 
+use known_requests::ALL;
+use known_requests::all_below;
 use plans::ENTRIES;
 use plans::SLOTS;
-pub use requests::entries_below;
-use requests::known_in;
 use steps::four_steps;
 ghost use mathlib.Core.Path.{_≡_};
+ghost use lib.ListN.{length};
+ghost use Rattle.plans.specs.Entries.{mostEntries};
 ghost use Rattle.settling.specs.Requests.{factsBy};
 ghost use Rattle.settling.specs.Settling.{settled};
-
-// A mask of all processors.
-pub const ALL: u32 = ((1u64 << SLOTS as u64) - 1) as u32;
+ghost use Rattle.settling.specs.inner.Moves.{Table, knownIn};
 
 // The phases of all processors: bit p of a mask is processor p.
 pub struct Phases {
     pub waiting: u32,
     pub entitled: u32,
     pub holding: u32,
+}
+
+// The processors whose requests' entries have a row, which is for every entry below 64.
+fn known_in(rows: &[u64], entry: &[u8; SLOTS]) -> u32
+    requires { ⌜ length (now rows) ≡ mostEntries ⌝ }
+    ensures { λ r. ⌜ (r ≡ knownIn (now (entry .entry))) × Table (now (rows .entry)) ⌝ }
+{
+    all_below(rows.len() as u8, entry)
 }
 
 // The phases after the four steps. Where nobody is unsatisfied there is nothing to settle.

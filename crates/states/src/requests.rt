@@ -1,10 +1,10 @@
 // Which requests of a state count. Specification, clause 4.10.
 use crate::Terms;
+use known_requests::ALL;
+use known_requests::entries_below;
 use masks::without32;
 use plans::SLOTS;
-use settling::ALL;
 use settling::Phases;
-use settling::entries_below;
 ghost use mathlib.Core.Path.{_≡_};
 ghost use Rattle.masks.specs.Sets.{maskOf};
 ghost use Rattle.plans.specs.Entries.{slots};

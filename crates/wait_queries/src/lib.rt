@@ -1,4 +1,5 @@
 // For whom a processor waits directly. Nothing is changed. Specification, clause 7.2.
+use board_waits::waits_of_all;
 use plans::ENTRIES;
 use plans::SLOTS;
 use queries::MaskAnswer;
@@ -10,7 +11,6 @@ use states::State;
 use states::Terms;
 use states::clean;
 use waiting::waits_of;
-use waiting::waits_of_all;
 ghost use mathlib.Core.Path.{_≡_};
 ghost use Rattle.queries.specs.Queries.{maskSays, waitsQuery};
 ghost use Rattle.queries.specs.Parts.{boardWith, stateWith};

@@ -1,2 +1,1 @@
-pub mod Facing
-pub mod Joins
+pub mod Faced

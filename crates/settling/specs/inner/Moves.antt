@@ -1,13 +1,11 @@
 -- Processors in masks, as the functions of settling go by them.
 use Prim.Native.Nat.{ℕ, _<_, _^_}
 use mathlib.Core.Path.{_≡_}
-use mathlib.Core.Bool.{Bool, true, not, _&&_}
 use mathlib.Core.List.{List}
 use lib.Dec.{ltb}
 use lib.ListN.{length, getD}
-use Rattle.masks.specs.Sets.{bit, some, maskOf}
+use Rattle.masks.specs.Sets.{bit, maskOf}
 use Rattle.plans.specs.Entries.{slots, mostEntries}
-use Rattle.settling.specs.Requests.{Facts, isEarlier, against}
 use Rattle.settling.specs.declared.Phases.{Phases}
 
 -- There is a row for each entry, and a place for each in a row.
@@ -18,23 +16,6 @@ pub record Table (rows : List ℕ) : Type 0 where
 -- The processors whose requests' entries have a row. The others' are no writes and conflict with none.
 abbrev pub knownIn : List ℕ → ℕ
 knownIn entry = maskOf slots (λ p. ltb (getD entry p 0) mostEntries)
-
--- The mask is of such processors alone.
-pub record Known (entry : List ℕ) (among : ℕ) : Type 0 where
-  pub within : among < 2 ^ slots
-  pub entries : (p : ℕ) → bit among p ≡ true → getD entry p 0 < mostEntries
-
--- One of the processors in the mask has its entry in the row.
-abbrev pub inRow : ℕ → List ℕ → ℕ → Bool
-inRow row entry among = some slots (λ q. bit among q && bit row (getD entry q 0))
-
--- The candidates whose requests conflict with that of none of the others, and with that of no earlier one of them.
-abbrev pub unopposedIn : Facts → ℕ → ℕ → ℕ
-unopposedIn f candidates others = maskOf slots (λ p. bit candidates p && not (against f p (bit others)))
-
-abbrev pub firstInLine : Facts → ℕ → ℕ → ℕ
-firstInLine f candidates others =
-    maskOf slots (λ p. bit candidates p && not (against f p (λ q. isEarlier f q p && bit others q)))
 
 -- The three masks are those of the phases, for the processors that there are.
 pub record Follows (ph : Phases) (waiting entitled holding : ℕ) : Type 0 where

@@ -7,7 +7,6 @@ use lib.ListN.{getD}
 use borrow.Author.Needs.{needs}
 use Rattle.masks.specs.Sets.{maskOf}
 use Rattle.plans.specs.Entries.{slots}
-use Rattle.settling.proofs.Below.{of-all}
 use Rattle.waiting.proofs.known_in.Statement.{statement}
 use Rattle.waiting.proofs.known_in.Tie as tie
 
@@ -15,9 +14,7 @@ returns : tie.Need-returns
 returns c =
     let known = c .before in
     let a = known .before .args in (
-      c .entries-below .ensures
-          ∙ of-all _
-          ∙ ap (λ (n : ℕ). maskOf slots (λ p. ltb (getD (a .entry .now) p 0) n)) (known .before .pre),
+      c .all-below .ensures ∙ ap (λ (n : ℕ). maskOf slots (λ p. ltb (getD (a .entry .now) p 0) n)) (known .before .pre),
       record { count = known .before .pre; places = λ e. known .shared-slice-known .given e .fits },
     )
 

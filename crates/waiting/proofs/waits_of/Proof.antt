@@ -6,19 +6,13 @@ use lib.ListN.{getD}
 use borrow.Author.Tests.{lt-ltb, le-ltb}
 use Rattle.plans.specs.Entries.{slots}
 use Rattle.settling.specs.Requests.{factsBy}
-use Rattle.settling.proofs.Known.{known-all, and-known}
-use Rattle.waiting.proofs.Facing.{activeOf, waits-mask}
+use Rattle.waiting.proofs.Faced.{waits-mask}
 use borrow.Author.Needs.{needs}
 use Rattle.waiting.proofs.waits_of.Statement.{statement}
 use Rattle.waiting.proofs.waits_of.Tie as tie
 
 returns : tie.Need-returns
 returns c = rw (le-ltb (c .before .args .p) slots (c .if1 .taken))
-
-those-in-row-requires-2 : tie.Need-those-in-row-requires-2
-those-in-row-requires-2 c κs =
-    let found = c .before .before .before .before .before .before .before .before .before in
-    and-known {entry = found .before .before .before .args .entry .now} (c .before .before .before .before .facing-of .result) (known-all (found .known-in .ensures .0))
 
 returns-2 : tie.Need-returns-2
 returns-2 c =
@@ -31,10 +25,10 @@ returns-2 c =
     let a = start .args in
     let f = factsBy (a .rows .now) (a .writes) (a .entry .now) (a .earlier .now) in
     rw (lt-ltb (a .p) slots (omega (arith, tested .if1 .left)))
-    (waits-mask f (a .phases) _ _ (record { table = known .1; words = omega (arith, start .fits); all = known .0; write = found .those-in-row .ensures })
+    (waits-mask f (a .phases) _ _ (record { table = known .1; words = omega (arith, start .fits); all = known .0; write = found .those-in .ensures })
     (a .p) _ _ _ (omega (arith, tested .if1 .left)) (faced .facing-of .ensures)
     (looked .row-at .ensures ∙ ap (λ (e : ℕ). getD (a .rows .now) e 0) (looked .before .wide .ensures))
-    (c .those-in-row2 .ensures))
+    (c .those-in2 .ensures))
 
 pub waits-of-spec : {M : Type 1} → statement M
 waits-of-spec =
@@ -42,12 +36,12 @@ waits-of-spec =
     (tie.spec
     returns
     (λ c κs. search needs)
-    (λ c κs. and-known (activeOf (c .before .before .before .before .before .args .phases)) (known-all (c .before .before .known-in .ensures .0)))
-    (λ c. search needs)
-    (λ c. search needs)
     (λ c κs. search needs)
     (λ c. search needs)
+    (λ c. search needs)
+    (λ c κs. search needs)
+    (λ c. search needs)
     (λ c κs. search needs)
     (λ c κs. search needs)
-    those-in-row-requires-2
+    (λ c κs. search needs)
     returns-2)

@@ -1,0 +1,78 @@
+// Known requests: those whose entries are below a count, as masks of processors. By the number of a plan's entries they
+// are those that count (specification, clause 4.10), and by the number of rows those that conflict with some at all
+// (clause 5.7). The states, settling and the direct waits use it.
+use plans::SLOTS;
+ghost use mathlib.Core.Path.{_≡_};
+ghost use mathlib.Core.Bool.{cond, _&&_};
+ghost use Prim.Native.Nat.{ℕ, _<_, _≤_};
+ghost use lib.Dec.{ltb};
+ghost use lib.ListN.{getD};
+ghost use Rattle.masks.specs.Sets.{bit, added, maskOf};
+ghost use Rattle.plans.specs.Entries.{slots};
+
+// A mask of all processors.
+pub const ALL: u32 = ((1u64 << SLOTS as u64) - 1) as u32;
+
+// The set with the place in it, where the test says so.
+fn add_if(set: u32, place: u32, test: bool) -> u32
+    requires { ⌜ place < 32 ⌝ }
+    ensures { λ r. ⌜ r ≡ cond test (added set place) set ⌝ }
+{
+    if test { set | (1 << place) } else { set }
+}
+
+// Those among the processors whose requests' entries are below the count, one after the other.
+fn each_below(among: u32, count: u8, entry: &[u8; SLOTS]) -> u32
+    ensures { λ r. ⌜ r ≡ maskOf slots (λ p. bit among p && ltb (getD (now (entry .entry)) p 0) count) ⌝ }
+{
+    let mut out: u32 = 0;
+    let mut left = among & ALL;
+    while left != 0 {
+        let p = u32::trailing_zeros(left);
+        out = add_if(out, p, entry[p as usize] < count);
+        left = left & (left - 1);
+    }
+    out
+}
+
+fn larger(a: u8, b: u8) -> u8
+    ensures { λ r. ⌜ (a ≤ r) × (b ≤ r) ⌝ }
+{
+    if a < b { b } else { a }
+}
+
+// No request's entry is above it. Nothing else in the loop: compiled, it compares 16 of them at once.
+fn largest(entry: &[u8; SLOTS]) -> u8
+    ensures { λ r. ⌜ ((p : ℕ) → p < slots → getD (now (entry .entry)) p 0 ≤ r) ⌝ }
+{
+    let mut most: u8 = 0;
+    let mut p: usize = 0;
+    while p < SLOTS {
+        most = larger(most, entry[p]);
+        p += 1;
+    }
+    most
+}
+
+// Those among the processors whose requests' entries are below the count. On a board that was made from a plan all are,
+// and a call pays for one comparison. The walk is over a mask that is not fixed: compiled, it then stays a short loop.
+pub fn entries_below(among: u32, count: u8, entry: &[u8; SLOTS]) -> u32
+    ensures { λ r. ⌜ r ≡ maskOf slots (λ p. bit among p && ltb (getD (now (entry .entry)) p 0) count) ⌝ }
+{
+    if largest(entry) < count {
+        return among & ALL;
+    }
+    each_below(among, count, entry)
+}
+
+// All processors whose requests' entries are below the count. It looks at the largest first, so that where all are,
+// compiled, it calls nothing.
+pub fn all_below(count: u8, entry: &[u8; SLOTS]) -> u32
+    ensures { λ r. ⌜ r ≡ maskOf slots (λ p. ltb (getD (now (entry .entry)) p 0) count) ⌝ }
+{
+    let most = largest(entry);
+    if most < count {
+        return ALL;
+    }
+    entries_below(ALL, count, entry)
+}
