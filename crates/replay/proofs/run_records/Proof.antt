@@ -1,6 +1,6 @@
 -- `replay::run_records` meets its contract. The invariant: the records that are left still give the whole block. Assumes nothing.
 use Prim.Native.Nat.{_+_, _-_}
-use mathlib.Core.Path.{refl, _∙_}
+use mathlib.Core.Path.{refl}
 use mathlib.Core.Bool.{not}
 use native.Mathlib.Omega.{arith}
 use mir.Val.{boolByte}
