@@ -6,7 +6,6 @@ use plans::ENTRIES;
 use plans::SLOTS;
 use states::Terms;
 use withdrawing::withdraw_in_place;
-use withdrawing::withdraw_in_place;
 ghost use mathlib.Core.Path.{_≡_};
 ghost use mathlib.Core.List.{[]};
 ghost use Rattle.rules.specs.Calls.{withdrawn};
