@@ -1,5 +1,5 @@
--- One turn of the loop over the counted entries: an entry without a fault leaves the fault to the later ones, and the first
--- fault is that of all. Assumes nothing.
+-- One turn of the loop over the counted entries: an entry without a fault leaves the fault to the later ones, and the
+-- first fault is that of all. Assumes nothing.
 use Prim.Native.Nat.{ℕ, _+_, _<_, _≤_}
 use mathlib.Core.Path.{_≡_, sym, ap, _∙_}
 use mathlib.Core.List.{List}

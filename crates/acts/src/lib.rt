@@ -1,5 +1,5 @@
-// An act carried out on the arrays of a state: a request enters or leaves, all requests are settled, and the answer has who
-// began to hold and who became entitled by it. Specification, clauses 4.4 to 4.8.
+// An act carried out on the arrays of a state: a request enters or leaves, all requests are settled, and the answer has
+// who began to hold and who became entitled by it. Specification, clauses 4.4 to 4.8.
 mod stores;
 
 use ages::stamp;
@@ -42,8 +42,8 @@ fn accept(tick: u64, before: Phases, after: Phases, since: &mut [u64; SLOTS], la
     }
 }
 
-// The processor's request for the entry is put in, beside the requests of these phases. Who is earlier is told. It is never
-// late.
+// The processor's request for the entry is put in, beside the requests of these phases. Who is earlier is told. It is
+// never late.
 pub fn enter(
     rows: &[u64; ENTRIES],
     writes: u64,

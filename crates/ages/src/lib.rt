@@ -42,8 +42,8 @@ fn keep_each(sets: &mut [u32; SLOTS], keep: u32)
     }
 }
 
-// All that are active are earlier than the processor's new request, and it is earlier than none. The test comes first: a
-// call has made it already, and compiled into it this one is gone.
+// All that are active are earlier than the processor's new request, and it is earlier than none. The test comes first:
+// a call has made it already, and compiled into it this one is gone.
 pub fn put_last(earlier: &mut [u32; SLOTS], phases: Phases, processor: u8)
     ensures { λ r. ⌜ now (earlier .exit) ≡ putLast (now (earlier .entry)) phases processor ⌝ }
 {

@@ -1,5 +1,5 @@
-// What a call in place returns: of a call that was carried out its answer, and of a refused one the refusal, with the moment
-// as it was given.
+// What a call in place returns: of a call that was carried out its answer, and of a refused one the refusal, with the
+// moment as it was given.
 use calls::Reply;
 use effects::Carried;
 use refusals::Refusal;

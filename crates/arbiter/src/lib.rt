@@ -1,7 +1,7 @@
 // The arbiter by value: a state goes in, and comes back with the answer. `boards` makes the board and the first state.
-// Every core's call goes through `answer`; the reply says who began to hold. `issue`, `complete`, `withdraw` and `handover`
-// are the same by name. The crates `issuing`, `completing`, `withdrawing`, `handing_over` and `answering` have the calls on
-// lent arrays: no copies.
+// Every core's call goes through `answer`; the reply says who began to hold. `issue`, `complete`, `withdraw` and
+// `handover` are the same by name. The crates `issuing`, `completing`, `withdrawing`, `handing_over` and `answering`
+// have the calls on lent arrays: no copies.
 use answering::answer_in_place;
 use calls::Call;
 use calls::Reply;

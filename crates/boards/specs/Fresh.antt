@@ -22,8 +22,8 @@ freshState =
       entry = replicate slots 0;
     }
 
--- Clause 3.3: the board of a plan: its counts, which entries are writes, their lengths, and conflict worked out once, with
--- the names and widened sets that it was worked out from.
+-- Clause 3.3: the board of a plan: its counts, which entries are writes, their lengths, and conflict worked out once,
+-- with the names and widened sets that it was worked out from.
 unfoldable pub boardOf : Plan → Board
 boardOf p =
     record {

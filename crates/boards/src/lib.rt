@@ -1,5 +1,5 @@
-// The fresh arbiter of a plan: its board, made once for all calls, and the state in which nobody is active. Specification,
-// clauses 3.3 and 4.3.
+// The fresh arbiter of a plan: its board, made once for all calls, and the state in which nobody is active.
+// Specification, clauses 3.3 and 4.3.
 use acceptance::check;
 use conflicts::conflicts_of;
 use masks::add64;

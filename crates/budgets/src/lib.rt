@@ -1,5 +1,5 @@
-// How many records of a log a block of its bytes carries out, so that each is whole and its line has room (specification,
-// section 9). `replay` carries them out.
+// How many records of a log a block of its bytes carries out, so that each is whole and its line has room
+// (specification, section 9). `replay` carries them out.
 use logs::RECORD_BYTES;
 ghost use mathlib.Core.Path.{_≡_};
 ghost use Rattle.budgets.specs.Budgets.{budgetOf};

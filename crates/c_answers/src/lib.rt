@@ -1,5 +1,5 @@
-// What a plan that is read and a query answer a program in C or Rust, in numbers. Specification, section 11, clauses 11.2
-// and 11.4.
+// What a plan that is read and a query answer a program in C or Rust, in numbers. Specification, section 11, clauses
+// 11.2 and 11.4.
 mod bytes;
 
 pub use bytes::told_bytes;

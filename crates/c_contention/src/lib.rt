@@ -1,5 +1,5 @@
-// Which resource two entries fight over, on memory that a program in C or Rust owns. Nothing is changed. include/bittmelon.h
-// declares what is exported. Specification, sections 7 and 11.
+// Which resource two entries fight over, on memory that a program in C or Rust owns. Nothing is changed.
+// include/bittmelon.h declares what is exported. Specification, sections 7 and 11.
 use contention::SharedAnswer;
 use contention::shared_on;
 use plans::ENTRIES;

@@ -1,5 +1,5 @@
-// A fresh arbiter from the bytes of a plan, into memory that a program in C or Rust owns; and the version of the archive.
-// include/bittmelon.h declares what is exported. Specification, sections 4 and 11.
+// A fresh arbiter from the bytes of a plan, into memory that a program in C or Rust owns; and the version of the
+// archive. include/bittmelon.h declares what is exported. Specification, sections 4 and 11.
 use c_answers::told_bytes;
 use c_boards::Told;
 use c_stores::store_board;
@@ -21,8 +21,8 @@ pub extern "C" fn bittmelon_version_number() -> u32
     30100
 }
 
-// A fresh arbiter of the plan in the bytes; bytes behind it are not looked at. Answers how many it took, or its refusal by
-// 1 or 3 to 8, and then writes nothing.
+// A fresh arbiter of the plan in the bytes; bytes behind it are not looked at. Answers how many it took, or its refusal
+// by 1 or 3 to 8, and then writes nothing.
 #[no_mangle]
 pub extern "C" fn bittmelon_fresh_parts(
     plan: &[u8],

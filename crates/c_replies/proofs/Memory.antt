@@ -1,5 +1,5 @@
--- A call in place whose reply is told in numbers leaves the same answer: where it was carried out and its moment is stored, and
--- where it was refused and nothing is. Assumes nothing.
+-- A call in place whose reply is told in numbers leaves the same answer: where it was carried out and its moment is
+-- stored, and where it was refused and nothing is. Assumes nothing.
 use Prim.Native.Nat.{ℕ}
 use mathlib.Core.Bool.{Bool, true, false, cond}
 use mathlib.Core.List.{List}

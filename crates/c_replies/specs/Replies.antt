@@ -14,8 +14,8 @@ use Rattle.c_replies.specs.declared.Replied.{Replied}
 abbrev pub response : Replied → Response
 response r = record { number = r .refusal; granted = r .granted; entitled = r .entitled; late = r .late }
 
--- Clauses 11.3 and 4.6: the moment that is left: the one after the call where it was carried out, and the one before where
--- it was refused.
+-- Clauses 11.3 and 4.6: the moment that is left: the one after the call where it was carried out, and the one before
+-- where it was refused.
 abbrev pub momentLeft : Reply → Moment → Moment → Moment
 momentLeft (Reply.Done granted entitled late) after before = after
 momentLeft (Reply.Refused r) after before = before

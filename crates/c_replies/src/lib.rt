@@ -10,8 +10,8 @@ ghost use Rattle.calls.specs.Replies.{replySays, refusedWith};
 ghost use Rattle.c_boards.specs.Parts.{momentBy};
 ghost use Rattle.c_replies.specs.Replies.{response, momentLeft};
 
-// A reply in numbers: the refusal's, 0 if the call is accepted; the granted and the entitled mask; late. A refusal is its
-// number alone, so the others are 0 beside it.
+// A reply in numbers: the refusal's, 0 if the call is accepted; the granted and the entitled mask; late. A refusal is
+// its number alone, so the others are 0 beside it.
 #[repr(C)]
 pub struct Replied {
     pub refusal: u32,

@@ -4,8 +4,8 @@ use mathlib.Core.Bool.{cond}
 use lib.Dec.{eqb}
 use Rattle.calls.specs.declared.Call.{Call}
 
--- Clause 9.2: the fields of a call. Verb 0 issues and verb 3 hands over; verb 1 completes and verb 2 withdraws, and their
--- entry is 0.
+-- Clause 9.2: the fields of a call. Verb 0 issues and verb 3 hands over; verb 1 completes and verb 2 withdraws, and
+-- their entry is 0.
 pub record Fields : Type 0 where
   pub verb : ℕ
   pub processor : ℕ
@@ -18,8 +18,8 @@ callSays (Call.Complete p t) = record { verb = 1; processor = p; entry = 0; tick
 callSays (Call.Withdraw p t) = record { verb = 2; processor = p; entry = 0; tick = t }
 callSays (Call.Handover p e t) = record { verb = 3; processor = p; entry = e; tick = t }
 
--- The call that some fields say: 0 issues, 1 completes, 2 withdraws, any other verb hands over. Which verbs are taken, a
--- log's reader says.
+-- The call that some fields say: 0 issues, 1 completes, 2 withdraws, any other verb hands over. Which verbs are taken,
+-- a log's reader says.
 abbrev pub callOf : Fields → Call
 callOf f =
     cond (eqb (f .verb) 0) (Call.Issue (f .processor) (f .entry) (f .tick))

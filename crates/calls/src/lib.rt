@@ -1,8 +1,8 @@
 // The vocabulary of the arbiter: a call, and the reply to it. Logs are read to calls; listings are written from both.
 use refusals::Refusal;
 
-// A processor asks for an entry, gives its request back, leaves the line with a request that does not hold, or gives its
-// request back and asks for an entry in one call, at a tick.
+// A processor asks for an entry, gives its request back, leaves the line with a request that does not hold, or gives
+// its request back and asks for an entry in one call, at a tick.
 pub enum Call {
     Issue { processor: u8, entry: u8, tick: u64 },
     Complete { processor: u8, tick: u64 },

@@ -22,8 +22,8 @@ pub struct Carried {
     pub ended: bool,
 }
 
-// A call is carried out and has its line, and the replay goes on. The arrays of the board and of the state are lent, and
-// so are the digits of every byte.
+// A call is carried out and has its line, and the replay goes on. The arrays of the board and of the state are lent,
+// and so are the digits of every byte.
 pub fn carry_out(
     terms: Terms,
     rows: &[u64; ENTRIES],

@@ -1,5 +1,5 @@
-// When a call of one act is refused, and by which number: specification, clause 4.5, 10 to 15 and 17. The phases are of the
-// requests that count.
+// When a call of one act is refused, and by which number: specification, clause 4.5, 10 to 15 and 17. The phases are of
+// the requests that count.
 use conditions::is_active;
 use conditions::is_counted;
 use conditions::is_in_time;

@@ -1,4 +1,5 @@
-// When a handover is refused, and by which number: specification, clause 4.5. The phases are of the requests that count.
+// When a handover is refused, and by which number: specification, clause 4.5. The phases are of the requests that
+// count.
 use conditions::is_active;
 use conditions::is_counted;
 use conditions::is_in_time;

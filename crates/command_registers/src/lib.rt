@@ -1,4 +1,5 @@
-// What a command takes from the registers of a block, and what its reply leaves there. Specification, clauses 10.7 to 10.9.
+// What a command takes from the registers of a block, and what its reply leaves there. Specification, clauses 10.7 to
+// 10.9.
 use calls::Call;
 use calls::Reply;
 use refusals::number;

@@ -1,5 +1,5 @@
-// Reads a plan from standard input, and prints for each pair of its entries what they conflict over: the lowest-numbered
-// resource that they share, and how many. A test program: its output is compared with another's.
+// Reads a plan from standard input, and prints for each pair of its entries what they conflict over: the
+// lowest-numbered resource that they share, and how many. A test program: its output is compared with another's.
 use contention::SharedAnswer;
 use contention::shared_by;
 use encoding::Outcome;

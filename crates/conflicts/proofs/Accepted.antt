@@ -1,5 +1,5 @@
--- What an accepted plan tells of each of its entries: kind, and a set that is not empty and names only counted resources.
--- Assumes nothing.
+-- What an accepted plan tells of each of its entries: kind, and a set that is not empty and names only counted
+-- resources. Assumes nothing.
 use Prim.Native.Nat.{ℕ, zero, suc, _^_, _<_}
 use mathlib.Core.Path.{_≡_, refl}
 use mathlib.Core.Bool.{true, not, _||_, false≢true, and-eq-true-iff}

@@ -1,5 +1,5 @@
--- Conflict is symmetric, two reads never conflict, a write conflicts with itself, and a read that conflicts with two writes
--- bridges them: the writes conflict with each other. Assumes nothing.
+-- Conflict is symmetric, two reads never conflict, a write conflicts with itself, and a read that conflicts with two
+-- writes bridges them: the writes conflict with each other. Assumes nothing.
 use Prim.Native.Nat.{ℕ, zero, suc, _^_, _<_}
 use native.Mathlib.Omega.{arith}
 use mathlib.Core.Path.{_≡_, sym, ap, ap₂, _∙_}

@@ -1,5 +1,5 @@
--- Conflict of two entries, read from the plan's array and from the array of widened sets, and a row with one more of them.
--- Assumes nothing.
+-- Conflict of two entries, read from the plan's array and from the array of widened sets, and a row with one more of
+-- them. Assumes nothing.
 use Prim.Native.Nat.{ℕ, _+_, _<_}
 use mathlib.Core.Path.{_≡_, refl, ap, _∙_}
 use mathlib.Core.Bool.{Bool, true, false, cond, not, _&&_}

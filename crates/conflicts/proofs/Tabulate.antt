@@ -1,5 +1,5 @@
--- Laws of `tabulate`, for any function and length: its length, its elements, one more, and an array that a loop fills with it.
--- Assumes nothing.
+-- Laws of `tabulate`, for any function and length: its length, its elements, one more, and an array that a loop fills
+-- with it. Assumes nothing.
 use Prim.Native.Nat.{ℕ, zero, suc, _+_, _<_, _≤_}
 use native.Mathlib.Nat.{le-refl, le-step, le-of-suc-le-suc, not-suc-le-zero, eq-or-lt-of-le}
 use native.Mathlib.Numerals.{add-one}

@@ -32,8 +32,8 @@ unfoldable pub tabulate : ℕ → (ℕ → ℕ) → List ℕ
 tabulate zero f = []
 tabulate (suc n) f = tabulate n f ++ (f n ∷ [])
 
--- Clause 3.3: worked out once: the names and the widened set of each entry, and as its row the entries that it conflicts
--- with.
+-- Clause 3.3: worked out once: the names and the widened set of each entry, and as its row the entries that it
+-- conflicts with.
 unfoldable pub conflictsOf : Plan → Conflicts
 conflictsOf p =
     record {

@@ -16,8 +16,8 @@ ghost use Rattle.plans.specs.Entries.{mostEntries, countedEntries, entryAt};
 ghost use Rattle.widening.specs.Widening.{widenedSet};
 ghost use Rattle.conflicts.specs.Conflict.{inConflict, conflictsOf};
 
-// Bit j of row i: entries i and j conflict. The names of each entry; the widened set of each write, and of each read its
-// names.
+// Bit j of row i: entries i and j conflict. The names of each entry; the widened set of each write, and of each read
+// its names.
 pub struct Conflicts {
     pub names: [u64; ENTRIES],
     pub widened: [u64; ENTRIES],

@@ -13,8 +13,8 @@ use Rattle.states.specs.declared.Terms.{Terms}
 use Rattle.states.specs.declared.Board.{Board}
 use Rattle.contention.specs.declared.SharedAnswer.{SharedAnswer}
 
--- Clause 3.2: what stands between entries i and j, by which entries are writes and by the names and widened sets of all.
--- An entry past the lists has none.
+-- Clause 3.2: what stands between entries i and j, by which entries are writes and by the names and widened sets of
+-- all. An entry past the lists has none.
 abbrev pub sharedIn : ℕ → List ℕ → List ℕ → ℕ → ℕ → ℕ
 sharedIn writes names widened i j =
     sharedBy (bit writes i && bit writes j) (not (bit writes i) && not (bit writes j))

@@ -1,5 +1,6 @@
--- What the query of two entries answers on the board of an accepted plan: what stands between those entries of the plan, with a
--- conflict exactly where the board's rows have one. A write with itself shares its widened set. Assumes nothing.
+-- What the query of two entries answers on the board of an accepted plan: what stands between those entries of the
+-- plan, with a conflict exactly where the board's rows have one. A write with itself shares its widened set. Assumes
+-- nothing.
 use Prim.Native.Nat.{ℕ, _<_, _≤_}
 use mathlib.Core.Path.{_≡_, refl, sym, ap, ap₂, _∙_}
 use mathlib.Core.Bool.{true, cond, not, _&&_}

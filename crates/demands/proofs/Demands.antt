@@ -1,6 +1,7 @@
 -- The three demands, each with the definitions that say it and the theorem or promise that meets it. Assumes nothing.
--- Theorems that stand elsewhere and are passed on from here: the round trips of demand 2, what a handover does, demand 3,
--- freedom from deadlock, what the list of the whole board has of each processor, and runs of steps on a register block.
+-- Theorems that stand elsewhere and are passed on from here: the round trips of demand 2, what a handover does, demand
+-- 3, freedom from deadlock, what the list of the whole board has of each processor, and runs of steps on a register
+-- block.
 pub use Rattle.plans.proofs.RoundTrip.{written-in-buffer, written-back}
 pub use Rattle.runs.proofs.Handover.{leaves-what-both-leave, grants-of-both, entitlements-of-both}
 pub use Rattle.demands.proofs.Handover.{handover-grants, handover-entitles}
@@ -32,8 +33,8 @@ use Rattle.wait_listing.specs.Listing.{listFault, listBuffer}
 use Rattle.board_queries.specs.WholeBoard.{boardBytes, boardFault, boardQuery, boardBuffer}
 use Rattle.logs.specs.Records.{fieldsIn, noFields, recordFault, readRecord}
 
--- Demand 1. What meets no refusal condition is carried out to the end; everything else is refused by the number due in that
--- case alone, with the state and all lent buffers unchanged.
+-- Demand 1. What meets no refusal condition is carried out to the end; everything else is refused by the number due in
+-- that case alone, with the state and all lent buffers unchanged.
 --
 -- Which number is due is said by readFault, writeFault, planFault, issueFault, completeFault, withdrawFault,
 -- handoverFault, processorFault, reachFault, listFault, entriesFault (contention), recordFault and tailFault; 0 is none. The
@@ -174,21 +175,21 @@ pub accepted-record-is-read : (s : List ℕ) → recordFault s ≡ 0 → readRec
 unfolding readRecord
 accepted-record-is-read s ok = rw ok
 
--- Demand 2. Each accepted call grants and entitles the very processors that the rules name; late marks, byte counts, waits and
--- figures are the ones defined; a plan written and then read is the same plan, and an accepted plan written back is the same
--- bytes.
+-- Demand 2. Each accepted call grants and entitles the very processors that the rules name; late marks, byte counts,
+-- waits and figures are the ones defined; a plan written and then read is the same plan, and an accepted plan written
+-- back is the same bytes.
 --
--- The rules are `settled` and its four steps (settling), `putIn`, `takenOut`, `stamped` and `done` (acting); plan F's twelve
--- calls are computed by them in runs/proofs/PlanF.antt. The functions promise: settling::settle ≡ settled,
+-- The rules are `settled` and its four steps (settling), `putIn`, `takenOut`, `stamped` and `done` (acting); plan F's
+-- twelve calls are computed by them in runs/proofs/PlanF.antt. The functions promise: settling::settle ≡ settled,
 -- conflicts::conflicts_of ≡ conflictsOf, figures::figures_of ≡ figuresOf; and the calls as above.
 
 -- A handover does what a completion and then an issue would do: leaves-what-both-leave, grants-of-both and
--- entitlements-of-both, above, on every state value. After any calls its masks are what changed from the state before it to the
--- state after it: handover-grants and handover-entitles.
+-- entitlements-of-both, above, on every state value. After any calls its masks are what changed from the state before
+-- it to the state after it: handover-grants and handover-entitles.
 
--- The round trips are written-in-buffer (a plan written into a buffer reads back as the same plan, and takes as many bytes as
--- were written) and written-back (a plan that was read is written as the bytes that it was read from), above.
+-- The round trips are written-in-buffer (a plan written into a buffer reads back as the same plan, and takes as many
+-- bytes as were written) and written-back (a plan that was read is written as the bytes that it was read from), above.
 
--- Demand 3, of whole lists of calls: whole-runs, above, is the claim `WholeRuns` of runs/specs/Claim.antt, over the answers of
--- `answered`, for every accepted plan and every list of calls. Beyond the three, no-deadlock: nobody waits in a circle. The
--- commands of a register block and the calls past it are such a list: register-runs.
+-- Demand 3, of whole lists of calls: whole-runs, above, is the claim `WholeRuns` of runs/specs/Claim.antt, over the
+-- answers of `answered`, for every accepted plan and every list of calls. Beyond the three, no-deadlock: nobody waits
+-- in a circle. The commands of a register block and the calls past it are such a list: register-runs.

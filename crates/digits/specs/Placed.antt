@@ -1,4 +1,5 @@
--- The bytes of a field go into a lent buffer from a position, where all that is needed fits. Specification, clause 2.12.
+-- The bytes of a field go into a lent buffer from a position, where all that is needed fits. Specification, clause
+-- 2.12.
 use Prim.Native.Nat.{ℕ}
 use mathlib.Core.Bool.{cond}
 use mathlib.Core.List.{List}

@@ -1,5 +1,5 @@
-// Numbers as digits of ASCII: the table of the digits of every byte, and how many digits a number has. `listings` stores
-// them.
+// Numbers as digits of ASCII: the table of the digits of every byte, and how many digits a number has. `listings`
+// stores them.
 use tables::HEX_PAIRS;
 ghost use mathlib.Core.Path.{_≡_};
 ghost use Prim.Native.Nat.{_≤_, _<_};

@@ -1,5 +1,5 @@
-// The line of an accepted call from plain numbers, as bytes in a lent buffer (specification, section 9). `lines` has those of
-// refusals. It is begun only where all of it fits.
+// The line of an accepted call from plain numbers, as bytes in a lent buffer (specification, section 9). `lines` has
+// those of refusals. It is begun only where all of it fits.
 use digits::byte_digits;
 use encoding::Outcome;
 use mask_fields::put_masks;

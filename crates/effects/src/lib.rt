@@ -1,5 +1,5 @@
-// What an act did: who began to hold by it, who became entitled, whether the hold that it ended was late, and the phases that
-// it leaves; and two acts answered as one. Specification, clauses 4.7 and 4.8.
+// What an act did: who began to hold by it, who became entitled, whether the hold that it ended was late, and the
+// phases that it leaves; and two acts answered as one. Specification, clauses 4.7 and 4.8.
 mod late;
 mod merging;
 

@@ -1,4 +1,5 @@
--- What the tests for bytes and for room say of the numbers, and what an answer in bytes is with room and without. Assumes nothing.
+-- What the tests for bytes and for room say of the numbers, and what an answer in bytes is with room and without.
+-- Assumes nothing.
 use Prim.Native.Nat.{ℕ, _+_, _-_, _≤_}
 use native.Mathlib.Omega.{arith}
 use mathlib.Core.Path.{_≡_, refl, sym, _∙_}

@@ -6,8 +6,8 @@ use Rattle.plans.specs.Entries.{slots}
 use Rattle.settling.specs.declared.Phases.{Phases}
 use Rattle.settling.specs.Requests.{active}
 
--- Clause 7.2: processor p waits for q if their requests conflict: the first four rows of the table. The masks are of the
--- processors whose requests are writes and of those whose requests are earlier than p's.
+-- Clause 7.2: processor p waits for q if their requests conflict: the first four rows of the table. The masks are of
+-- the processors whose requests are writes and of those whose requests are earlier than p's.
 unfoldable pub facing : Phases → ℕ → ℕ → ℕ → ℕ → Bool
 facing ph writers earlier p q =
     ((bit (ph .entitled) p && not (bit writers p)) && (bit (ph .holding) q && bit writers q))

@@ -1,5 +1,5 @@
-// The first line of a listing from plain numbers, as bytes in a lent buffer. Its length is worked out first, so that a buffer
-// that is too short is refused before a byte is written.
+// The first line of a listing from plain numbers, as bytes in a lent buffer. Its length is worked out first, so that a
+// buffer that is too short is refused before a byte is written.
 use digits::digit_count;
 use encoding::Outcome;
 use number_fields::put_labelled;

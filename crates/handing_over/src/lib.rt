@@ -19,8 +19,8 @@ ghost use mathlib.Core.Path.{_≡_};
 ghost use Rattle.rules.specs.Calls.{handedOver};
 ghost use Rattle.rules.specs.InPlace.{boardBy, stateBy, answerBy};
 
-// Processor gives its request back and asks for an entry, at one tick. Refused by 10, 11, 12, 14, 15, in that order. The
-// halves need no checks of their own: an issue right after its processor's completion is never refused.
+// Processor gives its request back and asks for an entry, at one tick. Refused by 10, 11, 12, 14, 15, in that order.
+// The halves need no checks of their own: an issue right after its processor's completion is never refused.
 pub fn handover_in_place(
     terms: Terms,
     rows: &[u64; ENTRIES],

@@ -1,5 +1,5 @@
-// An issue, carried out on the arrays of a state that the caller lends: no copies. It is checked; then the request is put
-// in, and the answer has who began to hold and who became entitled. Specification, clauses 4.4 to 4.10.
+// An issue, carried out on the arrays of a state that the caller lends: no copies. It is checked; then the request is
+// put in, and the answer has who began to hold and who became entitled. Specification, clauses 4.4 to 4.10.
 use acts::enter;
 use ages::put_last;
 use answers::accepted;

@@ -1,4 +1,5 @@
--- The lines of a listing from their numbers, in bytes of ASCII: 32 is a space, 10 a line feed. Specification, section 9.
+-- The lines of a listing from their numbers, in bytes of ASCII: 32 is a space, 10 a line feed. Specification, section
+-- 9.
 use Prim.Native.Nat.{ℕ}
 use mathlib.Core.List.{List, [], _∷_, _++_}
 use lib.ListN.{length}

@@ -1,6 +1,6 @@
--- How long lines can be. A call's line, where a mask has n bytes: 67 + 4 n bytes whatever the numbers, 33 + 4 n for those of
--- the Rattle types, 24 + 4 n in a replay, where ticks are below 2 ^ 40 and late is 0 or 1. So at most 83, 49 and 40, and 8 less
--- up to 16 processors. The line of a refusal of the table: 11. Assumes nothing.
+-- How long lines can be. A call's line, where a mask has n bytes: 67 + 4 n bytes whatever the numbers, 33 + 4 n for
+-- those of the Rattle types, 24 + 4 n in a replay, where ticks are below 2 ^ 40 and late is 0 or 1. So at most 83, 49
+-- and 40, and 8 less up to 16 processors. The line of a refusal of the table: 11. Assumes nothing.
 use Prim.Native.Nat.{ℕ, suc, _+_, _*_, _^_, _≤_, _<_}
 use native.Mathlib.Omega.{arith}
 use mathlib.Core.Path.{_≡_}

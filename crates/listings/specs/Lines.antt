@@ -29,7 +29,8 @@ letterOf (Call.Complete p t) = 99
 letterOf (Call.Withdraw p t) = 119
 letterOf (Call.Handover p e t) = 104
 
--- Clauses 9.7 and 9.9: the line of a call of a plan with m processors. By m masks have four hexadecimal digits or eight.
+-- Clauses 9.7 and 9.9: the line of a call of a plan with m processors. By m masks have four hexadecimal digits or
+-- eight.
 unfoldable pub callLine : ℕ → Call → Response → List ℕ
 callLine m c reply =
     fieldsLine (letterOf c) (callSays c .processor) (callSays c .tick) (replyFields (hexMask (maskSizeFor m)) reply)

@@ -1,5 +1,5 @@
-// The first line of a listing, from its plan, and the line of a refusal, as bytes in a lent buffer (specification, section
-// 9). `call_lines` has the line of a call and its reply, which is defined here too. `lockreplay` prints them.
+// The first line of a listing, from its plan, and the line of a refusal, as bytes in a lent buffer (specification,
+// section 9). `call_lines` has the line of a call and its reply, which is defined here too. `lockreplay` prints them.
 use encoding::Outcome;
 use figures::figures_of;
 use first_lines::numbers_line;

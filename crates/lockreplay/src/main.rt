@@ -1,7 +1,7 @@
-// `lockreplay`: a log on standard input, its listing on standard output.
-// A thin loop over `log_input`, `log_openings`, `log_ends` and `replay`: no contract can say what is read or written, so the
-// work is done on slices there. `whole_listing/specs/Arrivals.antt` has the same turns over the same buffers as a
-// definition, which is proved to be the listing.
+// `lockreplay`: a log on standard input, its listing on standard output. A thin loop over `log_input`, `log_openings`,
+// `log_ends` and `replay`: no contract can say what is read or written, so the work is done on slices there.
+// `whole_listing/specs/Arrivals.antt` has the same turns over the same buffers as a definition, which is proved to be
+// the listing.
 use call_counts::COUNT_BYTES;
 use encoding::Outcome;
 use fronts::bring_to_front;

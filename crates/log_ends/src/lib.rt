@@ -1,5 +1,5 @@
-// The lines of a log's call count and of its end (specification, section 9). `log_openings` has the line before them, and
-// `replay` the calls between them. A line goes to the start of a lent buffer.
+// The lines of a log's call count and of its end (specification, section 9). `log_openings` has the line before them,
+// and `replay` the calls between them. A line goes to the start of a lent buffer.
 use call_counts::check_tail;
 use call_counts::read_count;
 use encoding::Outcome;

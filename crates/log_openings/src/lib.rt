@@ -1,5 +1,5 @@
-// The opening of a log: its plan is read, the plan's fresh arbiter is made, and the line that opens the listing goes to the
-// start of a lent buffer (specification, sections 2, 5 and 9). `log_ends` has the call count and the end.
+// The opening of a log: its plan is read, the plan's fresh arbiter is made, and the line that opens the listing goes to
+// the start of a lent buffer (specification, sections 2, 5 and 9). `log_ends` has the call count and the end.
 use boards::fresh_of;
 use encoding::Outcome;
 use listings::first_line;

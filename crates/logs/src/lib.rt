@@ -1,6 +1,6 @@
-// A call's record in a log: its 8 bytes (specification, section 9). `call_counts` has the call count before the records and
-// the end behind them, which are defined here too. `lockreplay` reads a log record by record, so each function looks only
-// at the bytes from its record on.
+// A call's record in a log: its 8 bytes (specification, section 9). `call_counts` has the call count before the records
+// and the end behind them, which are defined here too. `lockreplay` reads a log record by record, so each function
+// looks only at the bytes from its record on.
 use calls::Call;
 use encoding::read_number;
 use refusals::Refusal;

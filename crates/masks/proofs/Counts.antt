@@ -1,4 +1,5 @@
--- The lowest place of a set and how many places it has, at any width: what trailing zeros and ones give. Assumes nothing.
+-- The lowest place of a set and how many places it has, at any width: what trailing zeros and ones give. Assumes
+-- nothing.
 use mathlib.Core.Path.{_≡_, refl, sym, ap, ap₂, _∙_}
 use mathlib.Core.Bool.{Bool, true, false, cond, _||_, false≢true}
 use Prim.Native.Nat.{ℕ, zero, suc, _+_, _/_, _%_, _^_, _<_}

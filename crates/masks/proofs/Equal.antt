@@ -1,4 +1,5 @@
--- Sets of one width with the same places are equal, and a set names only places below w exactly if it is below 2 ^ w. Assumes nothing.
+-- Sets of one width with the same places are equal, and a set names only places below w exactly if it is below 2 ^ w.
+-- Assumes nothing.
 use mathlib.Core.Path.{_≡_, refl, sym, _∙_}
 use mathlib.Core.Bool.{false}
 use Prim.Native.Nat.{ℕ, zero, suc, _/_, _%_, _^_, _<_, _≤_, suc-le-suc, zero-le}

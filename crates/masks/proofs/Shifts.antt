@@ -1,4 +1,5 @@
--- What the code's shifts come to, at any width: one place as a set, and the test that no place is at or above a count. Assumes nothing.
+-- What the code's shifts come to, at any width: one place as a set, and the test that no place is at or above a count.
+-- Assumes nothing.
 use mathlib.Core.Path.{_≡_, refl, sym, ap, _∙_}
 use mathlib.Core.Bool.{Bool, true, false, cond}
 use Prim.Native.Nat.{ℕ, _-_, _*_, _/_, _%_, _^_, _<_, _≤_}

@@ -1,5 +1,5 @@
--- The fields of a line that are words and decimal numbers, in bytes of ASCII: 32 is a space, 10 a line feed. Specification,
--- section 9.
+-- The fields of a line that are words and decimal numbers, in bytes of ASCII: 32 is a space, 10 a line feed.
+-- Specification, section 9.
 use Prim.Native.Nat.{ℕ}
 use mathlib.Core.List.{List, [], _∷_, _++_}
 use Rattle.digits.specs.Digits.{decimal}

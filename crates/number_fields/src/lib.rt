@@ -1,5 +1,5 @@
-// The fields of a line that are words and decimal numbers, stored in a lent buffer where they fit. Each tells how many bytes
-// it stored.
+// The fields of a line that are words and decimal numbers, stored in a lent buffer where they fit. Each tells how many
+// bytes it stored.
 use digits::byte_digits;
 use digits::digit_count;
 use room::has_room;
@@ -134,7 +134,8 @@ fn write_call(
     write_digits(processor as u64, width, buffer, second + 3)
 }
 
-// What every call's line begins with, where it fits with so many bytes behind it: a line is begun where all of it has room.
+// What every call's line begins with, where it fits with so many bytes behind it: a line is begun where all of it has
+// room.
 pub fn put_lead(
     letter: u8,
     processor: u8,

@@ -1,7 +1,7 @@
 // Opposition: whose requests conflict with whose, by masks of processors and 64-bit sets of entries. A row has the
-// entries that an entry conflicts with (specification, clause 5.7). Every walk goes through the processors of a mask and
-// takes their entries modulo the number of rows: it compares none with anything. Settling and the direct waits use it,
-// for processors whose entries are below that number.
+// entries that an entry conflicts with (specification, clause 5.7). Every walk goes through the processors of a mask
+// and takes their entries modulo the number of rows: it compares none with anything. Settling and the direct waits use
+// it, for processors whose entries are below that number.
 use masks::meet64;
 use plans::ENTRIES;
 use plans::SLOTS;

@@ -1,5 +1,5 @@
-// Where a call puts a request in and takes one out, and what is settled then. Specification, clauses 4.4 and 5.2. A processor
-// that a state has no place for changes nothing.
+// Where a call puts a request in and takes one out, and what is settled then. Specification, clauses 4.4 and 5.2. A
+// processor that a state has no place for changes nothing.
 use ages::all_but;
 use known_requests::ALL;
 use masks::add32;

@@ -1,4 +1,5 @@
--- The counts of a plan and then its entries: the fault of the whole, and without one in the counts they are there. Assumes nothing.
+-- The counts of a plan and then its entries: the fault of the whole, and without one in the counts they are there.
+-- Assumes nothing.
 use Prim.Native.Nat.{ℕ}
 use mathlib.Core.Path.{_≡_, sym, ap, _∙_}
 use mathlib.Core.List.{List}

@@ -1,4 +1,5 @@
--- One turn of the loop over the entries of a plan: what was read so far, and what each way on makes of it. Assumes nothing.
+-- One turn of the loop over the entries of a plan: what was read so far, and what each way on makes of it. Assumes
+-- nothing.
 use Prim.Native.Nat.{ℕ, zero, suc, _+_, _-_, _*_, _≤_, _<_}
 use native.Mathlib.Nat.{le-refl}
 use native.Mathlib.Numerals.{add-one}

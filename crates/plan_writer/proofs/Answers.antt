@@ -1,4 +1,5 @@
--- What the checks of a writing tell: an accepted plan fits, and what is answered then and on a refusal. Assumes nothing.
+-- What the checks of a writing tell: an accepted plan fits, and what is answered then and on a refusal. Assumes
+-- nothing.
 use Prim.Native.Nat.{ℕ, _+_, _≤_}
 use mathlib.Core.Path.{_≡_, refl, sym, ap, _∙_}
 use mathlib.Core.List.{List}

@@ -1,5 +1,5 @@
-// Reach: all for whom a processor waits by a chain of direct waits. Nothing is changed but the lent scratch. Specification,
-// clauses 7.3 and 7.4.
+// Reach: all for whom a processor waits by a chain of direct waits. Nothing is changed but the lent scratch.
+// Specification, clauses 7.3 and 7.4.
 use plans::ENTRIES;
 use plans::SLOTS;
 use queries::MaskAnswer;
@@ -66,8 +66,8 @@ fn reach_from(terms: Terms, direct: [u32; SLOTS], processor: u8, scratch: &mut [
     }
 }
 
-// Clause 7.3: all that a processor reaches, a mask, with the parts of a board and a state lent. The scratch is left with a
-// word for each processor, and bytes behind those stay. Refuses by 11, then by 16; a refusal writes nothing.
+// Clause 7.3: all that a processor reaches, a mask, with the parts of a board and a state lent. The scratch is left
+// with a word for each processor, and bytes behind those stay. Refuses by 11, then by 16; a refusal writes nothing.
 pub fn reach_in_place(
     terms: Terms,
     rows: &[u64; ENTRIES],

@@ -1,5 +1,5 @@
--- Numbers that are due: what 0 tells of the parts, what a test or a verdict that is known makes of them, and the order of several.
--- Assumes nothing.
+-- Numbers that are due: what 0 tells of the parts, what a test or a verdict that is known makes of them, and the order
+-- of several. Assumes nothing.
 use Prim.Native.Nat.{ℕ, zero, suc, _<_}
 use mathlib.Core.Path.{_≡_, refl, sym, ap, _∙_}
 use mathlib.Core.Bool.{Bool, true, false}

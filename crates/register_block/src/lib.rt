@@ -1,5 +1,5 @@
-// The register block as a driver knows it: lent to a call, and changed by it. Each function takes the block apart, calls
-// the one by value, and puts the block back. The arbiter's state goes in by value and comes back.
+// The register block as a driver knows it: lent to a call, and changed by it. Each function takes the block apart,
+// calls the one by value, and puts the block back. The arbiter's state goes in by value and comes back.
 use commands::Written;
 use plans::ENTRIES;
 use register_writes::write;

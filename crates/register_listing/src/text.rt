@@ -1,5 +1,5 @@
-// The text of a line, byte by byte into a lent buffer. Past its end nothing is written. Each function gives the position
-// after what it wrote.
+// The text of a line, byte by byte into a lent buffer. Past its end nothing is written. Each function gives the
+// position after what it wrote.
 use registers::BLOCK;
 
 pub fn put(out: &mut [u8], at: usize, byte: u8) -> usize {

@@ -1,4 +1,5 @@
--- The bytes of a block: what stores and an accepted command leave of pending, of the line, and of the reply. Assumes nothing.
+-- The bytes of a block: what stores and an accepted command leave of pending, of the line, and of the reply. Assumes
+-- nothing.
 use Prim.Native.Nat.{ℕ, zero, suc, _+_, _/_, _%_, _^_, _≤_, _<_}
 use mathlib.Core.Path.{_≡_, refl, sym, ap, ap₂, subst, _∙_}
 use mathlib.Core.Bool.{Bool, true, false, cond, not, _&&_, _||_, and-true, or-false}

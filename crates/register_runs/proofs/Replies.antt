@@ -1,4 +1,5 @@
--- What every answer of the arbiter has: masks that four bytes hold, and a refusal that is its number alone. Assumes nothing.
+-- What every answer of the arbiter has: masks that four bytes hold, and a refusal that is its number alone. Assumes
+-- nothing.
 use Prim.Native.Nat.{ℕ, _^_, _<_}
 use mathlib.Core.Path.{_≡_, refl}
 use mathlib.Core.Bool.{Bool, true, false, cond, true≢false}

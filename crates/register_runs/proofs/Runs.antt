@@ -1,4 +1,5 @@
--- Every run of reads, writes and direct calls from a block of zeros: what is pending, the line, and the calls. Assumes nothing.
+-- Every run of reads, writes and direct calls from a block of zeros: what is pending, the line, and the calls. Assumes
+-- nothing.
 use Prim.Native.Nat.{ℕ, suc, _+_, _/_, _%_, _<_}
 use mathlib.Core.Path.{_≡_, refl, sym, ap, ap₂, subst, _∙_}
 use mathlib.Core.Bool.{Bool, true, false, cond, not, _&&_, _||_, and-true, or-false, or-true, true≢false}

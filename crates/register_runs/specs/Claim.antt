@@ -17,14 +17,14 @@ use Rattle.register_runs.specs.Steps.{Step, Device, freshDevice, after, 
 abbrev pub bytesAfter : Board → List Step → List ℕ
 bytesAfter b steps = after b freshDevice steps .block .bytes
 
--- Clause 10.12: a processor's bit is pending exactly where a command granted the processor and no one was written to the
--- bit since.
+-- Clause 10.12: a processor's bit is pending exactly where a command granted the processor and no one was written to
+-- the bit since.
 abbrev pub PendingAreGrants : Board → List Step → Type 0
 PendingAreGrants b steps =
     (p : ℕ) → p < 32 → bit (pendingIn (bytesAfter b steps)) p ≡ unanswered b freshDevice false steps p
 
--- Clause 10.12: whatever comes before and after a command that grants a processor, its bit is pending as long as none of
--- the steps after it writes a one there.
+-- Clause 10.12: whatever comes before and after a command that grants a processor, its bit is pending as long as none
+-- of the steps after it writes a one there.
 abbrev pub GrantStays : Board → List Step → Step → List Step → Type 0
 GrantStays b before command later =
     (p : ℕ) → p < 32 → grants b (after b freshDevice before) command p ≡ true

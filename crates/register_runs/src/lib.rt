@@ -1,2 +1,2 @@
-// Runs of reads, writes and direct calls on a register block, and what holds after each. No code: definitions in specs/,
-// theorems in proofs/.
+// Runs of reads, writes and direct calls on a register block, and what holds after each. No code: definitions in
+// specs/, theorems in proofs/.

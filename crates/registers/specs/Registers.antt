@@ -17,9 +17,9 @@ use Rattle.registers.specs.declared.ReadAnswer.{ReadAnswer}
 abbrev between : ℕ → ℕ → ℕ → Bool
 between first last offset = leb first offset && leb offset last
 
--- Clause 10.2: 0 is the command; 1 the processor, 2 the entry and 4 to 8 the tick are its arguments; 3 the last refusal,
--- 9 late, 12 to 15 granted and 16 to 19 entitled are its answer; 20 to 23 are pending, 24 to 27 enabled, 28 the line. No
--- other offset is listed.
+-- Clause 10.2: 0 is the command; 1 the processor, 2 the entry and 4 to 8 the tick are its arguments; 3 the last
+-- refusal, 9 late, 12 to 15 granted and 16 to 19 entitled are its answer; 20 to 23 are pending, 24 to 27 enabled, 28
+-- the line. No other offset is listed.
 unfoldable pub registerAt : ℕ → Register
 registerAt offset =
     cond (eqb offset 0) Command

@@ -1,4 +1,5 @@
--- The loop over a block's records: what holds before each, that a turn keeps it, and what it gives at the end. Assumes nothing.
+-- The loop over a block's records: what holds before each, that a turn keeps it, and what it gives at the end. Assumes
+-- nothing.
 use Prim.Native.Nat.{ℕ, suc, _+_, _-_, _*_, _≤_, _<_}
 use mathlib.Core.Path.{_≡_, refl, ap, sym, _∙_}
 use mathlib.Core.Bool.{Bool, true, false, cond, not, _&&_}
@@ -25,8 +26,8 @@ use Rattle.replay.specs.Blocks.{Ran, ran, ranBlock}
 use Rattle.replay.proofs.Records.{step, step-room, front, remaining, step-then-more}
 use Rattle.replay.proofs.Turns.{over-over}
 
--- Before a record, or after one that ended the replay: what is left from the state st and the bytes behind the calls so far
--- still gives the whole block.
+-- Before a record, or after one that ended the replay: what is left from the state st and the bytes behind the calls so
+-- far still gives the whole block.
 pub record Leaves (whole : Ran) (b : Board) (due : ℕ) (s out₀ : List ℕ) (st : State) (calls at : ℕ) (ended : Bool) (out : List ℕ) : Type 0 where
   pub some : calls ≤ due
   pub room : ended ≡ false → at ≤ lineRoom * calls

@@ -1,5 +1,5 @@
--- The first record of some bytes: what it adds to a listing, that it is one step and then the rest, and that its line has
--- room. Assumes nothing.
+-- The first record of some bytes: what it adds to a listing, that it is one step and then the rest, and that its line
+-- has room. Assumes nothing.
 use Prim.Native.Nat.{ℕ, suc, _+_, _≤_}
 use mathlib.Core.Path.{_≡_, refl}
 use mathlib.Core.Bool.{Bool, true, false, cond, not}

@@ -22,8 +22,8 @@ ghost use Rattle.budgets.specs.Budgets.{lineRoom};
 ghost use Rattle.replay.specs.Blocks.{ran, budget, ranBlock};
 ghost use Rattle.replay.specs.inner.Parts.{ranBy};
 
-// What some records did beside the arrays of the state: the moment after them, how many calls were carried out, how many
-// bytes their lines took, and whether a refusal ended the replay.
+// What some records did beside the arrays of the state: the moment after them, how many calls were carried out, how
+// many bytes their lines took, and whether a refusal ended the replay.
 struct Progress {
     moment: Moment,
     calls: u16,

@@ -1,5 +1,5 @@
--- The halves of a handover that is not refused: neither is refused, on any state value. So 13 is never due for its issue. Assumes
--- nothing.
+-- The halves of a handover that is not refused: neither is refused, on any state value. So 13 is never due for its
+-- issue. Assumes nothing.
 use mathlib.Core.Path.{_≡_, refl, sym, ap, ap₂, _∙_}
 use mathlib.Core.Bool.{Bool, true, false, cond, not, _&&_, _||_, false≢true, and-false}
 use mathlib.Core.List.{List}

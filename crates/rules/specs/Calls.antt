@@ -122,8 +122,8 @@ both first second =
       state = second .state;
     }
 
--- Clause 4.4: hand over: processor p gives its request back and asks for entry e, at one tick t, as a completion and then
--- an issue would. All requests are settled after each.
+-- Clause 4.4: hand over: processor p gives its request back and asks for entry e, at one tick t, as a completion and
+-- then an issue would. All requests are settled after each.
 unfoldable pub handedOver : Board → State → ℕ → ℕ → ℕ → Answer
 handedOver b s p e t =
     ruled (handoverFault (b .terms) (s .last) (phasesOf b s) p e t) s

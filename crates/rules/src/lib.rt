@@ -1,5 +1,5 @@
-// The rules of the calls on whole states, as definitions (specs/): what an accepted call changes and answers, and what a
-// refused one does. The crates above carry them out.
+// The rules of the calls on whole states, as definitions (specs/): what an accepted call changes and answers, and what
+// a refused one does. The crates above carry them out.
 use calls::Reply;
 use states::Moment;
 

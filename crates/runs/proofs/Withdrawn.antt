@@ -1,5 +1,5 @@
--- A request that leaves the line, counted: the withdrawal is its end, up to there it has waited, and what its processor is
--- granted later is not its own. One run of plan F, request by request. Assumes nothing.
+-- A request that leaves the line, counted: the withdrawal is its end, up to there it has waited, and what its processor
+-- is granted later is not its own. One run of plan F, request by request. Assumes nothing.
 use Prim.Native.Nat.{ℕ}
 use mathlib.Core.Path.{_≡_, refl}
 use mathlib.Core.List.{List, [], _∷_, map}
@@ -18,7 +18,8 @@ use Rattle.runs.specs.History.{When, never, at, Request, History, allAct
 use Rattle.runs.specs.Claim.{historyOf}
 use Rattle.runs.proofs.PlanF.{planF, read, write}
 
--- Processor 0 writes resource 2. Processor 1 asks to write it, leaves the line, and asks to read it: it holds when 0 is done.
+-- Processor 0 writes resource 2. Processor 1 asks to write it, leaves the line, and asks to read it: it holds when 0 is
+-- done.
 unfoldable pub calls : List Call
 calls =
     Call.Issue 0 0 0 ∷ Call.Issue 1 0 1 ∷ Call.Withdraw 1 5 ∷ Call.Issue 1 4 6 ∷ Call.Withdraw 0 7 ∷ Call.Complete 0 8 ∷ []

@@ -1,5 +1,5 @@
--- Settling moves requests from phase to phase and leaves who is active, so one mask of the active writes serves all four
--- steps. Assumes nothing.
+-- Settling moves requests from phase to phase and leaves who is active, so one mask of the active writes serves all
+-- four steps. Assumes nothing.
 use mathlib.Core.Path.{_≡_, refl, ap, ap₂, _∙_}
 use mathlib.Core.Bool.{Bool, true, false, not, _&&_, _||_, false≢true, and-true, or-true, or-false}
 use Prim.Native.Nat.{ℕ, _<_}

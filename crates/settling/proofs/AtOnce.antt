@@ -13,8 +13,8 @@ use Rattle.settling.specs.Requests.{Facts, isWriter, conflicts, against,
 use Rattle.settling.specs.Settling.{hold, test1, step1, step2, step3, step4, settled, holdsAtOnce, admitted}
 use Rattle.settling.specs.declared.Phases.{Phases}
 
--- Of a processor: w, e and h are its bits in the three phases, t whether it was let to hold, r whether its request is a read,
--- a and b whether an entitled and a holding write is against it.
+-- Of a processor: w, e and h are its bits in the three phases, t whether it was let to hold, r whether its request is a
+-- read, a and b whether an entitled and a holding write is against it.
 module _ (w e h t r a b : Bool) where
   abbrev passes : Bool
   passes = (e && r || w && r && not a) && not b

@@ -1,5 +1,5 @@
--- The processors whose requests' entries have a row: masks of them alone, and that the others play no part in the steps.
--- Assumes nothing.
+-- The processors whose requests' entries have a row: masks of them alone, and that the others play no part in the
+-- steps. Assumes nothing.
 use mathlib.Core.Path.{_≡_, refl, sym, ap, ap₂, _∙_}
 use mathlib.Core.Bool.{Bool, true, false, not, _&&_, _||_, and-true, and-false}
 use mathlib.Core.List.{List}

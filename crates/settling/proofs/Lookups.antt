@@ -1,5 +1,5 @@
--- What the walks of `opposition` find for known processors: they take entries modulo the number of rows, and the entry of
--- a known processor is below it. Assumes nothing.
+-- What the walks of `opposition` find for known processors: they take entries modulo the number of rows, and the entry
+-- of a known processor is below it. Assumes nothing.
 use mathlib.Core.Path.{_≡_, refl, ap, ap₂, _∙_}
 use mathlib.Core.Bool.{Bool, true, false, not, _&&_}
 use mathlib.Core.List.{List}

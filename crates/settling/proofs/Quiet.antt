@@ -1,5 +1,5 @@
--- Places past the processors that there are play no part, and where no request is waiting or entitled there is nothing to
--- settle. Assumes nothing.
+-- Places past the processors that there are play no part, and where no request is waiting or entitled there is nothing
+-- to settle. Assumes nothing.
 use mathlib.Core.Path.{_≡_, refl, sym, _∙_}
 use Prim.Native.Nat.{ℕ, _-_, _^_}
 use lib.Bits.{bitAnd, bitOr, or-zero-r}

@@ -25,8 +25,8 @@ entitle ph test =
       holding = ph .holding;
     }
 
--- Clause 5.3, step 1: a read begins to hold where no write that holds conflicts, if it is entitled, or if it waits and no
--- entitled write conflicts either.
+-- Clause 5.3, step 1: a read begins to hold where no write that holds conflicts, if it is entitled, or if it waits and
+-- no entitled write conflicts either.
 unfoldable pub test1 : Facts → Phases → ℕ → Bool
 test1 f ph p =
     (entitledRead f ph p || (waitingRead f ph p && not (against f p (entitledWrite f ph))))

@@ -1,4 +1,5 @@
--- The conflict over a set of shared resources, and that there is one exactly where the set is not empty. Assumes nothing.
+-- The conflict over a set of shared resources, and that there is one exactly where the set is not empty. Assumes
+-- nothing.
 use Prim.Native.Nat.{ℕ, _^_, _<_}
 use mathlib.Core.Path.{_≡_, refl, sym, ap, _∙_}
 use mathlib.Core.Bool.{Bool, true, false, cond, not}

@@ -1,5 +1,5 @@
-// What two entries conflict over: the lowest-numbered resource that they share, and how many. `conflicts` asks it of all
-// pairs of a plan, and `contention` of two entries of a board. Specification, clauses 3.2 and 3.4.
+// What two entries conflict over: the lowest-numbered resource that they share, and how many. `conflicts` asks it of
+// all pairs of a plan, and `contention` of two entries of a board. Specification, clauses 3.2 and 3.4.
 use plans::Entry;
 use plans::is_read;
 use plans::is_write;

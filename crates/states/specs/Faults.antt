@@ -1,5 +1,5 @@
--- When a call is refused, and by which number: 10 to 15, and 17. The phases are of the requests that count. Specification,
--- section 4.
+-- When a call is refused, and by which number: 10 to 15, and 17. The phases are of the requests that count.
+-- Specification, section 4.
 use Prim.Native.Nat.{ℕ}
 use mathlib.Core.Bool.{not, _&&_}
 use lib.Dec.{leb, ltb}
@@ -24,8 +24,8 @@ issueFault terms last ph p e t =
     firstOf (tickFault last t)
     (firstOf (processorFault terms p) (firstOf (due (ltb e (terms .count)) 12) (due (not (active ph p)) 13)))
 
--- Clauses 4.5 and 8.2: a call that takes p's request out, by 10, 11, then 14 for no active request of p; then what is due
--- for the phase that the request is in.
+-- Clauses 4.5 and 8.2: a call that takes p's request out, by 10, 11, then 14 for no active request of p; then what is
+-- due for the phase that the request is in.
 abbrev pub takeFault : Terms → ℕ → Phases → ℕ → ℕ → ℕ → ℕ
 takeFault terms last ph p t phaseFault =
     firstOf (tickFault last t) (firstOf (processorFault terms p) (firstOf (due (active ph p) 14) phaseFault))

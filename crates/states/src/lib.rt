@@ -13,8 +13,8 @@ pub struct Terms {
     pub writes: u64,
 }
 
-// What the calls and queries go by. Made from a plan: its terms, the entries' lengths, names and widened sets, and which
-// entries conflict.
+// What the calls and queries go by. Made from a plan: its terms, the entries' lengths, names and widened sets, and
+// which entries conflict.
 pub struct Board {
     pub terms: Terms,
     pub lengths: [u16; ENTRIES],

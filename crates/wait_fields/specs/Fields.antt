@@ -16,8 +16,8 @@ stateIn ph p = cond (bit (ph .holding) p) 3 (cond (bit (ph .entitled) p) 2 (cond
 unfoldable pub entryIn : Phases → List ℕ → ℕ → ℕ
 entryIn ph entry p = cond (active ph p) (getD entry p 0) 255
 
--- Clauses 7.8 and 4.10: the ticks that p has waited: from the issue's to the last accepted one, at most
--- 4,294,967,295; 0 where that would run backwards, and 0 unless p's request is unsatisfied. Of one that is, the state has
--- the issue's tick.
+-- Clauses 7.8 and 4.10: the ticks that p has waited: from the issue's to the last accepted one, at most 4,294,967,295;
+-- 0 where that would run backwards, and 0 unless p's request is unsatisfied. Of one that is, the state has the issue's
+-- tick.
 unfoldable pub waitedIn : Phases → ℕ → List ℕ → ℕ → ℕ
 waitedIn ph last since p = cond (unsatisfied ph p) (min 4294967295 (last - getD since p 0)) 0

@@ -1,4 +1,5 @@
--- Runs of stores: of a part's bytes, of one part more, and of the whole list; and what is answered then. Assumes nothing.
+-- Runs of stores: of a part's bytes, of one part more, and of the whole list; and what is answered then. Assumes
+-- nothing.
 use Prim.Native.Nat.{ℕ, suc, _+_, _*_, _/_, _%_, _≤_, _<_}
 use mathlib.Core.Path.{_≡_, refl, sym, ap, _∙_}
 use mathlib.Core.List.{List, _∷_, _++_}

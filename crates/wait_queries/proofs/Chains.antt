@@ -1,5 +1,5 @@
--- A chain of direct waits, however long, can be had with as many waits as a state holds processors: to reach is to have a
--- chain, on every board and state. Assumes nothing.
+-- A chain of direct waits, however long, can be had with as many waits as a state holds processors: to reach is to have
+-- a chain, on every board and state. Assumes nothing.
 use Prim.Native.Nat.{ℕ, zero, suc, _≤_}
 use mathlib.Core.Path.{_≡_, refl, subst}
 use mathlib.Core.Bool.{Bool, true, false, _&&_, false≢true}

@@ -1,5 +1,5 @@
--- What is written block by block is what the bytes of all blocks give: a block's lines have room, and a block that carries
--- no call out is the last. Assumes nothing.
+-- What is written block by block is what the bytes of all blocks give: a block's lines have room, and a block that
+-- carries no call out is the last. Assumes nothing.
 use Prim.Native.Nat.{ℕ, zero, suc, _-_, _*_, _/_, _≤_, _<_, min}
 use mathlib.Core.Path.{_≡_, refl, ap, sym, _∙_}
 use mathlib.Core.Bool.{Bool, true, false, cond}

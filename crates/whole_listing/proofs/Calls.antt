@@ -119,8 +119,8 @@ records-in-front b (suc k) st s t h =
     let later : 8 * k ≤ length (drop 8 s) = simp length-drop (omega arith) in
     rw (fault-in-front s t one, fields-in-front s t one, drop-append-le 8 s t one, records-in-front b k (stateIn b st s) (drop 8 s) t later)
 
--- Of the bytes s that came, and t that are still to come, the lines of the records in s, and then those of what is left of s
--- with t.
+-- Of the bytes s that came, and t that are still to come, the lines of the records in s, and then those of what is left
+-- of s with t.
 pub piece-then-rest : (closed : Bool) (b : Board) (k n : ℕ) (st : State) (s t : List ℕ) → k ≤ n → recordSize * k ≤ length s
     → callsBy closed b st n (s ++ t) ≡ goingOn (ran b st k s) (λ st′. callsBy closed b st′ (n - k) (drop (recordSize * k) s ++ t))
 piece-then-rest closed b k n st s t h w =
@@ -132,7 +132,8 @@ piece-then-rest closed b k n st s t h w =
 pub record-due : (n : ℕ) → dueSize (suc n) ≡ recordSize
 record-due n = rw (ne-eqb (suc n) 0 (λ e. omega arith))
 
--- With fewer bytes than are waited for: at the end of the input the line that ends the listing, if any, and else nothing.
+-- With fewer bytes than are waited for: at the end of the input the line that ends the listing, if any, and else
+-- nothing.
 pub end-of-input : (b : Board) (n : ℕ) (st : State) (s : List ℕ) → length s < dueSize n → callsBy true b st n s ≡ endLine n s
 unfolding callsBy endFault recordFault
 end-of-input b zero st s h = refl

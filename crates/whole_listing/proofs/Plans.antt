@@ -1,4 +1,5 @@
--- A plan that is not short is decided: bytes behind it change nothing, and a full buffer is never short. Assumes nothing.
+-- A plan that is not short is decided: bytes behind it change nothing, and a full buffer is never short. Assumes
+-- nothing.
 use Prim.Native.Nat.{ℕ, zero, suc, _*_, _^_, _≤_, _<_}
 use mathlib.Core.Path.{_≡_, refl, ap, sym, _∙_}
 use mathlib.Core.Bool.{Bool, true, false, cond, not, _&&_, _||_}

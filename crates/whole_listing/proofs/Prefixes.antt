@@ -1,5 +1,5 @@
--- What is written before a piece arrives stays at the front of what is written after it: it hangs on earlier pieces alone.
--- Assumes nothing.
+-- What is written before a piece arrives stays at the front of what is written after it: it hangs on earlier pieces
+-- alone. Assumes nothing.
 use Prim.Native.Nat.{ℕ, zero, suc, _≤_, _<_}
 use mathlib.Core.Path.{_≡_, refl, ap, sym, _∙_}
 use mathlib.Core.Bool.{Bool, true, false, cond, not}

@@ -1,5 +1,5 @@
--- What `lockreplay` writes for an input that arrives in pieces: the listing of the pieces together, and before the input
--- ends the lines that they decide. Assumes nothing.
+-- What `lockreplay` writes for an input that arrives in pieces: the listing of the pieces together, and before the
+-- input ends the lines that they decide. Assumes nothing.
 use Prim.Native.Nat.{ℕ, suc, _≤_, _<_}
 use mathlib.Core.Path.{_≡_, refl, ap, sym, _∙_}
 use mathlib.Core.Bool.{Bool, true, false, cond, not, _||_}
@@ -179,6 +179,7 @@ program-lists closed pieces =
 pub program-writes-listing : (pieces : List (List ℕ)) → programListing true pieces ≡ listingOf (together pieces)
 program-writes-listing pieces = program-lists true pieces ∙ closed-listing (together pieces)
 
--- Before the input ends, or where a read fails, the lines that the pieces so far decide are written, all of them and no other.
+-- Before the input ends, or where a read fails, the lines that the pieces so far decide are written, all of them and no
+-- other.
 pub program-writes-so-far : (pieces : List (List ℕ)) → programListing false pieces ≡ listingSoFar (together pieces)
 program-writes-so-far pieces = program-lists false pieces ∙ open-listing (together pieces)

@@ -1,4 +1,5 @@
--- Every line has room in the program's buffer for lines, so that what is shown of the buffer is the line. Assumes nothing.
+-- Every line has room in the program's buffer for lines, so that what is shown of the buffer is the line. Assumes
+-- nothing.
 use Prim.Native.Nat.{ℕ, _+_, _≤_}
 use mathlib.Core.Path.{_≡_}
 use mathlib.Core.Bool.{Bool, true, false, cond}

@@ -1,4 +1,5 @@
--- Reading in pieces: nothing is lost, the buffer holds what is read, and too few bytes are the end of the input. Assumes nothing.
+-- Reading in pieces: nothing is lost, the buffer holds what is read, and too few bytes are the end of the input.
+-- Assumes nothing.
 use Prim.Native.Nat.{ℕ, zero, suc, _+_, _-_, _≤_, _<_}
 use mathlib.Core.Path.{_≡_, refl, ap, sym, _∙_}
 use mathlib.Core.Bool.{Bool, true, false, cond, _||_}
@@ -41,8 +42,8 @@ no-clash : {A : Type 0} → (t : Bool) → t ≡ true → t ≡ false → A
 no-clash true e f = absurd (let z : _≡_ {A = ℕ} 0 1 = cc in omega arith)
 no-clash false e f = absurd (let z : _≡_ {A = ℕ} 0 1 = cc in omega arith)
 
--- What some reads leave: the bytes at hand and those to come are the same as before, the buffer holds the bytes, and where
--- they are not enough the input has ended.
+-- What some reads leave: the bytes at hand and those to come are the same as before, the buffer holds the bytes, and
+-- where they are not enough the input has ended.
 pub record Fed (room : ℕ) (enough : List ℕ → Bool) (s : List ℕ) (t : List (List ℕ)) (a : Arrived) : Type 0 where
   pub whole : a .bytes ++ together (a .later) ≡ s ++ together t
   pub holds : length (a .bytes) ≤ room
@@ -94,8 +95,8 @@ module _ (room : ℕ) (enough : List ℕ → Bool) (full : (s : List ℕ) → ro
   pub fed-until-enough : (s : List ℕ) (t : List (List ℕ)) → length s ≤ room → Fed room enough s t (fed room enough s t)
   fed-until-enough s t fits = turns-enough room s t fits (inl (omega arith))
 
--- What is written after a wait is what the bytes at hand and to come give: where they are enough; where the input ended; and
--- nothing where the wait goes on.
+-- What is written after a wait is what the bytes at hand and to come give: where they are enough; where the input
+-- ended; and nothing where the wait goes on.
 pub after-wait : (closed : Bool) (enough : List ℕ → Bool) (a : Arrived) (next : List ℕ → List (List ℕ) → List ℕ) (gives : List ℕ)
     → (enough (a .bytes) ≡ true → next (a .bytes) (a .later) ≡ gives)
     → (closed ≡ true → enough (a .bytes) ≡ false → next (a .bytes) (a .later) ≡ gives)

@@ -1,5 +1,5 @@
-// Widened sets: what a write holds against other writes, its names and those of the reads that share a resource with it.
-// Specification, clause 3.1.
+// Widened sets: what a write holds against other writes, its names and those of the reads that share a resource with
+// it. Specification, clause 3.1.
 use masks::meet64;
 use plans::Entry;
 use plans::Plan;

@@ -1,5 +1,5 @@
-// A withdrawal, carried out on the arrays of a state that the caller lends: no copies. It is checked; then the request is
-// taken out, and the answer has who began to hold and who became entitled. Specification, clauses 4.4 to 4.10.
+// A withdrawal, carried out on the arrays of a state that the caller lends: no copies. It is checked; then the request
+// is taken out, and the answer has who began to hold and who became entitled. Specification, clauses 4.4 to 4.10.
 use acts::leave;
 use answers::accepted;
 use answers::refused;

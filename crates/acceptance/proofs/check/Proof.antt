@@ -1,4 +1,5 @@
--- `check` meets its contract: the fault of the counts, and where there is none, that of the counted entries. Assumes nothing.
+-- `check` meets its contract: the fault of the counts, and where there is none, that of the counted entries. Assumes
+-- nothing.
 use mathlib.Core.Path.{sym, ap, _∙_}
 use borrow.Author.Needs.{needs}
 use Rattle.refusals.specs.Number.{verdictNumber}

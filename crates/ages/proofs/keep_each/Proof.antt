@@ -1,5 +1,5 @@
--- `keep_each` meets its contract. The loop's invariant: the sets before q are changed. The measure is how many are left.
--- Assumes nothing.
+-- `keep_each` meets its contract. The loop's invariant: the sets before q are changed. The measure is how many are
+-- left. Assumes nothing.
 use Prim.Native.Nat.{_-_}
 use native.Mathlib.Omega.{arith}
 use lib.Bits.{bitAnd}

@@ -1,4 +1,5 @@
--- `put_last` meets its contract: the new request's place is out of every set, and its own set is who is active. Assumes nothing.
+-- `put_last` meets its contract: the new request's place is out of every set, and its own set is who is active. Assumes
+-- nothing.
 use borrow.Author.Needs.{needs}
 use Rattle.ages.proofs.Ages.{all-but-none, last-put, none-put}
 use Rattle.ages.proofs.put_last.Statement.{statement}

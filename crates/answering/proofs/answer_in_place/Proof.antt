@@ -1,4 +1,5 @@
--- `answer_in_place` meets its contract: a call is of one kind, and only a completion and a handover read a length. Assumes nothing.
+-- `answer_in_place` meets its contract: a call is of one kind, and only a completion and a handover read a length.
+-- Assumes nothing.
 use mathlib.Core.Path.{sym, ap, _∙_}
 use borrow.Author.Needs.{needs}
 use Rattle.rules.specs.Calls.{putState, takenState, settledDone, left, issued, withdrawn, answered}

@@ -1,4 +1,5 @@
--- `finish` meets its contract: the reply in numbers; the moment is stored where the call was carried out. Assumes nothing.
+-- `finish` meets its contract: the reply in numbers; the moment is stored where the call was carried out. Assumes
+-- nothing.
 use mathlib.Core.Path.{refl}
 use borrow.Author.Needs.{needs}
 use Rattle.c_replies.proofs.finish.Statement.{statement}

@@ -1,5 +1,5 @@
--- `row` meets its contract. The loop's invariant: the set so far is that of the entries below j that entry i conflicts with.
--- The measure is how many columns are left. Assumes nothing.
+-- `row` meets its contract. The loop's invariant: the set so far is that of the entries below j that entry i conflicts
+-- with. The measure is how many columns are left. Assumes nothing.
 use Prim.Native.Nat.{_≤_, _-_}
 use mathlib.Core.Path.{_≡_, refl}
 use native.Mathlib.Omega.{arith}

@@ -1,5 +1,5 @@
--- `read_number` gives the number of the first eight bytes. The invariant: the sum is the number of the last `done` of them.
--- The measure is how many are left. Assumes nothing.
+-- `read_number` gives the number of the first eight bytes. The invariant: the sum is the number of the last `done` of
+-- them. The measure is how many are left. Assumes nothing.
 use Prim.Native.Nat.{_-_}
 use native.Mathlib.Omega.{arith}
 use borrow.Author.Needs.{needs}

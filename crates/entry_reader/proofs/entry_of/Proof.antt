@@ -1,4 +1,5 @@
--- `entry_of` gives the entry of the first 11 bytes: the set and the length are the numbers of their parts. Assumes nothing.
+-- `entry_of` gives the entry of the first 11 bytes: the set and the length are the numbers of their parts. Assumes
+-- nothing.
 use native.Mathlib.Omega.{arith}
 use lib.ListN.{drop}
 use Rattle.encoding.proofs.Numbers.{part-below}

@@ -1,4 +1,5 @@
--- `figures_of` meets its contract: the two longest are those of the counted entries, and the figures fit. Assumes nothing.
+-- `figures_of` meets its contract: the two longest are those of the counted entries, and the figures fit. Assumes
+-- nothing.
 use Prim.Native.Nat.{ℕ, _*_, _^_, _<_, _≤_, min}
 use native.Mathlib.Nat.{mul-le-mul}
 use native.Mathlib.Omega.{arith}

@@ -1,5 +1,5 @@
--- `handover_in_place` meets its contract, put together from its parts: the first half is the completion, and the second is
--- the issue on the state that it left, which is not refused. Assumes nothing.
+-- `handover_in_place` meets its contract, put together from its parts: the first half is the completion, and the second
+-- is the issue on the state that it left, which is not refused. Assumes nothing.
 use mathlib.Core.Path.{_∙_}
 use Prim.Native.Nat.{_<_}
 use borrow.Author.Needs.{needs}

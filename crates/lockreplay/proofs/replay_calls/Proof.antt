@@ -1,4 +1,5 @@
--- `lockreplay::replay_calls` lends parts that are there, and ends: a block that carries no call out is the last. Assumes nothing.
+-- `lockreplay::replay_calls` lends parts that are there, and ends: a block that carries no call out is the last.
+-- Assumes nothing.
 use Prim.Native.Nat.{_≤_}
 use mathlib.Core.Path.{_≡_, refl, sym, _∙_}
 use native.Mathlib.Omega.{arith}

@@ -1,5 +1,5 @@
--- `masks::has64` meets its contract: below 64 the test is the definition, and past it no set of 64 places has the place.
--- Assumes nothing.
+-- `masks::has64` meets its contract: below 64 the test is the definition, and past it no set of 64 places has the
+-- place. Assumes nothing.
 use mathlib.Core.Path.{refl, sym}
 use Rattle.masks.specs.Sets.{bit}
 use Rattle.masks.proofs.Places.{bit-past}

@@ -1,4 +1,5 @@
--- `write_word` meets its contract. The invariant: storing what is left of the word from here on gives the whole. Assumes nothing.
+-- `write_word` meets its contract. The invariant: storing what is left of the word from here on gives the whole.
+-- Assumes nothing.
 use Prim.Native.Nat.{_+_, _-_, _≤_}
 use native.Mathlib.Numerals.{unary-clauses}
 use native.Mathlib.Omega.{arith}

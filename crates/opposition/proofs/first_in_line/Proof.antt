@@ -1,5 +1,5 @@
--- `first_in_line` meets its contract, by the walk that keeps the candidates whose row has no entry of those before them.
--- Assumes nothing.
+-- `first_in_line` meets its contract, by the walk that keeps the candidates whose row has no entry of those before
+-- them. Assumes nothing.
 use mathlib.Core.Path.{_≡_, ap, _∙_}
 use mathlib.Core.Bool.{Bool, cond, not}
 use mathlib.Core.List.{List}

@@ -1,4 +1,5 @@
--- `in_row` meets its contract, by the search that stops at the first processor whose entry is in the row. Assumes nothing.
+-- `in_row` meets its contract, by the search that stops at the first processor whose entry is in the row. Assumes
+-- nothing.
 use native.Mathlib.Omega.{arith}
 use borrow.Author.Tests.{eq-eqb, ne-eqb}
 use borrow.Author.Needs.{needs}

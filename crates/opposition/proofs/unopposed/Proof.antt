@@ -1,5 +1,5 @@
--- `unopposed` meets its contract: with no others nobody is opposed, and a row meets the set of the others' entries exactly
--- if one of them is in it. Assumes nothing.
+-- `unopposed` meets its contract: with no others nobody is opposed, and a row meets the set of the others' entries
+-- exactly if one of them is in it. Assumes nothing.
 use mathlib.Core.Path.{_≡_, sym, ap, _∙_}
 use mathlib.Core.Bool.{not, _&&_, and-true}
 use mathlib.Core.List.{List}

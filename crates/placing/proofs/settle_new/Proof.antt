@@ -1,4 +1,5 @@
--- `settle_new` meets its contract: on an idle board by the law of a request alone, elsewhere by its parts. Assumes nothing.
+-- `settle_new` meets its contract: on an idle board by the law of a request alone, elsewhere by its parts. Assumes
+-- nothing.
 use mathlib.Core.Path.{ap, _∙_}
 use lib.Dec.{ltb}
 use borrow.Author.Needs.{needs}

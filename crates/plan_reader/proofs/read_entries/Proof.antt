@@ -1,5 +1,5 @@
--- `read_entries` reads the entries and stops at the first fault. The invariant is `SoFar`, the measure how many are left.
--- Assumes nothing.
+-- `read_entries` reads the entries and stops at the first fault. The invariant is `SoFar`, the measure how many are
+-- left. Assumes nothing.
 use Prim.Native.Nat.{_-_}
 use native.Mathlib.Omega.{arith}
 use borrow.Author.Needs.{needs}

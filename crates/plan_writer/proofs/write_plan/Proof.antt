@@ -1,4 +1,5 @@
--- `write_plan` meets its contract: three stores, then the section into the rest of the buffer, which comes back. Assumes nothing.
+-- `write_plan` meets its contract: three stores, then the section into the rest of the buffer, which comes back.
+-- Assumes nothing.
 use native.Mathlib.Omega.{arith}
 use mathlib.Core.Path.{_∙_}
 use lib.ListN.{length-set, length-take, length-drop}

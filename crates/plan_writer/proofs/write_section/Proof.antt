@@ -1,5 +1,5 @@
--- `write_section` meets its contract. The invariant: storing the entries that are left from here on gives the whole section.
--- Assumes nothing.
+-- `write_section` meets its contract. The invariant: storing the entries that are left from here on gives the whole
+-- section. Assumes nothing.
 use Prim.Native.Nat.{_*_, _-_, _≤_}
 use native.Mathlib.Omega.{arith}
 use mathlib.Core.Path.{_≡_, refl, sym, _∙_}

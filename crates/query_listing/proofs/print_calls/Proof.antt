@@ -1,4 +1,5 @@
--- `query_listing::print_calls` lends parts that are there, and ends: a call is left and each turn takes one. Assumes nothing.
+-- `query_listing::print_calls` lends parts that are there, and ends: a call is left and each turn takes one. Assumes
+-- nothing.
 use mathlib.Core.Path.{_≡_, refl, sym, _∙_}
 use mathlib.Core.Bool.{Bool, true, false, _||_}
 use native.Mathlib.Omega.{arith}

@@ -1,5 +1,5 @@
--- `read_register` meets its contract: a walk of its MIR, by hand. The borrow is looked into for the block, which is copied, and shut again; the copy goes to `read`.
--- All that the proof knows of `read` is that it meets its contract.
+-- `read_register` meets its contract: a walk of its MIR, by hand. The borrow is looked into for the block, which is
+-- copied, and shut again; the copy goes to `read`. All that the proof knows of `read` is that it meets its contract.
 -- Assumes nothing.
 use mathlib.Core.Path.{_≡_, refl}
 use Prim.Native.Nat.{ℕ, _<_, _^_}
@@ -104,7 +104,8 @@ module _ {M : Type 1} (𝓤 : URA M) (H : Heap 𝓤) (A : Atoms 𝓤) (W : Given
         looks ! tt T.the-row (Is T.the-row) (shows 𝓤 H A T.the-row) (LL.vals T.the-type T′.the-laws) (LL.tells T.the-type T′.the-laws) (LL.copy T.the-type T′.the-copy 𝓤 H A W) h b o (λ q′ vs.
         spelt ! T.the-row (Is T.the-row) (shows 𝓤 H A T.the-row) (LL.vals T.the-type T′.the-laws) (LL.tells T.the-type T′.the-laws) q′ h vs b o $ move ! (1 ∷ []) $
         peeks ! T.the-row (Is T.the-row) (shows 𝓤 H A T.the-row) h (mach ∷ []) (λ g. move ! (1 ∷ 0 ∷ []) $
-        -- [a share of the block's cell; what a block owns; what shuts it; the fractured borrow; true; res; the offset; _3; …; _2; …; _1; …; room for _0; …]
+        -- [a share of the block's cell; what a block owns; what shuts it; the fractured borrow; true; res; the offset;
+        -- _3; …; _2; …; _1; …; room for _0; …]
         assigns ! (of-opd ! (load ! (from ! (hop ! (look ! 11 refl) (stop !))) (look-raw ! 0 refl))) (from ! (stop !)) (init ! 7 refl (LL.lawful T.the-type T′.the-laws 𝓤 H A W .typed h _ g .0)) $
         shuts ! tt T.the-row q′ h (mach ∷ []) b o $
         -- [the token; the fractured borrow; true; res; the offset; _3; …; _2; …; _1; …; room for _0; …]

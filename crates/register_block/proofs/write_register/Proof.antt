@@ -1,6 +1,7 @@
--- `write_register` meets its contract: a walk of its MIR, by hand. The borrow is opened and the block copied; the copy goes to `write`, with the board and the state; the block that it gives is stored behind the borrow, which is closed there, and what it answers is returned.
--- Rows and lengths are lent on: what a `&` owns is had twice, one for the call and one for the exit. All that the proof knows of `write` is that it meets its contract.
--- Assumes nothing.
+-- `write_register` meets its contract: a walk of its MIR, by hand. The borrow is opened and the block copied; the copy
+-- goes to `write`, with the board and the state; the block that it gives is stored behind the borrow, which is closed
+-- there, and what it answers is returned. Rows and lengths are lent on: what a `&` owns is had twice, one for the call
+-- and one for the exit. All that the proof knows of `write` is that it meets its contract. Assumes nothing.
 use mathlib.Core.Path.{_≡_, refl, ap}
 use Prim.Native.Nat.{ℕ, _<_, _^_}
 use mathlib.Core.List.{[], _∷_, List}
@@ -176,13 +177,15 @@ module _ {M : Type 1} (𝓤 : URA M) (H : Heap 𝓤) (A : Atoms 𝓤) (W : Given
           alloc1 ! (λ l₀. alloc1 ! (λ l₁. alloc1 ! (λ l₂. alloc1 ! (λ l₃. alloc1 ! (λ l₄. alloc1 ! (λ l₅. alloc1 ! (λ l₆. alloc1 ! (λ l₇. alloc1 ! (λ l₈. alloc1 ! (λ l₉. alloc0 ! $ params1 ! $
           pass1 ! (init ! 16 refl (tt, tt)) $ pass1 ! (init ! 14 refl (LL.lawful TT.the-type TT′.the-laws 𝓤 H A W .typed terms _ terms-is .0)) $ pass1 ! (init ! 12 refl (tt, tt)) $ pass1 ! (init ! 10 refl (tt, tt)) $
           pass1 ! (init ! 8 refl (LL.lawful ST.the-type ST′.the-laws 𝓤 H A W .typed state _ state-is .0)) $ pass1 ! (init ! 6 refl (tt, record { fits = n-fits })) $ pass1 ! (init ! 4 refl (tt, record { fits = v-fits })) $ pass0 ! $
-          -- of what the parameters own the three references are kept; the plain values are made again where they are asked for
+          -- of what the parameters own the three references are kept; the plain values are made again where they are
+          -- asked for
           move ! (21 ∷ []) $ fsplit ! $ fsplit3 ! $ drop ! $ move ! (2 ∷ []) $ fsplit ! $ drop ! $ fsplit ! $ move ! (1 ∷ []) $ fsplit ! $ move ! (1 ∷ []) $ drop ! $
           -- [the lengths; the rows; obs; the borrow; _9; …; the tokens]
           move ! (24 ∷ []) $ split ! $ move ! (4 ∷ 5 ∷ 0 ∷ []) $
           opens ! tt B.the-row {h = h} b o (λ vs. spelt ! B.the-row (Is B.the-row) (shows 𝓤 H A B.the-row) (LL.vals B.the-type B′.the-laws) (LL.tells B.the-type B′.the-laws) fullShare h vs b o $
           move ! (1 ∷ []) $ peeks ! B.the-row (Is B.the-row) (shows 𝓤 H A B.the-row) h (block-val h ∷ []) (λ g. move ! (1 ∷ 0 ∷ []) $
-          -- [the block's cell; what it owns; the open borrow; obs; auth; the tokens; the lengths; the rows; _9; …; _8; …; _7; …; _6; …; _5; …; _4; …; _3; …; _2; …; _1; …; room for _0; …]
+          -- [the block's cell; what it owns; the open borrow; obs; auth; the tokens; the lengths; the rows; _9; …; _8;
+          -- …; _7; …; _6; …; _5; …; _4; …; _3; …; _2; …; _1; …; room for _0; …]
           assigns ! (of-opd ! (load ! (from ! (hop ! (look ! 24 refl) (stop !))) (look-raw ! 0 refl))) (from ! (stop !)) (init ! 8 refl (LL.lawful B.the-type B′.the-laws 𝓤 H A W .typed h _ g .0)) $
           move ! (7 ∷ []) $ use1 W (‵ (Rows .own rows (ptr-vals rows)) ⊛ ‵ (Rows .own rows (ptr-vals rows))) (shr-copy 𝓤 H A W (named 1) κ₁ (Array u64 64) .twice rows (ptr-vals rows)) $ split ! $
           move ! (8 ∷ []) $ use1 W (‵ (Lengths .own lengths (ptr-vals lengths)) ⊛ ‵ (Lengths .own lengths (ptr-vals lengths))) (shr-copy 𝓤 H A W (named 2) κ₂ (Array u16 64) .twice lengths (ptr-vals lengths)) $ split ! $
@@ -191,7 +194,8 @@ module _ {M : Type 1} (𝓤 : URA M) (H : Heap 𝓤) (A : Atoms 𝓤) (W : Given
           owned ! B.the-row (Is B.the-row) (LL.makes B.the-type B′.the-plain 𝓤 H A) h _ g $ fjoin ! $ owned ! ST.the-row (Is ST.the-row) (LL.makes ST.the-type ST′.the-plain 𝓤 H A) state _ state-is $ fjoin ! $
           move ! (1 ∷ 0 ∷ []) $ fjoin ! $ move ! (2 ∷ 0 ∷ []) $ fjoin ! $ owned ! TT.the-row (Is TT.the-row) (LL.makes TT.the-type TT′.the-plain 𝓤 H A) terms _ terms-is $ fjoin ! $
           move ! (8 ∷ 0 ∷ []) $ use2 W (raw (Write 𝓤 H A at-mem run .pre to-write)) goes-write $
-          -- [what is asked; the lengths; the rows; the block's cell; what it owned; the open borrow; obs; auth; _9; …; _8; …; _7; …; _6; …; _5; …; _4; …; _3; …; _2; …; _1; …; room for _0; …]
+          -- [what is asked; the lengths; the rows; the block's cell; what it owned; the open borrow; obs; auth; _9; …;
+          -- _8; …; _7; …; _6; …; _5; …; _4; …; _3; …; _2; …; _1; …; room for _0; …]
           calls-at ! fm (Write 𝓤 H A at-mem run) known to-write
           (and-then ! (load ! (from ! (stop !)) (look ! 22 refl)) (and-then ! (load ! (from ! (stop !)) (look ! 20 refl)) (and-then ! (load ! (from ! (stop !)) (look ! 18 refl)) (and-then ! (load ! (from ! (stop !)) (look ! 16 refl))
           (and-then ! (load ! (from ! (stop !)) (look ! 8 refl)) (and-then ! (load ! (from ! (stop !)) (look ! 14 refl)) (and-then ! (load ! (from ! (stop !)) (look ! 12 refl)) (no-more !)))))))) (λ u.
@@ -200,13 +204,15 @@ module _ {M : Type 1} (𝓤 : URA M) (H : Heap 𝓤) (A : Atoms 𝓤) (W : Given
           peeks ! D.the-row (Is D.the-row) (shows 𝓤 H A D.the-row) r (u ∷ []) (λ is.
           land ! (from ! (stop !)) (init ! 11 refl (LL.lawful D.the-type D′.the-laws 𝓤 H A W .typed r _ is .0)) $
           rewrite ! 11 (λ (w : Val). ‵ (fat fullShare D′.mir l₈ 0 w)) (ap only (LL.tells D.the-type D′.the-laws r _ is)) refl $
-          -- [the change; the tokens; the lengths; the rows; the block's cell; what it owned; the open borrow; obs; auth; _9; …; _8; …; _7; …; _6; …; _5; …; _4; …; _3; …; _2; …; _1; …; room for _0; …]
+          -- [the change; the tokens; the lengths; the rows; the block's cell; what it owned; the open borrow; obs;
+          -- auth; _9; …; _8; …; _7; …; _6; …; _5; …; _4; …; _3; …; _2; …; _1; …; room for _0; …]
           assigns ! (of-opd ! (load ! (from ! (fld ! refl (stop !))) (look-in ! 11 (sub ! 0 refl (whole !))))) (from ! (hop ! (look ! 25 refl) (stop !))) (store-raw ! 4 refl (LL.lawful B.the-type B′.the-laws 𝓤 H A W .typed (r .block) _ (block-is r u is) .0)) $
           assigns ! (of-opd ! (load ! (from ! (fld ! refl (stop !))) (look-in ! 11 (sub ! 1 refl (whole !))))) (from ! (stop !)) (init ! 27 refl (LL.lawful R.the-type R′.the-laws 𝓤 H A W .typed (r .written) _ (written-is r u is) .0)) $
           -- the borrow is closed at the new block
           move ! (5 ∷ []) $ drop ! $ owned ! B.the-row (Is B.the-row) (LL.makes B.the-type B′.the-plain 𝓤 H A) (r .block) _ (block-is r u is) $
           move ! (5 ∷ 0 ∷ 6 ∷ 7 ∷ 8 ∷ []) $ closes ! tt B.the-row (r .block) (block-val (r .block) ∷ []) b o $
-          -- [obs; the borrow; its token; the change; the tokens; the lengths; the rows; _9; …; _8; …; _7; …; _6; …; _5; …; _4; …; _3; …; _2; …; _1; …; _0; …]
+          -- [obs; the borrow; its token; the change; the tokens; the lengths; the rows; _9; …; _8; …; _7; …; _6; …; _5;
+          -- …; _4; …; _3; …; _2; …; _1; …; _0; …]
           returns ! (look ! 25 refl) $ forget ! 7 refl $ forget ! 9 refl $ forget ! 11 refl $ forget ! 13 refl $ forget ! 15 refl $ forget ! 17 refl $ forget ! 19 refl $ forget ! 21 refl $ forget ! 23 refl $ forget ! 25 refl $
           move ! (25 ∷ 26 ∷ []) $ free1 ! $ move ! (23 ∷ 24 ∷ []) $ free1 ! $ move ! (21 ∷ 22 ∷ []) $ free1 ! $ move ! (19 ∷ 20 ∷ []) $ free1 ! $ move ! (17 ∷ 18 ∷ []) $ free1 ! $
           move ! (15 ∷ 16 ∷ []) $ free1 ! $ move ! (13 ∷ 14 ∷ []) $ free1 ! $ move ! (11 ∷ 12 ∷ []) $ free1 ! $ move ! (9 ∷ 10 ∷ []) $ free1 ! $ move ! (7 ∷ 8 ∷ []) $ free1 ! $ free0 ! $

@@ -1,5 +1,5 @@
--- `take_turns` is safe and ends. The invariant: the buffer keeps its length. The measure is the number of turns that are left.
--- Assumes nothing.
+-- `take_turns` is safe and ends. The invariant: the buffer keeps its length. The measure is the number of turns that
+-- are left. Assumes nothing.
 use mathlib.Core.Path.{_≡_}
 use lib.ListN.{length}
 use borrow.Author.Needs.{needs}

@@ -1,4 +1,5 @@
--- `replay::run_records` meets its contract. The invariant: the records that are left still give the whole block. Assumes nothing.
+-- `replay::run_records` meets its contract. The invariant: the records that are left still give the whole block.
+-- Assumes nothing.
 use Prim.Native.Nat.{_+_, _-_}
 use mathlib.Core.Path.{refl}
 use mathlib.Core.Bool.{not}

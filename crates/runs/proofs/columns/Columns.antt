@@ -123,9 +123,9 @@ pub record Ordered (n : ℕ) (R : Requests) (ph : ℕ → Phase) : Type 0 where
   pub transitive : (i j k : ℕ) → i < n → j < n → k < n → (ph i ≡ idle → ⊥) → (ph j ≡ idle → ⊥) → (ph k ≡ idle → ⊥)
       → R .earlier i j ≡ true → R .earlier j k ≡ true → R .earlier i k ≡ true
 
--- After each settling. I1: of two conflicting active writes the later is waiting. I2, I3: a read and a write that conflict
--- do not both hold, and are not both entitled. I4 to I7: what an entitled read, a waiting read, a waiting write and an
--- entitled write wait for.
+-- After each settling. I1: of two conflicting active writes the later is waiting. I2, I3: a read and a write that
+-- conflict do not both hold, and are not both entitled. I4 to I7: what an entitled read, a waiting read, a waiting
+-- write and an entitled write wait for.
 pub record Settled (n : ℕ) (R : Requests) (ph : ℕ → Phase) : Type 0 where
   pub i1 : (i j : ℕ) → i < n → j < n → R .write i ≡ true → R .write j ≡ true → (ph i ≡ idle → ⊥) → (ph j ≡ idle → ⊥)
       → R .against i j ≡ true → R .earlier i j ≡ true → ph j ≡ waiting

@@ -1,5 +1,5 @@
--- What a settled state rules out: two conflicting requests never hold together, and of the writes against one active read
--- at most one is entitled or holding. Assumes nothing.
+-- What a settled state rules out: two conflicting requests never hold together, and of the writes against one active
+-- read at most one is entitled or holding. Assumes nothing.
 use Prim.Native.Nat.{ℕ, _<_}
 use native.Mathlib.Decide.{ℕ-discrete}
 use mathlib.Core.Path.{_≡_, refl}

@@ -1,5 +1,5 @@
--- How an accepted call moves phases: what the start leaves alone, which step moves reads and which writes, that phases only
--- rise in settling, and that a write's being entitled lets no read against it begin to hold. Assumes nothing.
+-- How an accepted call moves phases: what the start leaves alone, which step moves reads and which writes, that phases
+-- only rise in settling, and that a write's being entitled lets no read against it begin to hold. Assumes nothing.
 use Prim.Native.Nat.{ℕ, _<_, _≤_}
 use native.Mathlib.Omega.{arith}
 use mathlib.Core.Path.{_≡_, sym, _∙_, subst, ap}

@@ -1,5 +1,5 @@
--- The rank of a write in the group: how many active writes in the group are ahead of it, that is earlier. The first is the one
--- of rank 0: there is one, and only one. Assumes nothing.
+-- The rank of a write in the group: how many active writes in the group are ahead of it, that is earlier. The first is
+-- the one of rank 0: there is one, and only one. Assumes nothing.
 use Prim.Native.Nat.{ℕ, zero, suc, _<_, _≤_, _+_}
 use native.Mathlib.Omega.{arith}
 use native.Mathlib.Nat.{le-refl}

@@ -1,5 +1,5 @@
--- Reads of the group wait at most Lr + Lw while its holders keep to their lengths. T1 and T2 hold of the empty arbiter and
--- are kept by each accepted call; with I4, I5 and I7 they bound the wait. Assumes nothing.
+-- Reads of the group wait at most Lr + Lw while its holders keep to their lengths. T1 and T2 hold of the empty arbiter
+-- and are kept by each accepted call; with I4, I5 and I7 they bound the wait. Assumes nothing.
 use Prim.Native.Nat.{ℕ, _<_, _≤_, _+_}
 use native.Mathlib.Omega.{arith}
 use mathlib.Core.Path.{_≡_, refl, sym, _∙_, subst, ap}
@@ -11,8 +11,8 @@ use Rattle.runs.proofs.columns.Moves.{touched, same-phase, same-write, 
 use Rattle.runs.proofs.columns.Lengths.{Prompt, read-holds-at-most, write-holds-at-most}
 use Rattle.runs.proofs.columns.Exclusive.{one-write-against-a-read}
 
--- T1: what is in the way of the entitled write that a waiting read waits for began to hold no later than that read was issued.
--- T2: the holding write that an entitled read waits for began at most Lr after that read was issued.
+-- T1: what is in the way of the entitled write that a waiting read waits for began to hold no later than that read was
+-- issued. T2: the holding write that an entitled read waits for began at most Lr after that read was issued.
 pub record ReadTimed (n Lr : ℕ) (R : Requests) (ph : ℕ → Phase) (si : ℕ → ℕ) : Type 0 where
   pub t1 : (r w q : ℕ) → r < n → w < n → q < n → R .group r ≡ true → R .write r ≡ false → ph r ≡ waiting
       → In R ph entitled true r w → In R ph holding false w q → si q ≤ si r
@@ -30,7 +30,8 @@ read-timed-fresh all-idle =
 
 module _ {n t Lr Lw : ℕ} {R : Requests} {ph : ℕ → Phase} {si len : ℕ → ℕ}
     (settled : Settled n R ph) (lawful : Lawful n R ph) (timed : ReadTimed n Lr R ph si) (prompt : Prompt n t Lr Lw R ph si len) where
-  -- A waiting read waits for an entitled write, and that one for a read that has held at least as long as ours has waited.
+  -- A waiting read waits for an entitled write, and that one for a read that has held at least as long as ours has
+  -- waited.
   waiting-read-bounded : (r : ℕ) → r < n → R .group r ≡ true → R .write r ≡ false → ph r ≡ waiting → t ≤ si r + Lr
   waiting-read-bounded r hr g read k = go (settled .i5 r hr read k)
     where

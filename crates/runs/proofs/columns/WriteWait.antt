@@ -1,6 +1,6 @@
--- Writes of the group wait at most (m − 1) × (Lr + Lw) while its holders keep to their lengths, where m is above every active
--- processor. Each write ahead takes at most one span Lr + Lw, counted from when the first of them holds. That holds of the
--- empty arbiter and is kept by each accepted call. Assumes nothing.
+-- Writes of the group wait at most (m − 1) × (Lr + Lw) while its holders keep to their lengths, where m is above every
+-- active processor. Each write ahead takes at most one span Lr + Lw, counted from when the first of them holds. That
+-- holds of the empty arbiter and is kept by each accepted call. Assumes nothing.
 use Prim.Native.Nat.{ℕ, suc, _<_, _≤_, _+_, _*_, _-_}
 use native.Mathlib.Omega.{arith}
 use native.Mathlib.Nat.{mul-le-mul-right}
@@ -15,8 +15,8 @@ use Rattle.runs.proofs.columns.Lengths.{Prompt, read-holds-at-most, wri
 use Rattle.runs.proofs.columns.Rank.{GroupWrite, rank, First, Below, rank-below, rank-below-with-read, first-exists, first-is-ahead, first-is-one, nothing-ahead-of-first, ahead-ranks-above-zero}
 use Rattle.runs.proofs.columns.RankMoves.{idle-or-active, was-group-write, is-group-write, rank-does-not-rise, rank-falls, first-stays-first}
 
--- The first write f holds from tick x on at the latest: it holds since x; or it is entitled, and a read that holds since x less
--- Lr is in its way.
+-- The first write f holds from tick x on at the latest: it holds since x; or it is entitled, and a read that holds
+-- since x less Lr is in its way.
 pub data HoldsBy (n Lr : ℕ) (R : Requests) (ph : ℕ → Phase) (si : ℕ → ℕ) (f x : ℕ) : Type 0 where
   holds : ph f ≡ holding → x ≡ si f → HoldsBy n Lr R ph si f x
   waits-for : (q : ℕ) → q < n → ph f ≡ entitled → In R ph holding false f q → x ≡ si q + Lr → HoldsBy n Lr R ph si f x

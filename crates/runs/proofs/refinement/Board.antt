@@ -1,6 +1,6 @@
 -- The board of an accepted plan, entry by entry: kinds, lengths and conflict are the plan's. On it conflict is lawful:
--- symmetric, bridged by reads, and closed in a closed group; two reads never conflict; lengths are bounded as the plan's
--- are, and active processors are the plan's. Assumes nothing.
+-- symmetric, bridged by reads, and closed in a closed group; two reads never conflict; lengths are bounded as the
+-- plan's are, and active processors are the plan's. Assumes nothing.
 use Prim.Native.Nat.{ℕ, _≤_, _<_}
 use mathlib.Core.Path.{_≡_, sym, ap, ap₂, _∙_, subst}
 use mathlib.Core.Bool.{_&&_, false, and-false, Bool, true, cond, not}

@@ -1,4 +1,5 @@
--- `store_number` meets its contract. The invariant: storing what is left of the number from here on gives the whole. Assumes nothing.
+-- `store_number` meets its contract. The invariant: storing what is left of the number from here on gives the whole.
+-- Assumes nothing.
 use Prim.Native.Nat.{_+_, _-_, _≤_}
 use mathlib.Core.Path.{_≡_, refl, sym, _∙_}
 use native.Mathlib.Numerals.{unary-clauses}

@@ -1,4 +1,5 @@
--- `check_taken` meets its contract: each test decides its refusal, in the order 10, 11, 14, and then the last. Assumes nothing.
+-- `check_taken` meets its contract: each test decides its refusal, in the order 10, 11, 14, and then the last. Assumes
+-- nothing.
 use borrow.Author.Needs.{needs}
 use Rattle.plans.proofs.Flags.{passes, fails}
 use Rattle.checks.proofs.faults.check_taken.Statement.{statement}

@@ -1,6 +1,6 @@
--- `read_lent` meets its contract: a walk of its MIR, by hand. A lifetime is made, and half of the local block is lent for it to `read_register`; then the lifetime is ended, and the halves are the whole block again.
--- All that the proof knows of `read_register` is that it meets its contract.
--- Assumes nothing.
+-- `read_lent` meets its contract: a walk of its MIR, by hand. A lifetime is made, and half of the local block is lent
+-- for it to `read_register`; then the lifetime is ended, and the halves are the whole block again. All that the proof
+-- knows of `read_register` is that it meets its contract. Assumes nothing.
 use mathlib.Core.Path.{_≡_, refl}
 use Prim.Native.Nat.{ℕ, _<_, _^_}
 use mathlib.Core.List.{[], _∷_, List}
@@ -113,7 +113,8 @@ module _ {M : Type 1} (𝓤 : URA M) (H : Heap 𝓤) (A : Atoms 𝓤) (W : Given
         use1 W (later (some (λ (γ : GName). ‵ (partAt B.the-row ◐ h l₃ 0) ⊛ (‵ (ShrRef (named 0) (ν ∷ []) B.the-row .own (lent l₃ γ) (vptr l₃ 0 ∷ [])) ⊛ ‵ (flent (ν ∷ []) (partAt B.the-row ◑ h l₃ 0))))))
         (lends-half 𝓤 H A W B.the-row (Is B.the-row) (shows 𝓤 H A B.the-row) (LL.vals B.the-type B′.the-laws) (LL.tells B.the-type B′.the-laws) (LL.copy B.the-type B′.the-copy 𝓤 H A W) (named 0) (ν ∷ []) fullShare h l₃ 0) $
         await ! tt $ pick ! (λ γ. split ! $ move ! (1 ∷ []) $ split ! $
-        -- [the reference; `lent`; the left half; the token; _4; …; of _3 what frees it; _2; …; _1; …; room for _0; …; true; the parameters']
+        -- [the reference; `lent`; the left half; the token; _4; …; of _3 what frees it; _2; …; _1; …; room for _0; …;
+        -- true; the parameters']
         nothing ! $ owned ! u8 (Is u8) (uint-makes 𝓤 H A W w8) n _ (refl, n-fits) $ fjoin ! $ move ! (1 ∷ 0 ∷ []) $ fjoin ! $ nothing ! $ move ! (4 ∷ 0 ∷ []) $ join ! $
         use2 W (raw (Read 𝓤 H A mem run .pre (to-read l₃ γ ν))) (goes-read l₃ γ ν) $
         calls-at ! fm (Read 𝓤 H A mem run) known (to-read l₃ γ ν) (and-then ! (load ! (from ! (stop !)) (look ! 3 refl)) (and-then ! (load ! (from ! (stop !)) (look ! 6 refl)) (no-more !))) (λ u.

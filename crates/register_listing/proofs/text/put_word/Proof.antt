@@ -1,4 +1,5 @@
--- `put_word` is safe and ends. The invariant: the buffer keeps its length. The measure is how many bytes are left. Assumes nothing.
+-- `put_word` is safe and ends. The invariant: the buffer keeps its length. The measure is how many bytes are left.
+-- Assumes nothing.
 use Prim.Native.Nat.{_≤_, _-_}
 use mathlib.Core.Path.{_≡_, refl, _∙_}
 use lib.ListN.{length}
