@@ -27,7 +27,7 @@ use Rattle.settling.proofs.Active.{waiting-active, entitled-active, holding-act
 use Rattle.settling.proofs.FourSteps.{fit}
 use Rattle.settling.proofs.Known.{Known, known-all, known-and, and-known, known-kept}
 use Rattle.settling.proofs.Lookups.{agree-among, known-those}
-use Rattle.opposition.specs.Opposition.{entryIn, thoseIn}
+use Rattle.opposition.specs.Opposition.{wrappedEntry, thoseIn}
 use Rattle.facing.proofs.Faces.{left-to-right}
 use Rattle.waiting.specs.Waits.{waitsIn}
 use Rattle.board_waits.specs.inner.Joined.{Joined}
@@ -38,7 +38,7 @@ use Rattle.waiting.proofs.Faced.{Sides, activeOf, bit-active, active-sides, is-
 module _ (rows entry before : List ℕ) (candidates others : ℕ) (first : List ℕ) where
   -- Processor q is joined to the mask of candidate p.
   abbrev joins : ℕ → ℕ → Bool
-  joins p q = bit (bitAnd (getD before p 0) others) q && bit (getD rows (getD entry p 0) 0) (entryIn entry q)
+  joins p q = bit (bitAnd (getD before p 0) others) q && bit (getD rows (getD entry p 0) 0) (wrappedEntry entry q)
 
   -- The masks so far, joined for what is left of the candidates, are the whole.
   pub record Joining (left : ℕ) (out : List ℕ) : Type 0 where
@@ -121,10 +121,10 @@ four-ways ep wp true Wp eq hq aq true Wq before true h g =
 
 -- Of others that are known processors the entries are themselves.
 module _ (rows entry before : List ℕ) (candidates others : ℕ) (first out : List ℕ) (known : Known entry others) where
-  itself : (p q row : ℕ) → (bit (bitAnd (getD before p 0) others) q && bit row (entryIn entry q))
+  itself : (p q row : ℕ) → (bit (bitAnd (getD before p 0) others) q && bit row (wrappedEntry entry q))
       ≡ (bit (getD before p 0) q && bit others q && bit row (getD entry q 0))
   itself p q row =
-      agree-among (bitAnd (getD before p 0) others) (λ k. bit row (entryIn entry k)) (λ k. bit row (getD entry k 0))
+      agree-among (bitAnd (getD before p 0) others) (λ k. bit row (wrappedEntry entry k)) (λ k. bit row (getD entry k 0))
       (λ k i. ap (bit row) (mod-eq-of-lt (and-known (getD before p 0) known .entries k i))) q
       ∙ ap (λ t. t && bit row (getD entry q 0)) (bit-and (getD before p 0) others q)
 

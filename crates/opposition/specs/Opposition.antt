@@ -9,20 +9,20 @@ use Rattle.plans.specs.Entries.{slots, mostEntries}
 
 -- The entry of processor p's request, modulo the number of rows: there is a row for it, whatever it is. An entry that
 -- is below that number is itself.
-abbrev pub entryIn : List ℕ → ℕ → ℕ
-entryIn entry p = getD entry p 0 % mostEntries
+abbrev pub wrappedEntry : List ℕ → ℕ → ℕ
+wrappedEntry entry p = getD entry p 0 % mostEntries
 
 -- Clause 5.7: the row of processor p's request: the entries that it conflicts with.
 abbrev pub rowIn : List ℕ → List ℕ → ℕ → ℕ
-rowIn rows entry p = getD rows (entryIn entry p) 0
+rowIn rows entry p = getD rows (wrappedEntry entry p) 0
 
 -- One of the processors in the mask has its entry in the row.
 abbrev pub inRow : ℕ → List ℕ → ℕ → Bool
-inRow row entry among = some slots (λ q. bit among q && bit row (entryIn entry q))
+inRow row entry among = some slots (λ q. bit among q && bit row (wrappedEntry entry q))
 
 -- Those among the processors whose entries are in the set.
 unfoldable pub thoseIn : List ℕ → ℕ → ℕ → ℕ
-thoseIn entry set among = maskOf slots (λ p. bit among p && bit set (entryIn entry p))
+thoseIn entry set among = maskOf slots (λ p. bit among p && bit set (wrappedEntry entry p))
 
 -- The candidates whose requests conflict with that of none of the others.
 unfoldable pub unopposedBy : List ℕ → List ℕ → ℕ → ℕ → ℕ

@@ -10,7 +10,7 @@ ghost use mathlib.Core.Bool.{cond, not, _&&_};
 ghost use Prim.Native.Nat.{ℕ, _<_};
 ghost use Rattle.masks.specs.Sets.{bit, added, meets, maskOf};
 ghost use Rattle.plans.specs.Entries.{slots, mostEntries};
-ghost use Rattle.opposition.specs.Opposition.{entryIn, rowIn, inRow, thoseIn, unopposedBy, firstBefore};
+ghost use Rattle.opposition.specs.Opposition.{wrappedEntry, rowIn, inRow, thoseIn, unopposedBy, firstBefore};
 
 // The number of rows.
 const ROWS: u8 = ENTRIES as u8;
@@ -36,7 +36,7 @@ fn add_if_in(set: u32, place: u32, row: u64, entry: u32) -> u32
 // The entry of a processor's request.
 fn entry_at(entry: &[u8; SLOTS], p: u32) -> u32
     requires { ⌜ p < slots ⌝ }
-    ensures { λ r. ⌜ r ≡ entryIn (now (entry .entry)) p ⌝ }
+    ensures { λ r. ⌜ r ≡ wrappedEntry (now (entry .entry)) p ⌝ }
 {
     (entry[p as usize] % ROWS) as u32
 }

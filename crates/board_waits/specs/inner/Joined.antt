@@ -7,7 +7,7 @@ use lib.Bits.{bitAnd}
 use lib.ListN.{getD, length}
 use Rattle.masks.specs.Sets.{bit}
 use Rattle.plans.specs.Entries.{slots}
-use Rattle.opposition.specs.Opposition.{entryIn}
+use Rattle.opposition.specs.Opposition.{wrappedEntry}
 
 -- The masks of the candidates are joined with those of the others that are before each and conflict with it. The other
 -- masks stay.
@@ -17,5 +17,5 @@ pub record Joined (rows entry before : List ℕ) (candidates others : ℕ) (firs
       → bit (getD out p 0) q
       ≡ (bit (getD first p 0) q
       || (bit candidates p
-      && (bit (bitAnd (getD before p 0) others) q && bit (getD rows (getD entry p 0) 0) (entryIn entry q))))
+      && (bit (bitAnd (getD before p 0) others) q && bit (getD rows (getD entry p 0) 0) (wrappedEntry entry q))))
   pub small : ((p : ℕ) → getD first p 0 < 2 ^ slots) → (p : ℕ) → getD out p 0 < 2 ^ slots

@@ -9,13 +9,13 @@ use Rattle.masks.proofs.Shifts.{one-shifted}
 use Rattle.masks.proofs.Walks.{lowest-place}
 use Rattle.masks.proofs.Gathers.{Gathered, gathered-first, gathered-more, gathered-last}
 use Rattle.plans.specs.Entries.{slots, mostEntries}
-use Rattle.opposition.specs.Opposition.{entryIn}
+use Rattle.opposition.specs.Opposition.{wrappedEntry}
 use Rattle.opposition.proofs.Processors.{walk-of, has-row}
 use Rattle.opposition.proofs.entries_of.Statement.{statement}
 use Rattle.opposition.proofs.entries_of.Tie as tie
 
 abbrev Inv-loop : tie.InvT-loop
-Inv-loop entry among set₀ left₀ set left = Gathered slots 32 mostEntries (entryIn entry) among left set
+Inv-loop entry among set₀ left₀ set left = Gathered slots 32 mostEntries (wrappedEntry entry) among left set
 
 abbrev μ-loop : tie.MeasureT-loop
 μ-loop entry among set₀ left₀ set left = left

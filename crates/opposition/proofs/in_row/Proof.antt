@@ -7,13 +7,13 @@ use Rattle.masks.specs.Sets.{bit}
 use Rattle.masks.proofs.Lowest.{rest-less}
 use Rattle.masks.proofs.Walks.{Sought, sought-first, sought-found, sought-more, sought-last, lowest-place}
 use Rattle.plans.specs.Entries.{slots}
-use Rattle.opposition.specs.Opposition.{entryIn}
+use Rattle.opposition.specs.Opposition.{wrappedEntry}
 use Rattle.opposition.proofs.Processors.{walk-of, has-row}
 use Rattle.opposition.proofs.in_row.Statement.{statement}
 use Rattle.opposition.proofs.in_row.Tie as tie
 
 abbrev Inv-loop : tie.InvT-loop
-Inv-loop row entry among left₀ left = Sought slots 32 (λ q. bit row (entryIn entry q)) among left
+Inv-loop row entry among left₀ left = Sought slots 32 (λ q. bit row (wrappedEntry entry q)) among left
 
 abbrev μ-loop : tie.MeasureT-loop
 μ-loop row entry among left₀ left = left

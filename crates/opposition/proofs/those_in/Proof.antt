@@ -4,13 +4,13 @@ use Rattle.masks.specs.Sets.{bit}
 use Rattle.masks.proofs.Lowest.{rest-less}
 use Rattle.masks.proofs.Walks.{Kept, kept-first, kept-more, kept-last, lowest-place}
 use Rattle.plans.specs.Entries.{slots}
-use Rattle.opposition.specs.Opposition.{entryIn, thoseIn}
+use Rattle.opposition.specs.Opposition.{wrappedEntry, thoseIn}
 use Rattle.opposition.proofs.Processors.{walk-of, has-row}
 use Rattle.opposition.proofs.those_in.Statement.{statement}
 use Rattle.opposition.proofs.those_in.Tie as tie
 
 abbrev Inv-loop : tie.InvT-loop
-Inv-loop entry set among out₀ left₀ out left = Kept slots 32 (λ p. bit set (entryIn entry p)) among left out
+Inv-loop entry set among out₀ left₀ out left = Kept slots 32 (λ p. bit set (wrappedEntry entry p)) among left out
 
 abbrev μ-loop : tie.MeasureT-loop
 μ-loop entry set among out₀ left₀ out left = left

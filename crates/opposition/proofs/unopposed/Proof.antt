@@ -9,7 +9,7 @@ use Rattle.masks.specs.Sets.{bit, meets, maskOf}
 use Rattle.masks.proofs.Masks.{is-mask, mask-agree}
 use Rattle.masks.proofs.Walks.{none-kept, some-last}
 use Rattle.plans.specs.Entries.{slots}
-use Rattle.opposition.specs.Opposition.{entryIn, rowIn, inRow, unopposedBy}
+use Rattle.opposition.specs.Opposition.{wrappedEntry, rowIn, inRow, unopposedBy}
 use Rattle.opposition.proofs.unopposed.Statement.{statement}
 use Rattle.opposition.proofs.unopposed.Tie as tie
 
@@ -18,7 +18,7 @@ module _ (rows entry : List ℕ) (candidates others : ℕ) where
   unfolding unopposedBy
   no-others h none =
       is-mask slots candidates _ h
-      (λ p l. sym (ap (λ t. bit candidates p && not t) (some-last slots (λ q. bit (rowIn rows entry p) (entryIn entry q)) others none)
+      (λ p l. sym (ap (λ t. bit candidates p && not t) (some-last slots (λ q. bit (rowIn rows entry p) (wrappedEntry entry q)) others none)
       ∙ and-true (bit candidates p)))
 
   clear-of-others : (set r : ℕ) → ((row : ℕ) → meets row set ≡ inRow row entry others)
