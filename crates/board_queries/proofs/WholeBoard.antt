@@ -15,7 +15,7 @@ use Rattle.states.specs.declared.Board.{Board}
 use Rattle.states.specs.declared.State.{State}
 use Rattle.states.specs.Faults.{processorFault}
 use Rattle.rules.specs.Calls.{phasesOf}
-use Rattle.wait_fields.specs.Fields.{entryIn, waitedIn}
+use Rattle.wait_fields.specs.Fields.{entryShown, waitedIn}
 use Rattle.listing_sizes.specs.Sizes.{partSize}
 use Rattle.wait_listing.specs.Listing.{partBytes, partIn, listBytes, listBuffer}
 use Rattle.wait_listing.proofs.InTurn.{length-part, part-at}
@@ -46,7 +46,7 @@ module _ (b : Board) (s : State) where
   pub part-is-queries : (p : ℕ) → p < listed b
       → (phaseQuery b s p .number ≡ 0) × (waitsQuery b s p .number ≡ 0)
       × (take (partSize k) (drop (1 + partSize k * p) (boardBytes b s))
-      ≡ partBytes k (phaseQuery b s p .value) (entryIn (phasesOf b s) (s .entry) p) (waitedIn (phasesOf b s) (s .last) (s .since) p)
+      ≡ partBytes k (phaseQuery b s p .value) (entryShown (phasesOf b s) (s .entry) p) (waitedIn (phasesOf b s) (s .last) (s .since) p)
       (waitsQuery b s p .value))
   unfolding boardPart
   part-is-queries p l =

@@ -7,7 +7,7 @@ use Rattle.plans.specs.Entries.{slots}
 use Rattle.states.specs.declared.Board.{Board}
 use Rattle.states.specs.declared.State.{State}
 use Rattle.rules.specs.Calls.{phasesOf}
-use Rattle.wait_fields.specs.Fields.{entryIn, waitedIn}
+use Rattle.wait_fields.specs.Fields.{entryShown, waitedIn}
 use Rattle.listing_sizes.specs.Sizes.{listedOf, listSize}
 use Rattle.wait_listing.specs.Listing.{partBytes, listBytes, listFault, listBuffer}
 use Rattle.queries.specs.Queries.{stateNumber, waitsFor, maskSizeOf}
@@ -19,7 +19,7 @@ listed b = listedOf (b .terms .processors)
 -- Clauses 7.7 and 7.8: the part of processor p. Its state and its direct waits are those of the single queries.
 unfoldable pub boardPart : Board → State → ℕ → List ℕ
 boardPart b s p =
-    partBytes (maskSizeOf b) (stateNumber b s p) (entryIn (phasesOf b s) (s .entry) p)
+    partBytes (maskSizeOf b) (stateNumber b s p) (entryShown (phasesOf b s) (s .entry) p)
     (waitedIn (phasesOf b s) (s .last) (s .since) p)
     (maskOf slots (waitsFor b s p))
 

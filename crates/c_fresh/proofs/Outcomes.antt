@@ -13,7 +13,7 @@ use Rattle.states.specs.declared.Board.{Board}
 use Rattle.states.specs.declared.State.{State}
 use Rattle.boards.specs.Fresh.{freshBoard, freshState}
 use Rattle.c_stores.specs.Stores.{boardLeft, stateLeft}
-use Rattle.c_fresh.specs.Fresh.{boardAfter, stateAfter}
+use Rattle.c_fresh.specs.Fresh.{boardAfter, stateAfterPlan}
 
 board-by-number : (o : Outcome) (p : Plan) (before : Board)
     → boardLeft o p before ≡ cond (eqb (outcomeSays o .number) 0) (freshBoard p) before
@@ -36,6 +36,6 @@ state-by-number (Outcome.Bytes n) before = refl
 state-by-number (Outcome.Refused r) before = sym (ap (λ b. cond b freshState before) (number-not-zero r))
 
 pub state-of-bytes : (s : List ℕ) (o : Outcome) (before : State) → outcomeSays o ≡ readSays s
-    → stateLeft o before ≡ stateAfter s before
-unfolding stateAfter
+    → stateLeft o before ≡ stateAfterPlan s before
+unfolding stateAfterPlan
 state-of-bytes s o before says = state-by-number o before ∙ ap (λ a. cond (eqb (a .number) 0) freshState before) says

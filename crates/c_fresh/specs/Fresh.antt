@@ -18,5 +18,5 @@ unfoldable pub boardAfter : List ℕ → Board → Board
 boardAfter bytes before = cond (eqb (readFault bytes) 0) (freshBoard (planRead bytes)) before
 
 -- Clauses 11.2 and 4.3: the state that is left: the fresh one, or the one before where the bytes are refused.
-unfoldable pub stateAfter : List ℕ → State → State
-stateAfter bytes before = cond (eqb (readFault bytes) 0) freshState before
+unfoldable pub stateAfterPlan : List ℕ → State → State
+stateAfterPlan bytes before = cond (eqb (readFault bytes) 0) freshState before

@@ -11,7 +11,7 @@ ghost use Rattle.plans.specs.Reading.{readSays};
 ghost use Rattle.rules.specs.InPlace.{stateBy};
 ghost use Rattle.c_boards.specs.Parts.{termsBy, momentBy, boardIn};
 ghost use Rattle.c_boards.specs.Answers.{toldSays};
-ghost use Rattle.c_fresh.specs.Fresh.{versionNumber, boardAfter, stateAfter};
+ghost use Rattle.c_fresh.specs.Fresh.{versionNumber, boardAfter, stateAfterPlan};
 
 // The version of the archive, to hold against the header's.
 #[no_mangle]
@@ -47,7 +47,7 @@ pub extern "C" fn bittmelon_fresh_parts(
         (now (lengths .entry)) (now (names .entry)) (now (widened .entry)) (now (rows .entry))) ⌝ }
     ensures state { λ _. ⌜ stateBy (momentBy (now (last .exit)) (now (phases .exit)))
         (now (entry .exit)) (now (since .exit)) (now (earlier .exit))
-        ≡ stateAfter (now (plan .entry)) (stateBy (momentBy (now (last .entry)) (now (phases .entry)))
+        ≡ stateAfterPlan (now (plan .entry)) (stateBy (momentBy (now (last .entry)) (now (phases .entry)))
         (now (entry .entry)) (now (since .entry)) (now (earlier .entry))) ⌝ }
 {
     let read = plan_reader::read(plan);

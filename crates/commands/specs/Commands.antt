@@ -50,9 +50,9 @@ unfoldable pub registerWrite : Board → State → Block → ℕ → ℕ → Wri
 registerWrite board state block offset value = writtenTo (registerAt offset) board state block offset value
 
 -- Clause 10.10: what a write returns, with the block as it leaves it, in numbers.
-abbrev pub writeSays : Written → Block → WriteAnswer
-writeSays written block =
+abbrev pub writtenSays : Written → Block → WriteAnswer
+writtenSays written block =
     record { number = verdictNumber (written .verdict); block = block; state = written .state }
 
 abbrev pub changeSays : Change → WriteAnswer
-changeSays change = writeSays (change .written) (change .block)
+changeSays change = writtenSays (change .written) (change .block)

@@ -30,15 +30,15 @@ sharedSays (SharedAnswer.Is c) = record { number = 0; conflict = conflictSays c 
 sharedSays (SharedAnswer.Refused r) = record { number = numberOf r; conflict = noConflict }
 
 -- Clauses 7.10 and 8.2: 12 where either entry is not one of the plan's.
-abbrev pub entriesFault : Terms → ℕ → ℕ → ℕ
-entriesFault terms i j = due (ltb i (terms .count) && ltb j (terms .count)) 12
+abbrev pub pairFault : Terms → ℕ → ℕ → ℕ
+pairFault terms i j = due (ltb i (terms .count) && ltb j (terms .count)) 12
 
 -- Clause 7.10: what is due, and the conflict where nothing is.
 unfoldable pub sharedOf : Terms → List ℕ → List ℕ → ℕ → ℕ → SharedSaid
 sharedOf terms names widened i j =
     record {
-      number = entriesFault terms i j;
-      conflict = cond (eqb (entriesFault terms i j) 0) (over (sharedIn (terms .writes) names widened i j)) noConflict;
+      number = pairFault terms i j;
+      conflict = cond (eqb (pairFault terms i j) 0) (over (sharedIn (terms .writes) names widened i j)) noConflict;
     }
 
 -- Clause 7.10: the same of a board.

@@ -37,7 +37,7 @@ use Rattle.logs.specs.Records.{fieldsIn, noFields, recordFault, readRecord}
 -- that case alone, with the state and all lent buffers unchanged.
 --
 -- Which number is due is said by readFault, writeFault, planFault, issueFault, completeFault, withdrawFault,
--- handoverFault, processorFault, reachFault, listFault, entriesFault (contention), recordFault and tailFault; 0 is none. The
+-- handoverFault, processorFault, reachFault, listFault, pairFault, recordFault and tailFault; 0 is none. The
 -- functions promise, for every value:
 --   plan_reader::read        outcomeSays (r .outcome) ≡ readSays bytes, and r .plan ≡ planRead bytes
 --   plan_writer::write       outcomeSays r ≡ writeSays plan buffer at, and the buffer after it ≡ writtenBuffer plan buffer at
@@ -58,9 +58,9 @@ use Rattle.logs.specs.Records.{fieldsIn, noFields, recordFault, readRecord}
 --   board_queries::list_board      outcomeSays r ≡ boardQuery board buffer, the buffer after it ≡ boardBuffer ..
 --   board_queries::list_board_in_place  the same, of the board and the state that it was lent
 --   contention::shared_by    sharedSays r ≡ sharedQuery board first second; what that is on a plan's board, Contention.antt says
---   registers::read          readSays r ≡ registerRead block offset (register_block::read_register the same, of the block it is lent)
+--   registers::read          registerSays r ≡ registerRead block offset (register_block::read_register the same, of the block it is lent)
 --   register_writes::write   changeSays r ≡ registerWrite board state block offset value, in which a refused command changes
---                            offset 3 alone (register_block::write_register: writeSays r and the block after it ≡ registerWrite ..)
+--                            offset 3 alone (register_block::write_register: writtenSays r and the block after it ≡ registerWrite ..)
 --   call_counts::read_count  countSays r ≡ readCount bytes
 --   logs::read_record        recordSays r ≡ readRecord bytes
 --   call_counts::check_tail  verdictNumber r ≡ tailFault bytes

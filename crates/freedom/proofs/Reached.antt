@@ -11,14 +11,14 @@ use Rattle.states.specs.declared.Board.{Board}
 use Rattle.states.specs.declared.State.{State}
 use Rattle.rules.specs.Calls.{both, answered}
 use Rattle.boards.specs.Fresh.{boardOf, freshState}
+use Rattle.runs.specs.Events.{stateAfter}
 use Rattle.runs.specs.History.{Act, puts, takes}
 use Rattle.runs.specs.Claim.{Closed, everyEntry}
 use Rattle.runs.proofs.history.Frame.{Answers, refused, acts, replaces, answers}
 use Rattle.runs.proofs.refinement.Clean.{Clean, fresh-clean}
-use Rattle.runs.proofs.refinement.Acts.{Allowed, act-done}
-use Rattle.runs.proofs.refinement.Acts
+use Rattle.runs.proofs.refinement.Acts.{stateAfterAct, Allowed, act-done}
 use Rattle.runs.proofs.refinement.Arbiter.{Safe, safe-fresh, safe-act}
-use Rattle.freedom.specs.Freedom.{stateAfter, reachedBy}
+use Rattle.freedom.specs.Freedom.{reachedBy}
 
 pub record Reached (b : Board) (s : State) : Type 0 where
   pub clean : Clean b s
@@ -35,7 +35,7 @@ module _ (p : Plan) (taken : planFault p ≡ 0) where
   fresh-reached : Reached b freshState
   fresh-reached = record { clean = fresh-clean b; standing = safe-fresh p taken everyEntry closed }
 
-  act-reached : (s : State) (t : ℕ) (a : Act) → Reached b s → Allowed b s t a → Reached b (Acts.stateAfter b s t a)
+  act-reached : (s : State) (t : ℕ) (a : Act) → Reached b s → Allowed b s t a → Reached b (stateAfterAct b s t a)
   act-reached s t a r k =
       record {
         clean = act-done b s t a (r .clean) k .clean;
@@ -53,7 +53,7 @@ module _ (p : Plan) (taken : planFault p ≡ 0) where
       go (replaces q e late two k same) =
           let t : ℕ = tickOf c in
           subst (λ x. Reached b (x .state)) (sym same)
-          (act-reached (Acts.stateAfter b s t (takes q)) t (puts q e) (act-reached s t (takes q) r (k .first))
+          (act-reached (stateAfterAct b s t (takes q)) t (puts q e) (act-reached s t (takes q) r (k .first))
           (k .second))
 
   after-reached : (calls : List Call) (s : State) → Reached b s → Reached b (stateAfter b s calls)

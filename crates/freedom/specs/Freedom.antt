@@ -11,12 +11,8 @@ use Rattle.settling.specs.Requests.{unsatisfied}
 use Rattle.states.specs.Requests.{isHolding}
 use Rattle.rules.specs.Calls.{phasesOf, answered}
 use Rattle.boards.specs.Fresh.{boardOf, freshState}
+use Rattle.runs.specs.Events.{stateAfter}
 use Rattle.queries.specs.Queries.{Chain}
-
--- Clause 6.1: the state after the calls. Each call gets the state that the one before it left.
-unfoldable pub stateAfter : Board → State → List Call → State
-stateAfter b s [] = s
-stateAfter b s (c ∷ later) = stateAfter b (answered b s c .state) later
 
 -- Clause 6.1: from the fresh arbiter. The theorem asks that the plan is accepted.
 abbrev pub reachedBy : Plan → List Call → State

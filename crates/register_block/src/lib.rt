@@ -10,12 +10,12 @@ use states::State;
 use states::Terms;
 ghost use mathlib.Core.Path.{_≡_};
 ghost use Rattle.rules.specs.InPlace.{boardBy};
-ghost use Rattle.registers.specs.Registers.{registerRead, readSays};
-ghost use Rattle.commands.specs.Commands.{registerWrite, writeSays};
+ghost use Rattle.registers.specs.Registers.{registerRead, registerSays};
+ghost use Rattle.commands.specs.Commands.{registerWrite, writtenSays};
 
 // Reads an offset of the block. Refused by 18.
 pub fn read_register(block: &Block, offset: u8) -> ReadAnswer
-    ensures { λ r. ⌜ readSays r ≡ registerRead (now (block .entry)) offset ⌝ }
+    ensures { λ r. ⌜ registerSays r ≡ registerRead (now (block .entry)) offset ⌝ }
 {
     read(*block, offset)
 }
@@ -30,7 +30,7 @@ pub fn write_register(
     offset: u8,
     value: u8,
 ) -> Written
-    ensures { λ r. ⌜ writeSays r (now (block .exit))
+    ensures { λ r. ⌜ writtenSays r (now (block .exit))
         ≡ registerWrite (boardBy terms (now (rows .entry)) (now (lengths .entry))) state
         (now (block .entry)) offset value ⌝ }
 {

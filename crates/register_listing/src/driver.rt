@@ -9,7 +9,7 @@ use states::State;
 use states::Terms;
 ghost use mathlib.Core.Path.{_≡_};
 ghost use Rattle.rules.specs.InPlace.{boardBy};
-ghost use Rattle.registers.specs.Registers.{registerRead, readSays};
+ghost use Rattle.registers.specs.Registers.{registerRead, registerSays};
 ghost use Rattle.commands.specs.Commands.{registerWrite, changeSays};
 
 pub fn write_lent(
@@ -33,7 +33,7 @@ pub fn write_lent(
 }
 
 pub fn read_lent(block: Block, offset: u8) -> ReadAnswer
-    ensures { λ r. ⌜ readSays r ≡ registerRead block offset ⌝ }
+    ensures { λ r. ⌜ registerSays r ≡ registerRead block offset ⌝ }
 {
     let kept = block;
     read_register(&kept, offset)

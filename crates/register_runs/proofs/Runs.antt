@@ -23,9 +23,9 @@ use Rattle.registers.specs.declared.Block.{Block}
 use Rattle.registers.specs.Registers.{pendingIn, raised, lineOf}
 use Rattle.command_registers.specs.Registers.{commandCall}
 use Rattle.commands.specs.Commands.{WriteAnswer, registerWrite}
-use Rattle.runs.specs.Events.{Event, events}
+use Rattle.runs.specs.Events.{Event, events, stateAfter}
 use Rattle.runs.proofs.refinement.WholeRuns.{whole-runs}
-use Rattle.register_runs.specs.Steps.{Step, reads, writes, calls, Device, freshDevice, stepped, after, carries, grants, clears, unanswered, callsIn, callsOf, replyIn, seenIn, seenOf, stateAfter}
+use Rattle.register_runs.specs.Steps.{Step, reads, writes, calls, Device, freshDevice, stepped, after, carries, grants, clears, unanswered, callsIn, callsOf, replyIn, seenIn, seenOf}
 use Rattle.register_runs.specs.Claim.{bytesAfter, PendingAreGrants, GrantStays, LineIsRight, CallsOfRun, RegisterRuns}
 use Rattle.register_runs.proofs.Replies.{answer-holdable}
 use Rattle.register_runs.proofs.Blocks.{Whole, stored-whole, stored-line, stored-pending, replied-whole, replied-line, replied-pending, replied-reply}

@@ -9,9 +9,9 @@ use Rattle.plans.specs.declared.Plan.{Plan}
 use Rattle.states.specs.declared.Board.{Board}
 use Rattle.boards.specs.Fresh.{boardOf, freshState}
 use Rattle.registers.specs.Registers.{pendingIn, lineOf}
-use Rattle.runs.specs.Events.{events}
+use Rattle.runs.specs.Events.{events, stateAfter}
 use Rattle.runs.specs.Claim.{WholeRuns}
-use Rattle.register_runs.specs.Steps.{Step, Device, freshDevice, after, grants, clears, unanswered, callsOf, seenOf, stateAfter}
+use Rattle.register_runs.specs.Steps.{Step, Device, freshDevice, after, grants, clears, unanswered, callsOf, seenOf}
 
 -- The bytes of the block after a run.
 abbrev pub bytesAfter : Board → List Step → List ℕ

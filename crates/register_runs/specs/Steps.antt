@@ -104,8 +104,3 @@ seenIn b d (calls c) = record { call = c; reply = answered b (d .state) c .reply
 unfoldable pub seenOf : Board → Device → List Step → List Event
 seenOf b d [] = []
 seenOf b d (s ∷ later) = seenIn b d s ++ seenOf b (stepped b d s) later
-
--- Clause 6.1: the state that a list of calls leaves.
-unfoldable pub stateAfter : Board → State → List Call → State
-stateAfter b s [] = s
-stateAfter b s (c ∷ later) = stateAfter b (answered b s c .state) later

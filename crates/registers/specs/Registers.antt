@@ -31,8 +31,8 @@ registerAt offset =
 abbrev pub processorIn : List ℕ → ℕ
 processorIn bytes = getD bytes 1 0
 
-abbrev pub entryIn : List ℕ → ℕ
-entryIn bytes = getD bytes 2 0
+abbrev pub requestedIn : List ℕ → ℕ
+requestedIn bytes = getD bytes 2 0
 
 abbrev pub refusalIn : List ℕ → ℕ
 refusalIn bytes = getD bytes 3 0
@@ -68,14 +68,14 @@ unfoldable pub withLine : List ℕ → Block
 withLine bytes = record { bytes = set bytes 28 (lineOf bytes) }
 
 -- Clause 10.4: 18 for a read of an offset that is not listed.
-abbrev pub readFault : Register → ℕ
-readFault Command = 0
-readFault Argument = 0
-readFault Answer = 0
-readFault Pending = 0
-readFault Enabled = 0
-readFault Line = 0
-readFault Unlisted = 18
+abbrev pub registerFault : Register → ℕ
+registerFault Command = 0
+registerFault Argument = 0
+registerFault Answer = 0
+registerFault Pending = 0
+registerFault Enabled = 0
+registerFault Line = 0
+registerFault Unlisted = 18
 
 -- Clause 10.4: the command reads 0, the line whether it is raised, every other register its byte.
 abbrev pub shownAt : Register → List ℕ → ℕ → ℕ
@@ -89,9 +89,9 @@ shownAt Unlisted bytes offset = 0
 
 -- Clause 10.4: reading an offset of a block.
 unfoldable pub registerRead : Block → ℕ → Said
-registerRead block offset = said (readFault (registerAt offset)) (shownAt (registerAt offset) (block .bytes) offset)
+registerRead block offset = said (registerFault (registerAt offset)) (shownAt (registerAt offset) (block .bytes) offset)
 
 -- A read's answer in numbers: the value, or the refusal.
-abbrev pub readSays : ReadAnswer → Said
-readSays (ReadAnswer.Value value) = record { number = 0; value = value }
-readSays (ReadAnswer.Refused r) = record { number = numberOf r; value = 0 }
+abbrev pub registerSays : ReadAnswer → Said
+registerSays (ReadAnswer.Value value) = record { number = 0; value = value }
+registerSays (ReadAnswer.Refused r) = record { number = numberOf r; value = 0 }

@@ -14,7 +14,7 @@ ghost use Rattle.registers.specs.Registers.{
   lineOf,
   withLine,
   registerRead,
-  readSays,
+  registerSays,
 };
 
 // How many bytes a block has.
@@ -118,7 +118,7 @@ pub fn with_line(bytes: [u8; BLOCK]) -> Block
 
 // Reads an offset of a block. Refused by 18.
 pub fn read(block: Block, offset: u8) -> ReadAnswer
-    ensures { λ r. ⌜ readSays r ≡ registerRead block offset ⌝ }
+    ensures { λ r. ⌜ registerSays r ≡ registerRead block offset ⌝ }
 {
     let bytes = block.bytes;
     let byte = byte_at(&bytes, offset as usize);

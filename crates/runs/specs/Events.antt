@@ -16,3 +16,8 @@ pub record Event : Type 0 where
 unfoldable pub events : Board → State → List Call → List Event
 events b s [] = []
 events b s (c ∷ later) = record { call = c; reply = answered b s c .reply } ∷ events b (answered b s c .state) later
+
+-- Clause 6.1: the state that the calls leave.
+unfoldable pub stateAfter : Board → State → List Call → State
+stateAfter b s [] = s
+stateAfter b s (c ∷ later) = stateAfter b (answered b s c .state) later

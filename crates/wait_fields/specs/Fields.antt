@@ -13,8 +13,8 @@ unfoldable pub stateIn : Phases → ℕ → ℕ
 stateIn ph p = cond (bit (ph .holding) p) 3 (cond (bit (ph .entitled) p) 2 (cond (bit (ph .waiting) p) 1 0))
 
 -- Clause 7.8: the entry of p's request; 255 where p is idle.
-unfoldable pub entryIn : Phases → List ℕ → ℕ → ℕ
-entryIn ph entry p = cond (active ph p) (getD entry p 0) 255
+unfoldable pub entryShown : Phases → List ℕ → ℕ → ℕ
+entryShown ph entry p = cond (active ph p) (getD entry p 0) 255
 
 -- Clauses 7.8 and 4.10: the ticks that p has waited: from the issue's to the last accepted one, at most 4,294,967,295;
 -- 0 where that would run backwards, and 0 unless p's request is unsatisfied. Of one that is, the state has the issue's

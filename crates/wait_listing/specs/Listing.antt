@@ -7,7 +7,7 @@ use Rattle.encoding.specs.Numbers.{bytesOf}
 use Rattle.encoding.specs.Buffers.{roomFault, bufferAfter}
 use Rattle.listing_sizes.specs.Sizes.{listSize}
 use Rattle.settling.specs.declared.Phases.{Phases}
-use Rattle.wait_fields.specs.Fields.{stateIn, entryIn, waitedIn}
+use Rattle.wait_fields.specs.Fields.{stateIn, entryShown, waitedIn}
 
 -- Clause 7.7: a processor's part: its state, its entry, the ticks that it has waited, and its direct waits in k bytes.
 unfoldable pub partBytes : ℕ → ℕ → ℕ → ℕ → ℕ → List ℕ
@@ -16,7 +16,7 @@ partBytes k state entry waited waits = state ∷ entry ∷ bytesOf 4 waited ++ b
 -- The part of processor p, with the direct waits of all in a list.
 unfoldable pub partIn : ℕ → Phases → ℕ → List ℕ → List ℕ → List ℕ → ℕ → List ℕ
 partIn k ph last entry since waits p =
-    partBytes k (stateIn ph p) (entryIn ph entry p) (waitedIn ph last since p) (getD waits p 0)
+    partBytes k (stateIn ph p) (entryShown ph entry p) (waitedIn ph last since p) (getD waits p 0)
 
 -- The bytes f 0, f 1, .. below n, one after the other.
 unfoldable pub inTurn : ℕ → (ℕ → List ℕ) → List ℕ

@@ -39,7 +39,7 @@ use denote.Triple.Clauses.{ensured, lasts}
 use denote.Exit.{yes}
 use Rattle.registers.specs.declared.Block.{Block}
 use Rattle.registers.specs.declared.ReadAnswer.{ReadAnswer}
-use Rattle.registers.specs.Registers.{registerRead, readSays}
+use Rattle.registers.specs.Registers.{registerRead, registerSays}
 use Rattle.registers.proofs.Block as T
 use Rattle.registers.proofs.Block.Laws as T′
 use Rattle.registers.proofs.ReadAnswer as S
@@ -74,7 +74,7 @@ module _ {M : Type 1} (𝓤 : URA M) (H : Heap 𝓤) (A : Atoms 𝓤) (W : Given
   Post = walkOf 𝓤 H A here.ended stayed (here.clauses 𝓤 H A mem run) .post (((κ, tt), (q, tt), tt, x, at), tt)
 
   abbrev Said : ReadAnswer → Type 0
-  Said r = readSays r ≡ registerRead h n
+  Said r = registerSays r ≡ registerRead h n
 
   exits : (r : ReadAnswer) (u : Val) → Said r
       → ent 𝓤 (⋆ 𝓤 H A (‵ (S.the-row .own r (u ∷ [])) ∷ ‵ (flft κ q) ∷ ‵ (fres γ (T.the-row .coded .code h)) ∷ ‵ (fshr-bor κ (λ s. partAt T.the-row s h b o)) ∷ [])) (Post u)

@@ -15,7 +15,7 @@ use Rattle.runs.specs.History.{Act}
 use Rattle.runs.proofs.history.Keeps.{KeptTo, WaitsTo}
 use Rattle.runs.proofs.columns.Columns.{holding}
 use Rattle.runs.proofs.refinement.Clean.{phaseIn, Clean}
-use Rattle.runs.proofs.refinement.Acts.{stateAfter, Allowed}
+use Rattle.runs.proofs.refinement.Acts.{stateAfterAct, Allowed}
 
 -- The lengths and the bounds of entries, on a board.
 abbrev pub lengthOn : Board → ℕ → ℕ
@@ -34,9 +34,9 @@ pub record Arbiter (b : Board) (group : ℕ → Bool) (Lr Lw : ℕ) : Type 1 whe
   pub Timed : State → Type 0
   pub safe-fresh : Safe freshState
   pub timed-fresh : Timed freshState
-  pub safe-act : (s : State) (t : ℕ) (a : Act) → Clean b s → Safe s → Allowed b s t a → Safe (stateAfter b s t a)
+  pub safe-act : (s : State) (t : ℕ) (a : Act) → Clean b s → Safe s → Allowed b s t a → Safe (stateAfterAct b s t a)
   pub timed-act : (s : State) (t : ℕ) (a : Act) → Clean b s → Safe s → Timed s → Kept b group s t → Allowed b s t a
-      → Timed (stateAfter b s t a)
+      → Timed (stateAfterAct b s t a)
   pub exclusive : (s : State) (p q : ℕ) → Clean b s → Safe s → p < slots → q < slots → (p ≡ q → ⊥)
       → phaseIn s p ≡ holding
       → phaseIn s q ≡ holding → conflicts (factsOf b s) p q ≡ false

@@ -21,7 +21,7 @@ use Rattle.runs.proofs.columns.Columns.{idle, waiting}
 use Rattle.runs.proofs.columns.Phases.{Rises, clash, idle-stays, holding-stays, entitled-or-holding-stays, EntitledOrHolding}
 use Rattle.runs.proofs.refinement.State.{bitsAt, bitsOf, held-phase, held-bit, entitled-phase, marks-entitled, bits-in}
 use Rattle.runs.proofs.refinement.Clean.{phaseIn, Clean}
-use Rattle.runs.proofs.refinement.Acts.{callerOf, startOf, stateAfter, phasesAfter, grantsIn, Allowed, begun, start-tidy, settled-rises, act-done}
+use Rattle.runs.proofs.refinement.Acts.{callerOf, startOf, stateAfterAct, phasesAfter, grantsIn, Allowed, begun, start-tidy, settled-rises, act-done}
 
 -- Processor q holds, or is entitled, in the state.
 abbrev pub holdsAt : State → ℕ → Bool
@@ -58,14 +58,14 @@ set-at-the-end false false false h = refl
 -- ---- one act
 
 module _ (b : Board) (s : State) (t : ℕ) (a : Act) (c : Clean b s) (k : Allowed b s t a) (q : ℕ) (l : q < slots) where
-  granted-at : bit (grantsIn b s t a) q ≡ (holdsAt (stateAfter b s t a) q && not (holdsAt (startOf s t a) q))
+  granted-at : bit (grantsIn b s t a) q ≡ (holdsAt (stateAfterAct b s t a) q && not (holdsAt (startOf s t a) q))
   granted-at = bit-mask-at slots (began (startOf s t a .phases) (phasesAfter b s t a)) q l
 
   entitled-at : bit (entitlesIn b s t a) q
-      ≡ (entitledAt (stateAfter b s t a) q && not (entitledAt (startOf s t a) q))
+      ≡ (entitledAt (stateAfterAct b s t a) q && not (entitledAt (startOf s t a) q))
   entitled-at = bit-mask-at slots (became (startOf s t a .phases) (phasesAfter b s t a)) q l
 
-  own-rises : Rises (phaseIn (startOf s t a) q) (phaseIn (stateAfter b s t a) q)
+  own-rises : Rises (phaseIn (startOf s t a) q) (phaseIn (stateAfterAct b s t a) q)
   own-rises = settled-rises (factsOf b (startOf s t a)) everyEntry (startOf s t a .phases) (start-tidy b s t c a k) q l
 
   -- A processor that the act leaves alone.
@@ -75,16 +75,16 @@ module _ (b : Board) (s : State) (t : ℕ) (a : Act) (c : Clean b s) (k : Allowe
         start-tidy b s t c a k .bits q l ∙ ap bitsOf (begun b s t c a k .others q l other .phase)
         ∙ sym (c .tidy .bits q l)
 
-    other-rises : Rises (phaseIn s q) (phaseIn (stateAfter b s t a) q)
+    other-rises : Rises (phaseIn s q) (phaseIn (stateAfterAct b s t a) q)
     other-rises =
-        subst (λ x. Rises x (phaseIn (stateAfter b s t a) q)) (begun b s t c a k .others q l other .phase) own-rises
+        subst (λ x. Rises x (phaseIn (stateAfterAct b s t a) q)) (begun b s t c a k .others q l other .phase) own-rises
 
-    other-granted : bit (grantsIn b s t a) q ≡ (holdsAt (stateAfter b s t a) q && not (holdsAt s q))
-    other-granted = granted-at ∙ ap (λ x. holdsAt (stateAfter b s t a) q && not (x .2)) untouched
+    other-granted : bit (grantsIn b s t a) q ≡ (holdsAt (stateAfterAct b s t a) q && not (holdsAt s q))
+    other-granted = granted-at ∙ ap (λ x. holdsAt (stateAfterAct b s t a) q && not (x .2)) untouched
 
     other-entitled : bit (entitlesIn b s t a) q
-        ≡ (entitledAt (stateAfter b s t a) q && not (entitledAt s q))
-    other-entitled = entitled-at ∙ ap (λ x. entitledAt (stateAfter b s t a) q && not (x .1)) untouched
+        ≡ (entitledAt (stateAfterAct b s t a) q && not (entitledAt s q))
+    other-entitled = entitled-at ∙ ap (λ x. entitledAt (stateAfterAct b s t a) q && not (x .1)) untouched
 
 -- ---- one act and then another of the same processor
 
@@ -98,25 +98,25 @@ or-true false = refl
 
 module _ (b : Board) (s : State) (t p e late : ℕ) (c : Clean b s) (k : BothAllowed b s t p e) where
   abbrev s₁ : State
-  s₁ = stateAfter b s t (takes p)
+  s₁ = stateAfterAct b s t (takes p)
 
   abbrev s₂ : State
-  s₂ = stateAfter b s₁ t (puts p e)
+  s₂ = stateAfterAct b s₁ t (puts p e)
 
-  clean₁ : Clean b (stateAfter b s t (takes p))
+  clean₁ : Clean b (stateAfterAct b s t (takes p))
   clean₁ = act-done b s t (takes p) c (k .first) .clean
 
-  clean₂ : Clean b (stateAfter b (stateAfter b s t (takes p)) t (puts p e))
+  clean₂ : Clean b (stateAfterAct b (stateAfterAct b s t (takes p)) t (puts p e))
   clean₂ = act-done b s₁ t (puts p e) clean₁ (k .second) .clean
 
   -- ---- another processor
 
   module _ (q : ℕ) (l : q < slots) (other : q ≡ p → ⊥) where
-    rises₁ : Rises (phaseIn s q) (phaseIn (stateAfter b s t (takes p)) q)
+    rises₁ : Rises (phaseIn s q) (phaseIn (stateAfterAct b s t (takes p)) q)
     rises₁ = other-rises b s t (takes p) c (k .first) q l other
 
-    rises₂ : Rises (phaseIn (stateAfter b s t (takes p)) q)
-        (phaseIn (stateAfter b (stateAfter b s t (takes p)) t (puts p e)) q)
+    rises₂ : Rises (phaseIn (stateAfterAct b s t (takes p)) q)
+        (phaseIn (stateAfterAct b (stateAfterAct b s t (takes p)) t (puts p e)) q)
     rises₂ = other-rises b s₁ t (puts p e) clean₁ (k .second) q l other
 
     entitled-between : entitledAt s q ≡ true → entitledAt s₂ q ≡ true → entitledAt s₁ q ≡ true
@@ -148,13 +148,13 @@ module _ (b : Board) (s : State) (t p e late : ℕ) (c : Clean b s) (k : BothAll
 
   -- ---- the processor itself: idle in between, and then waiting
 
-  idle-between : bitsAt (stateAfter b s t (takes p) .phases) p ≡ bitsOf idle
+  idle-between : bitsAt (stateAfterAct b s t (takes p) .phases) p ≡ bitsOf idle
   idle-between =
       bits-in (s₁ .phases) p (clean₁ .tidy) (k .first .below) idle
       (idle-stays (own-rises b s t (takes p) c (k .first) p (k .first .below))
       (begun b s t c (takes p) (k .first) .own .now-idle))
 
-  waiting-then : bitsAt (startOf (stateAfter b s t (takes p)) t (puts p e) .phases) p ≡ bitsOf waiting
+  waiting-then : bitsAt (startOf (stateAfterAct b s t (takes p)) t (puts p e) .phases) p ≡ bitsOf waiting
   waiting-then =
       bits-in (startOf s₁ t (puts p e) .phases) p (start-tidy b s₁ t clean₁ (puts p e) (k .second)) (k .second .below)
       waiting

@@ -24,7 +24,7 @@ use Rattle.runs.specs.History.{Act, puts, takes, actsOf}
 use Rattle.runs.proofs.history.Verdicts.{issue-taken, leave-taken}
 use Rattle.runs.proofs.refinement.State.{active-not-idle, inactive-idle}
 use Rattle.runs.proofs.refinement.Clean.{Clean, clean-phases}
-use Rattle.runs.proofs.refinement.Acts.{startFrom, startOf, grantsIn, stateAfter, phasesAfter, Allowed, act-done}
+use Rattle.runs.proofs.refinement.Acts.{startFrom, startOf, grantsIn, stateAfterAct, phasesAfter, Allowed, act-done}
 
 -- ---- by the number that is due
 
@@ -46,7 +46,7 @@ abbrev pub actAnswer : Board → State → ℕ → Act → ℕ → Answer
 actAnswer b s t a late =
     record {
       reply = record { number = 0; granted = grantsIn b s t a; entitled = entitlesIn b s t a; late = late };
-      state = stateAfter b s t a;
+      state = stateAfterAct b s t a;
     }
 
 module _ (b : Board) (s : State) (p t : ℕ) (c : Clean b s) where
@@ -88,12 +88,12 @@ module _ (b : Board) (s : State) (p t : ℕ) (c : Clean b s) where
 -- The answer to an accepted call that takes p's request out and then puts one of p for entry e in: that of both acts.
 abbrev pub bothAnswer : Board → State → ℕ → ℕ → ℕ → ℕ → Answer
 bothAnswer b s t p e late =
-    both (actAnswer b s t (takes p) late) (actAnswer b (stateAfter b s t (takes p)) t (puts p e) 0)
+    both (actAnswer b s t (takes p) late) (actAnswer b (stateAfterAct b s t (takes p)) t (puts p e) 0)
 
 -- The two acts are allowed, each in the state that it finds.
 pub record BothAllowed (b : Board) (s : State) (t p e : ℕ) : Type 0 where
   pub first : Allowed b s t (takes p)
-  pub second : Allowed b (stateAfter b s t (takes p)) t (puts p e)
+  pub second : Allowed b (stateAfterAct b s t (takes p)) t (puts p e)
 
 module _ (b : Board) (s : State) (p t : ℕ) (c : Clean b s) where
   complete-act : completeFault (b .terms) (s .last) (phasesOf b s) p t ≡ 0
@@ -119,7 +119,7 @@ pub handover-acts : (b : Board) (s : State) (p e t : ℕ) → Clean b s
 handover-acts b s p e t c ok =
     let (complete-ok, issue-ok) = halves-accepted b s p e t ok in
     let (first, is-first) = complete-act b s p t c complete-ok in
-    let s₁ : State = stateAfter b s t (takes p) in
+    let s₁ : State = stateAfterAct b s t (takes p) in
     let left-in : completed b s p t .state ≡ s₁ = ap (λ x. x .state) is-first in
     let clean₁ : Clean b s₁ = act-done b s t (takes p) c first .clean in
     let (second, is-second) =

@@ -16,7 +16,7 @@ use Rattle.runs.proofs.history.Spans.{timed, hold-grows}
 use Rattle.runs.proofs.history.Related.{Related, Advanced}
 use Rattle.runs.proofs.columns.Columns.{holding}
 use Rattle.runs.proofs.columns.Phases.{is-active, Unsatisfied, unsatisfied-not-holding}
-use Rattle.runs.proofs.refinement.Clean.{phaseIn, entryIn, sinceIn}
+use Rattle.runs.proofs.refinement.Clean.{phaseIn, entryFor, sinceIn}
 
 -- The holds of the group up to tick n last no longer than their entries' lengths, and the waits no longer than their
 -- bounds.
@@ -31,11 +31,11 @@ Waits bound group n h =
 -- The same of the state: its holders, and its unsatisfied requests.
 abbrev pub KeptTo : (ℕ → ℕ) → (ℕ → Bool) → State → ℕ → Type 0
 KeptTo length-of group s t =
-    (q : ℕ) → q < slots → phaseIn s q ≡ holding → group (entryIn s q) ≡ true → t ≤ sinceIn s q + length-of (entryIn s q)
+    (q : ℕ) → q < slots → phaseIn s q ≡ holding → group (entryFor s q) ≡ true → t ≤ sinceIn s q + length-of (entryFor s q)
 
 abbrev pub WaitsTo : (ℕ → ℕ) → (ℕ → Bool) → State → ℕ → Type 0
 WaitsTo bound group s t =
-    (q : ℕ) → q < slots → Unsatisfied (phaseIn s q) → group (entryIn s q) ≡ true → t ≤ sinceIn s q + bound (entryIn s q)
+    (q : ℕ) → q < slots → Unsatisfied (phaseIn s q) → group (entryFor s q) ≡ true → t ≤ sinceIn s q + bound (entryFor s q)
 
 -- ---- along the calls
 
@@ -75,7 +75,7 @@ kept-to length-of group s t h rel keeps q l held in-group =
     let at-q : r .processor ≡ q = found .1 .processor in
     let (g, w) =
     holding-of s r (rel .each (found .0) (found .1 .listed)) (found .1 .no-end) (ap (phaseIn s) at-q ∙ held) in
-    let entry : r .entry ≡ entryIn s q = sym (w .open-in .entry) ∙ ap (entryIn s) at-q in
+    let entry : r .entry ≡ entryFor s q = sym (w .open-in .entry) ∙ ap (entryFor s) at-q in
     let long : holdOf t r ≡ t - g =
     ap₂ (λ grant end. cond (happened grant) (tickOr end t - tickOr grant t) 0) (w .grant-at) (w .open-in .no-end) in
     let since : sinceIn s q ≡ g = ap (sinceIn s) (sym at-q) ∙ w .since in

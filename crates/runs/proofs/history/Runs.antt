@@ -24,7 +24,7 @@ use Rattle.runs.proofs.history.Together.{either, afterActs, afterBoth, 
 use Rattle.runs.proofs.history.Keeps.{Keeps, Waits, keeps-earlier, keeps-before, waits-on, kept-to, waits-later}
 use Rattle.runs.proofs.history.Arbiter.{lengthOn, boundOn, Kept, Arbiter}
 use Rattle.runs.proofs.refinement.Clean.{Clean, fresh-clean}
-use Rattle.runs.proofs.refinement.Acts.{grantsIn, stateAfter, Allowed, act-done}
+use Rattle.runs.proofs.refinement.Acts.{grantsIn, stateAfterAct, Allowed, act-done}
 
 module _ (b : Board) (group : ℕ → Bool) (Lr Lw : ℕ) (A : Arbiter b group Lr Lw) where
   -- A state and the history that led to it.
@@ -49,7 +49,7 @@ module _ (b : Board) (group : ℕ → Bool) (Lr Lw : ℕ) (A : Arbiter b group L
 
   -- An act that is taken, whatever call carries it out.
   act-outcome : (s : State) (h : History) (t : ℕ) (a : Act) → Reached s h → Allowed b s t a
-      → Outcome s (stateAfter b s t a) h (afterAct h t a (grantsIn b s t a))
+      → Outcome s (stateAfterAct b s t a) h (afterAct h t a (grantsIn b s t a))
   act-outcome s h t a r k =
       let done = act-done b s t a (r .clean) k in
       taken t (k .in-time) refl (act-counted b s t a _ _ done h (r .related)) (done .clean)
@@ -64,12 +64,12 @@ module _ (b : Board) (group : ℕ → Bool) (Lr Lw : ℕ) (A : Arbiter b group L
 
   -- Two acts that are taken at one tick, counted together.
   both-outcome : (s : State) (h : History) (t p e : ℕ) → Reached s h → BothAllowed b s t p e
-      → Outcome s (stateAfter b (stateAfter b s t (takes p)) t (puts p e)) h (afterBoth b s h t p e)
+      → Outcome s (stateAfterAct b (stateAfterAct b s t (takes p)) t (puts p e)) h (afterBoth b s h t p e)
   both-outcome s h t p e r k =
       let one = act-outcome s h t (takes p) r (k .first) in
-      let s₁ : State = stateAfter b s t (takes p) in
+      let s₁ : State = stateAfterAct b s t (takes p) in
       let h₁ : History = afterAct h t (takes p) (grantsIn b s t (takes p)) in
-      subst (Outcome s (stateAfter b s₁ t (puts p e)) h) (sym (both-counted b s t p (r .clean) (k .first) h e))
+      subst (Outcome s (stateAfterAct b s₁ t (puts p e)) h) (sym (both-counted b s t p (r .clean) (k .first) h e))
       (follows one (act-outcome s₁ h₁ t (puts p e) (reached-next r one) (k .second)))
 
   outcome : (c : Call) (s : State) (h : History) → Reached s h
@@ -83,14 +83,14 @@ module _ (b : Board) (group : ℕ → Bool) (Lr Lw : ℕ) (A : Arbiter b group L
       go (acts a late one k same) =
           let t : ℕ = tickOf c in
           subst (λ x. Outcome s (x .state) h (counting h c (x .reply))) (sym same)
-          (subst (λ l. Outcome s (stateAfter b s t a) h (afterActs h t l (grantsIn b s t a))) (sym one)
+          (subst (λ l. Outcome s (stateAfterAct b s t a) h (afterActs h t l (grantsIn b s t a))) (sym one)
           (act-outcome s h t a r k))
       go (replaces p e late two k same) =
           let t : ℕ = tickOf c in
-          let s₁ : State = stateAfter b s t (takes p) in
+          let s₁ : State = stateAfterAct b s t (takes p) in
           let g : ℕ = either (grantsIn b s t (takes p)) (grantsIn b s₁ t (puts p e)) in
           subst (λ x. Outcome s (x .state) h (counting h c (x .reply))) (sym same)
-          (subst (λ l. Outcome s (stateAfter b s₁ t (puts p e)) h (afterActs h t l g)) (sym two)
+          (subst (λ l. Outcome s (stateAfterAct b s₁ t (puts p e)) h (afterActs h t l g)) (sym two)
           (both-outcome s h t p e r k))
 
   -- If the holders keep to their lengths after an act, they kept to them up to its tick before it, and before that.

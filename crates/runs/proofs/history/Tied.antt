@@ -15,14 +15,14 @@ use Rattle.runs.proofs.history.Cases.{by-processor}
 use Rattle.runs.proofs.history.Spans.{timed}
 use Rattle.runs.proofs.columns.Columns.{idle, holding}
 use Rattle.runs.proofs.columns.Phases.{clash, Unsatisfied, unsatisfied-or-holding, unsatisfied-active, unsatisfied-not-holding, holding-stays, idle-was-idle}
-use Rattle.runs.proofs.refinement.Clean.{phaseIn, entryIn, sinceIn}
+use Rattle.runs.proofs.refinement.Clean.{phaseIn, entryFor, sinceIn}
 use Rattle.runs.proofs.refinement.Acts.{Same, Begun, Marked, begins, keeps, Settles}
 
 -- The request has no end, and is its processor's in the state.
 pub record Open (s : State) (r : Request) : Type 0 where
   pub no-end : r .end ≡ never
   pub below : r .processor < slots
-  pub entry : entryIn s (r .processor) ≡ r .entry
+  pub entry : entryFor s (r .processor) ≡ r .entry
 
 pub record Waiting (s : State) (r : Request) : Type 0 where
   pub no-grant : r .grant ≡ never

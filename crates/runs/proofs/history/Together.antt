@@ -15,7 +15,7 @@ use Rattle.runs.proofs.history.Spans.{timed}
 use Rattle.runs.proofs.history.Related.{afterAct}
 use Rattle.runs.proofs.columns.Phases.{clash, idle-stays}
 use Rattle.runs.proofs.refinement.Clean.{Clean}
-use Rattle.runs.proofs.refinement.Acts.{grantsIn, stateAfter, Allowed, Marked, begins, keeps, ActDone, act-done}
+use Rattle.runs.proofs.refinement.Acts.{grantsIn, stateAfterAct, Allowed, Marked, begins, keeps, ActDone, act-done}
 
 -- The processors of either mask.
 abbrev pub either : ℕ → ℕ → ℕ
@@ -68,17 +68,17 @@ afterActs h t acts g = record { requests = map (granting g t) (allActing t acts 
 abbrev pub afterBoth : Board → State → History → ℕ → ℕ → ℕ → History
 afterBoth b s h t p e =
     afterActs h t (takes p ∷ puts p e ∷ [])
-    (either (grantsIn b s t (takes p)) (grantsIn b (stateAfter b s t (takes p)) t (puts p e)))
+    (either (grantsIn b s t (takes p)) (grantsIn b (stateAfterAct b s t (takes p)) t (puts p e)))
 
 module _ (b : Board) (s : State) (t p : ℕ) (c : Clean b s) (k : Allowed b s t (takes p)) where
   -- Whose request is taken out does not begin to hold by that.
   pub gone-not-granted : bit (grantsIn b s t (takes p)) p ≡ false
   gone-not-granted = go (done .settles .marked p (k .below))
     where
-      done : ActDone b s t (takes p) (stateAfter b s t (takes p)) (grantsIn b s t (takes p))
+      done : ActDone b s t (takes p) (stateAfterAct b s t (takes p)) (grantsIn b s t (takes p))
       done = act-done b s t (takes p) c k
 
-      go : Marked (done .start) (stateAfter b s t (takes p)) (grantsIn b s t (takes p)) p
+      go : Marked (done .start) (stateAfterAct b s t (takes p)) (grantsIn b s t (takes p)) p
           → bit (grantsIn b s t (takes p)) p ≡ false
       go (begins m held d since) =
           absurd (clash (idle-stays (done .settles .rises p (k .below)) (done .begun .own .now-idle)) held tt)
@@ -86,10 +86,10 @@ module _ (b : Board) (s : State) (t p : ℕ) (c : Clean b s) (k : Allowed b s t 
 
   pub both-counted : (h : History) (e : ℕ) → afterBoth b s h t p e
       ≡ afterAct (afterAct h t (takes p) (grantsIn b s t (takes p))) t (puts p e)
-      (grantsIn b (stateAfter b s t (takes p)) t (puts p e))
+      (grantsIn b (stateAfterAct b s t (takes p)) t (puts p e))
   unfolding allActing
   both-counted h e =
       let g₁ = grantsIn b s t (takes p) in
-      let g₂ = grantsIn b (stateAfter b s t (takes p)) t (puts p e) in
+      let g₂ = grantsIn b (stateAfterAct b s t (takes p)) t (puts p e) in
       ap (λ rs. record { requests = rs; last = t })
       (counted-together (either g₁ g₂) g₁ g₂ t (bit-either _ _) p e gone-not-granted (h .requests))

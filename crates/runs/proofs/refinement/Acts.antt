@@ -29,7 +29,7 @@ use Rattle.runs.proofs.columns.Phases.{true-not-false, Rises, rises-ris
 use Rattle.runs.proofs.columns.Moves.{rises1, rises2, rises3, rises4}
 use Rattle.runs.proofs.refinement.State.{requestsOf, phaseOf, Tidy, held-phase, held-bit, Becomes, moved, kept, becomes-tidy}
 use Rattle.runs.proofs.refinement.Steps.{second-fails, first-step, second-step, third-step, fourth-step, step1-tidy, step2-tidy, step3-tidy, step4-tidy}
-use Rattle.runs.proofs.refinement.Clean.{phaseIn, entryIn, sinceIn, Clean}
+use Rattle.runs.proofs.refinement.Clean.{phaseIn, entryFor, sinceIn, Clean}
 use Rattle.runs.proofs.refinement.Starts.{put-moves, take-moves}
 
 -- ---- what an act makes of a state
@@ -58,8 +58,8 @@ abbrev pub settledFrom : State → Phases → State
 settledFrom x ph =
     record { last = x .last; phases = ph; since = stamped (x .since) (x .phases) ph (x .last); earlier = x .earlier; entry = x .entry }
 
-abbrev pub stateAfter : Board → State → ℕ → Act → State
-stateAfter b s t a = settledFrom (startOf s t a) (phasesAfter b s t a)
+abbrev pub stateAfterAct : Board → State → ℕ → Act → State
+stateAfterAct b s t a = settledFrom (startOf s t a) (phasesAfter b s t a)
 
 abbrev pub grantsOf : State → Phases → ℕ
 grantsOf x ph = maskOf slots (began (x .phases) ph)
@@ -91,14 +91,14 @@ pub record Allowed (b : Board) (s : State) (t : ℕ) (a : Act) : Type 0 where
 
 -- Processor q's request is the same in both states.
 pub record Same (s x : State) (q : ℕ) : Type 0 where
-  pub entry : entryIn x q ≡ entryIn s q
+  pub entry : entryFor x q ≡ entryFor s q
   pub since : sinceIn x q ≡ sinceIn s q
   pub phase : phaseIn x q ≡ phaseIn s q
 
 pub record NewIn (s x : State) (t p e : ℕ) : Type 0 where
   pub was-idle : phaseIn s p ≡ idle
   pub now-waiting : phaseIn x p ≡ waiting
-  pub entry : entryIn x p ≡ e
+  pub entry : entryFor x p ≡ e
   pub since : sinceIn x p ≡ t
 
 pub record GoneFrom (s x : State) (p : ℕ) : Type 0 where
@@ -125,7 +125,7 @@ module _ (b : Board) (s : State) (t : ℕ) (c : Clean b s) where
         below = k .below;
         others = λ q l other.
             record {
-              entry = stored (s .entry) e q (c .entry-length) ∙ ap (λ u. cond u e (entryIn s q)) (ne-eqb q p other);
+              entry = stored (s .entry) e q (c .entry-length) ∙ ap (λ u. cond u e (entryFor s q)) (ne-eqb q p other);
               since = stored (s .since) t q (c .since-length) ∙ ap (λ u. cond u t (sinceIn s q)) (ne-eqb q p other);
               phase = kept moves q l (ne-eqb q p other);
             };
@@ -133,7 +133,7 @@ module _ (b : Board) (s : State) (t : ℕ) (c : Clean b s) where
             record {
               was-idle = k .may .was-idle;
               now-waiting = moved moves p (k .below) (eq-eqb p p refl);
-              entry = stored (s .entry) e p (c .entry-length) ∙ ap (λ u. cond u e (entryIn s p)) (eq-eqb p p refl);
+              entry = stored (s .entry) e p (c .entry-length) ∙ ap (λ u. cond u e (entryFor s p)) (eq-eqb p p refl);
               since = stored (s .since) t p (c .since-length) ∙ ap (λ u. cond u t (sinceIn s p)) (eq-eqb p p refl);
             };
       }
@@ -162,7 +162,7 @@ module _ (b : Board) (s : State) (t : ℕ) (c : Clean b s) where
 
   -- What Clean asks of the caller's own request.
   abbrev Counts : State → ℕ → Type 0
-  Counts x q = (q < b .terms .processors) × (entryIn x q < b .terms .count) × (sinceIn x q ≤ t)
+  Counts x q = (q < b .terms .processors) × (entryFor x q < b .terms .count) × (sinceIn x q ≤ t)
 
   own-counts : (a : Act) (x : State) → Allowed b s t a → Own s x t a → (phaseIn x (callerOf a) ≡ idle → ⊥)
       → Counts x (callerOf a)
@@ -277,7 +277,7 @@ pub record ActDone (b : Board) (s : State) (t : ℕ) (a : Act) (s′ : State) (g
   pub clean : Clean b s′
 
 pub act-done : (b : Board) (s : State) (t : ℕ) (a : Act) → Clean b s → Allowed b s t a
-    → ActDone b s t a (stateAfter b s t a) (grantsIn b s t a)
+    → ActDone b s t a (stateAfterAct b s t a) (grantsIn b s t a)
 act-done b s t a c k =
     let x = startOf s t a in
     let ph = phasesAfter b s t a in

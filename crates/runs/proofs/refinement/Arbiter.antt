@@ -24,8 +24,8 @@ use Rattle.runs.proofs.columns.Exclusive.{exclusive}
 use Rattle.runs.proofs.columns.ReadWait.{ReadTimed, read-timed-fresh, read-wait-bounded, called-keeps-read-timed}
 use Rattle.runs.proofs.columns.WriteWait.{WriteTimed, write-timed-fresh, Standing, write-wait-bounded, called-keeps-write-timed}
 use Rattle.runs.proofs.refinement.State.{requestsOf}
-use Rattle.runs.proofs.refinement.Clean.{phaseIn, entryIn, sinceIn, Clean, fresh-idle}
-use Rattle.runs.proofs.refinement.Acts.{stateAfter, Allowed, act-done}
+use Rattle.runs.proofs.refinement.Clean.{phaseIn, entryFor, sinceIn, Clean, fresh-idle}
+use Rattle.runs.proofs.refinement.Acts.{stateAfterAct, Allowed, act-done}
 use Rattle.runs.proofs.refinement.Call.{CallOf, act-called}
 use Rattle.runs.proofs.refinement.Board.{reads-apart, lawful, active-below, prompt}
 
@@ -64,8 +64,8 @@ module _ (p : Plan) (taken : planFault p ≡ 0) (G : ℕ → Bool) (closed : Clo
       }
 
   pub safe-act : (s : State) (t : ℕ) (a : Act) → Clean (boardOf p) s → Safe (boardOf p) G s → Allowed (boardOf p) s t a
-      → Safe (boardOf p) G (stateAfter (boardOf p) s t a)
-  safe-act s t a clean safe k = safe-called s (stateAfter b s t a) t safe (act-called b G s t clean a k)
+      → Safe (boardOf p) G (stateAfterAct (boardOf p) s t a)
+  safe-act s t a clean safe k = safe-called s (stateAfterAct b s t a) t safe (act-called b G s t clean a k)
 
   module _ (Lr Lw : ℕ) (bounded : LengthsAtMost p G Lr Lw) where
     timed-called : (s s′ : State) (t : ℕ) → Clean b s → Clean b s′ → s .last ≤ t → Safe b G s → Timed b G Lr Lw s
@@ -97,7 +97,7 @@ module _ (p : Plan) (taken : planFault p ≡ 0) (G : ℕ → Bool) (closed : Clo
         → WaitsTo (boundOn b Lr Lw) G s t
     bounded-at s t clean safe timed kept q l unsat g = go (isWriter (factsOf b s) q) refl
       where
-        go : (w : Bool) → isWriter (factsOf b s) q ≡ w → t ≤ sinceIn s q + boundOn b Lr Lw (entryIn s q)
+        go : (w : Bool) → isWriter (factsOf b s) q ≡ w → t ≤ sinceIn s q + boundOn b Lr Lw (entryFor s q)
         go true w =
             subst (λ u. t ≤ sinceIn s q + cond u ((b .terms .processors - 1) * (Lr + Lw)) (Lr + Lw)) (sym w)
             (write-wait-bounded safe (prompt p taken s clean G Lr Lw bounded t kept) (timed .writes) q
@@ -115,7 +115,7 @@ module _ (p : Plan) (taken : planFault p ≡ 0) (G : ℕ → Bool) (closed : Clo
           timed-fresh = timed-fresh b G Lr Lw;
           safe-act = safe-act;
           timed-act = λ s t a clean safe timed kept k.
-              timed-called s (stateAfter b s t a) t clean (act-done b s t a clean k .clean) (k .in-time) safe timed kept
+              timed-called s (stateAfterAct b s t a) t clean (act-done b s t a clean k .clean) (k .in-time) safe timed kept
               (act-called b G s t clean a k);
           exclusive = λ s i j clean safe li lj d hi hj.
               exclusive (safe .settled) (safe .ordered) (safe .lawful)

@@ -34,7 +34,7 @@ use Rattle.runs.proofs.columns.Columns.{idle, Lawful}
 use Rattle.runs.proofs.columns.Lengths.{Prompt}
 use Rattle.runs.proofs.columns.Rank.{Below}
 use Rattle.runs.proofs.refinement.State.{requestsOf}
-use Rattle.runs.proofs.refinement.Clean.{phaseIn, entryIn, sinceIn, Clean}
+use Rattle.runs.proofs.refinement.Clean.{phaseIn, entryFor, sinceIn, Clean}
 
 module _ (p : Plan) (few : p .count ≤ mostEntries) where
   -- Past the count there is no entry.
@@ -86,32 +86,32 @@ module _ (p : Plan) (taken : planFault p ≡ 0) (s : State) where
   few : p .count ≤ mostEntries
   few = accepted-count p taken
 
-  plan-conflict : (i j : ℕ) → conflicts (factsOf b s) i j ≡ inConflict p (entryIn s i) (entryIn s j)
-  plan-conflict i j = conflict-on-board p few (entryIn s i) (entryIn s j)
+  plan-conflict : (i j : ℕ) → conflicts (factsOf b s) i j ≡ inConflict p (entryFor s i) (entryFor s j)
+  plan-conflict i j = conflict-on-board p few (entryFor s i) (entryFor s j)
 
-  plan-write : (i : ℕ) → isWriter (factsOf b s) i ≡ isWrite (entryAt p (entryIn s i))
-  plan-write i = write-on-board p few (entryIn s i)
+  plan-write : (i : ℕ) → isWriter (factsOf b s) i ≡ isWrite (entryAt p (entryFor s i))
+  plan-write i = write-on-board p few (entryFor s i)
 
-  plan-read : (i : ℕ) → isWriter (factsOf b s) i ≡ false → isRead (entryAt p (entryIn s i)) ≡ true
-  plan-read i h = read-or-write p taken (entryIn s i) ∙ ap not (sym (plan-write i) ∙ h)
+  plan-read : (i : ℕ) → isWriter (factsOf b s) i ≡ false → isRead (entryAt p (entryFor s i)) ≡ true
+  plan-read i h = read-or-write p taken (entryFor s i) ∙ ap not (sym (plan-write i) ∙ h)
 
   pub reads-apart : (i j : ℕ) → isWriter (factsOf (boardOf p) s) i ≡ false → isWriter (factsOf (boardOf p) s) j ≡ false
       → conflicts (factsOf (boardOf p) s) i j ≡ false
   reads-apart i j hi hj =
-      plan-conflict i j ∙ reads-never-conflict p (entryIn s i) (entryIn s j) (plan-read i hi) (plan-read j hj)
+      plan-conflict i j ∙ reads-never-conflict p (entryFor s i) (entryFor s j) (plan-read i hi) (plan-read j hj)
 
   -- What is asked of conflict holds whoever is active.
   pub lawful : (G : ℕ → Bool) → Closed p G → Lawful slots (requestsOf (factsOf (boardOf p) s) G) (phaseIn s)
   lawful G closed =
       record {
         symmetric = λ i j hi hj x.
-            plan-conflict j i ∙ conflict-symmetric p (entryIn s j) (entryIn s i) ∙ sym (plan-conflict i j) ∙ x;
+            plan-conflict j i ∙ conflict-symmetric p (entryFor s j) (entryFor s i) ∙ sym (plan-conflict i j) ∙ x;
         bridge = λ r w v hr hw hv d ar aw av read ww wv x y.
             plan-conflict w v
-            ∙ read-bridges-writes p (entryIn s r) (entryIn s w) (entryIn s v) (plan-read r read)
+            ∙ read-bridges-writes p (entryFor s r) (entryFor s w) (entryFor s v) (plan-read r read)
             (sym (plan-write w) ∙ ww)
             (sym (plan-write v) ∙ wv) (sym (plan-conflict r w) ∙ x) (sym (plan-conflict r v) ∙ y);
-        closed = λ i j hi hj x g. closed (entryIn s i) (entryIn s j) g (sym (plan-conflict i j) ∙ x);
+        closed = λ i j hi hj x g. closed (entryFor s i) (entryFor s j) g (sym (plan-conflict i j) ∙ x);
       }
 
   module _ (c : Clean (boardOf p) s) where
@@ -120,17 +120,17 @@ module _ (p : Plan) (taken : planFault p ≡ 0) (s : State) where
 
     module _ (G : ℕ → Bool) (Lr Lw : ℕ) (bounded : LengthsAtMost p G Lr Lw) where
       -- The length of an active request of the group.
-      length-at-most : (i : ℕ) (write : Bool) → i < slots → G (entryIn s i) ≡ true → (phaseIn s i ≡ idle → ⊥)
-          → isWriter (factsOf b s) i ≡ write → lengthOn b (entryIn s i) ≤ cond write Lw Lr
+      length-at-most : (i : ℕ) (write : Bool) → i < slots → G (entryFor s i) ≡ true → (phaseIn s i ≡ idle → ⊥)
+          → isWriter (factsOf b s) i ≡ write → lengthOn b (entryFor s i) ≤ cond write Lw Lr
       unfolding boardOf
       length-at-most i write l g a w =
-          subst (λ u. lengthOn b (entryIn s i) ≤ cond u Lw Lr) (sym (plan-write i) ∙ w)
-          (subst (λ (n : ℕ). n ≤ cond (isWrite (entryAt p (entryIn s i))) Lw Lr) (sym (length-on-board p few (entryIn s i)))
-          (bounded (entryIn s i) (c .in-plan i l a .1) g))
+          subst (λ u. lengthOn b (entryFor s i) ≤ cond u Lw Lr) (sym (plan-write i) ∙ w)
+          (subst (λ (n : ℕ). n ≤ cond (isWrite (entryAt p (entryFor s i))) Lw Lr) (sym (length-on-board p few (entryFor s i)))
+          (bounded (entryFor s i) (c .in-plan i l a .1) g))
 
       -- Holders that keep to their lengths up to tick t, in columns.
       pub prompt : (t : ℕ) → Kept (boardOf p) G s t
-          → Prompt slots t Lr Lw (requestsOf (factsOf (boardOf p) s) G) (phaseIn s) (sinceIn s) (λ i. lengthOn (boardOf p) (entryIn s i))
+          → Prompt slots t Lr Lw (requestsOf (factsOf (boardOf p) s) G) (phaseIn s) (sinceIn s) (λ i. lengthOn (boardOf p) (entryFor s i))
       prompt t kept =
           record {
             kept = λ i l g k. kept i l k g;

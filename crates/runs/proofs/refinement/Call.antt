@@ -19,7 +19,7 @@ use Rattle.runs.proofs.refinement.Steps.{first-step, first-leaves, seco
 use Rattle.runs.proofs.refinement.First.{stopped-after}
 use Rattle.runs.proofs.refinement.Clean.{phaseIn, sinceIn, Clean}
 use Rattle.runs.proofs.refinement.Starts.{put-in, taken-out}
-use Rattle.runs.proofs.refinement.Acts.{callerOf, startOf, stateAfter, Allowed, Same, Own, Begun, start-tidy, Marked, begins, keeps, Settles, act-done}
+use Rattle.runs.proofs.refinement.Acts.{callerOf, startOf, stateAfterAct, Allowed, Same, Own, Begun, start-tidy, Marked, begins, keeps, Settles, act-done}
 
 -- ---- the ticks
 
@@ -73,7 +73,7 @@ module _ (b : Board) (G : ℕ → Bool) (s : State) (t : ℕ) (c : Clean b s) wh
       (k .may .was-idle))
   start (takes p) k = takes-out p (taken-out (s .phases) p (requestsOf (factsOf b s) G) (k .below) (k .may .was-active))
 
-  pub act-called : (a : Act) → Allowed b s t a → CallOf b G s t (stateAfter b s t a)
+  pub act-called : (a : Act) → Allowed b s t a → CallOf b G s t (stateAfterAct b s t a)
   unfolding settled
   act-called a k =
       let x = startOf s t a in
@@ -97,5 +97,5 @@ module _ (b : Board) (G : ℕ → Bool) (s : State) (t : ℕ) (c : Clean b s) wh
         second = second-step f G y₁ one;
         third = third-step f G (step2 f y₁) two;
         fourth = fourth-step f G (step3 f (step2 f y₁)) three;
-        stamps = stamps s (done .start) (stateAfter b s t a) _ t a (done .begun) (done .settles);
+        stamps = stamps s (done .start) (stateAfterAct b s t a) _ t a (done .begun) (done .settles);
       }

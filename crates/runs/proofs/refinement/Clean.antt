@@ -21,8 +21,8 @@ use Rattle.runs.proofs.refinement.State.{three, bitsAt, bitsOf, phaseOf
 abbrev pub phaseIn : State → ℕ → Phase
 phaseIn s q = phaseOf (s .phases) q
 
-abbrev pub entryIn : State → ℕ → ℕ
-entryIn s q = getD (s .entry) q 0
+abbrev pub entryFor : State → ℕ → ℕ
+entryFor s q = getD (s .entry) q 0
 
 abbrev pub sinceIn : State → ℕ → ℕ
 sinceIn s q = getD (s .since) q 0
@@ -32,7 +32,7 @@ sinceIn s q = getD (s .since) q 0
 pub record Clean (b : Board) (s : State) : Type 0 where
   pub tidy : Tidy (s .phases)
   pub in-plan : (q : ℕ) → q < slots → (phaseIn s q ≡ idle → ⊥)
-      → (q < b .terms .processors) × (entryIn s q < b .terms .count)
+      → (q < b .terms .processors) × (entryFor s q < b .terms .count)
   pub entry-length : length (s .entry) ≡ slots
   pub since-length : length (s .since) ≡ slots
   pub dated : (q : ℕ) → q < slots → (phaseIn s q ≡ idle → ⊥) → sinceIn s q ≤ s .last
@@ -65,7 +65,7 @@ clean-phases b s c =
     counts q l a =
         let p = c .in-plan q l a in
         ap₂ _&&_ (ap₂ _&&_ (lt-ltb q slots l) (lt-ltb q (b .terms .processors) (p .0)))
-        (lt-ltb (entryIn s q) (b .terms .count) (p .1))
+        (lt-ltb (entryFor s q) (b .terms .count) (p .1))
 
     same : (q : ℕ) → q < slots → bitsAt (s .phases) q ≡ counted (inPlan (b .terms) (s .entry) q) (bitsAt (s .phases) q)
     same q l =

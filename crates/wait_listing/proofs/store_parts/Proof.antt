@@ -6,7 +6,7 @@ use native.Mathlib.Omega.{arith}
 use lib.ListN.{length}
 use lib.Seq.{sets, length-sets}
 use Rattle.plans.specs.Entries.{slots}
-use Rattle.wait_fields.specs.Fields.{entryIn, waitedIn}
+use Rattle.wait_fields.specs.Fields.{entryShown, waitedIn}
 use Rattle.listing_sizes.specs.Sizes.{partSize, listSize}
 use Rattle.wait_listing.specs.Listing.{partIn, inTurn}
 use Rattle.wait_listing.proofs.InTurn.{length-part, turn-stores}
@@ -28,7 +28,7 @@ unfolding inTurn
 loop-holds c = (omega arith, refl, refl)
 
 loop-again : tie.Need-loop-again Inv-loop μ-loop
-unfolding partIn entryIn waitedIn
+unfolding partIn entryShown waitedIn
 loop-again c =
     let stored = c .before .before in
     let waited = stored .before .before .before in

@@ -41,7 +41,7 @@ use denote.Triple.Clauses.{ensured, lasts}
 use denote.Exit.{yes}
 use Rattle.registers.specs.declared.Block.{Block}
 use Rattle.registers.specs.declared.ReadAnswer.{ReadAnswer}
-use Rattle.registers.specs.Registers.{registerRead, readSays}
+use Rattle.registers.specs.Registers.{registerRead, registerSays}
 use Rattle.registers.proofs.Block as B
 use Rattle.registers.proofs.Block.Laws as B′
 use Rattle.registers.proofs.ReadAnswer as S
@@ -77,7 +77,7 @@ module _ {M : Type 1} (𝓤 : URA M) (H : Heap 𝓤) (A : Atoms 𝓤) (W : Given
   Post = walkOf 𝓤 H A here.ended stayed (here.clauses 𝓤 H A mem run) .post ((tt, tt, tt, (h, (n, tt)), (mach ∷ [], (vint w8 n ∷ [], tt))), tt)
 
   abbrev Said : ReadAnswer → Type 0
-  Said r = readSays r ≡ registerRead h n
+  Said r = registerSays r ≡ registerRead h n
 
   exits : (r : ReadAnswer) (u : Val) → Said r → ent 𝓤 (sem 𝓤 H A (S.the-row .own r (u ∷ []))) (Post u)
   exits r u e =

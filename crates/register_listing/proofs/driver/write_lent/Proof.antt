@@ -49,7 +49,7 @@ use Rattle.rules.specs.InPlace.{boardBy}
 use Rattle.registers.specs.declared.Block.{Block}
 use Rattle.commands.specs.declared.Change.{Change}
 use Rattle.commands.specs.declared.Written.{Written}
-use Rattle.commands.specs.Commands.{registerWrite, writeSays}
+use Rattle.commands.specs.Commands.{registerWrite, writtenSays}
 use Rattle.states.proofs.Terms as TT
 use Rattle.states.proofs.Terms.Laws as TT′
 use Rattle.states.proofs.State as ST
@@ -141,7 +141,7 @@ module _ {M : Type 1} (𝓤 : URA M) (H : Heap 𝓤) (A : Atoms 𝓤) (W : Given
   Post = walkOf 𝓤 H A here.ended stayed (here.clauses 𝓤 H A at-mem run) .post (((κ₁, (κ₂, tt)), (q₁, (q₂, tt)), tt, x, at), tt)
 
   abbrev Said : Written → Block → Type 0
-  Said r b = writeSays r b ≡ registerWrite (boardBy terms (rows .now) (lengths .now)) state h n v
+  Said r b = writtenSays r b ≡ registerWrite (boardBy terms (rows .now) (lengths .now)) state h n v
 
   goes-write : (l : ℕ) (γ : GName) (ν : ℕ) → ent 𝓤 (sep 𝓤 (mean 𝓤 H A (‵ (flft (ν ∷ []) fullShare) ⊛ Tokens)) (sem 𝓤 H A (Passed l γ ν))) (Write 𝓤 H A at-mem run .pre (to-write l γ ν))
   goes-write l γ ν = qed W ((‵ (flft (ν ∷ []) fullShare) ⊛ Tokens) ∷ ‵ (Passed l γ ν) ∷ []) ∵ join ! $ frame ! $ done !
