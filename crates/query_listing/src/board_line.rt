@@ -25,12 +25,35 @@ fn size_of(processors: u8) -> usize
     list_size(processors) + 16
 }
 
-// Two hexadecimal digits for each byte.
+// The number that at most eight bytes make, the first one highest.
+fn word_of(bytes: &[u8]) -> u64 {
+    let mut word: u64 = 0;
+    let mut i = 0;
+    while i < bytes.len() {
+        word = (word << 8) | wide(bytes[i]);
+        i += 1;
+    }
+    word
+}
+
+// How many bytes are printed next: eight, or what is left.
+fn next_size(left: usize) -> usize
+    requires { ⌜ 1 ≤ left ⌝ }
+    ensures some { λ r. ⌜ 1 ≤ r ⌝ }
+    ensures within { λ r. ⌜ r ≤ left ⌝ }
+    ensures most { λ r. ⌜ r ≤ 8 ⌝ }
+{
+    if left < 8 { left } else { 8 }
+}
+
+// Two hexadecimal digits for each byte, eight bytes in one write.
 pub fn print_bytes(bytes: &[u8]) {
     let mut i = 0;
     while i < bytes.len() {
-        io::print_hex(STDOUT_FILENO, wide(bytes[i]), 2);
-        i += 1;
+        let size = next_size(bytes.len() - i);
+        let end = i + size;
+        io::print_hex(STDOUT_FILENO, word_of(&bytes[i..end]), 2 * size);
+        i = end;
     }
 }
 
