@@ -43,9 +43,7 @@ pub struct Arbiter {
 
 impl Arbiter {
     pub fn new(plan: Plan) -> Arbiter {
-        let n = plan.entries.len() as u8;
-        let conflicts = (0..n).map(|e| (0..n).map(|f| plan.conflict(e, f)).collect()).collect();
-        Arbiter { plan, conflicts, last: 0, requests: Vec::new() }
+        Arbiter { conflicts: plan.conflicts(), plan, last: 0, requests: Vec::new() }
     }
 
     pub fn writes(&self, r: &Request) -> bool {

@@ -4,11 +4,11 @@ use std::io::Write;
 
 fn lines(bytes: &[u8]) -> Result<String, Refusal> {
     let plan = Plan::take(&mut &bytes[..])?;
-    let count = plan.entries.len() as u8;
+    let (count, widened) = (plan.entries.len(), plan.widened());
     let mut out = String::new();
     for i in 0..count {
         for j in i..count {
-            let shared = plan.shared(i, j);
+            let shared = plan.shared(&widened, i, j);
             out += &match shared.first() {
                 None => format!("{i} {j} none\n"),
                 Some(lowest) => format!("{i} {j} {lowest} {}\n", shared.len()),

@@ -86,7 +86,7 @@ impl Plan {
     }
 
     /// Clause 3.1: a write's names, joined with those of each read that shares one of them.
-    fn widened(&self, write: &Entry) -> Resources {
+    fn widened_of(&self, write: &Entry) -> Resources {
         let mut set = write.names.clone();
         for read in self.entries.iter().filter(|e| !e.write) {
             if !read.names.is_disjoint(&write.names) {
@@ -96,17 +96,25 @@ impl Plan {
         set
     }
 
-    /// Clause 3.2: the resources that stand between two entries.
-    pub fn shared(&self, e: u8, f: u8) -> Resources {
-        let (e, f) = (&self.entries[e as usize], &self.entries[f as usize]);
-        match (e.write, f.write) {
+    /// The widened sets of all entries; a read's is not looked at.
+    pub fn widened(&self) -> Vec<Resources> {
+        self.entries.iter().map(|e| self.widened_of(e)).collect()
+    }
+
+    /// Clause 3.2: the resources that stand between two entries, by their places, given the widened sets.
+    pub fn shared(&self, widened: &[Resources], e: usize, f: usize) -> Resources {
+        let names = |e: usize| &self.entries[e].names;
+        match (self.entries[e].write, self.entries[f].write) {
             (false, false) => Resources::new(),
-            (true, true) => self.widened(e).intersection(&self.widened(f)).copied().collect(),
-            _ => e.names.intersection(&f.names).copied().collect(),
+            (true, true) => &widened[e] & &widened[f],
+            _ => names(e) & names(f),
         }
     }
 
-    pub fn conflict(&self, e: u8, f: u8) -> bool {
-        !self.shared(e, f).is_empty()
+    /// Which entries conflict with which.
+    pub fn conflicts(&self) -> Vec<Vec<bool>> {
+        let widened = self.widened();
+        let places = 0..self.entries.len();
+        places.clone().map(|e| places.clone().map(|f| !self.shared(&widened, e, f).is_empty()).collect()).collect()
     }
 }

@@ -1,6 +1,6 @@
 //! Whole runs through a program: no wait passes its figure, and how near the longest come.
 use crate::arbiter::Call;
-use crate::compare::output_of;
+use crate::compare::Runner;
 use crate::logs;
 use crate::measure::measure;
 use crate::plan::{Entry, Plan};
@@ -39,8 +39,8 @@ fn hostile(seed: u64) -> Vec<u8> {
 }
 
 /// Replays a log and notes how near its waits come. False where a wait passes its figure or a holder overran.
-fn within_figures(program: &str, name: &str, log: &[u8], nearest: &mut [Nearest; 33]) -> bool {
-    let text = String::from_utf8(output_of(program, log)).expect("a listing");
+fn within_figures(runner: &mut Runner, name: &str, log: &[u8], nearest: &mut [Nearest; 33]) -> bool {
+    let text = String::from_utf8(runner.output_of(log).expect("the program runs")).expect("a listing");
     let (plan, measured) = measure(log, &text).expect("a listing that fits its log");
     let (read, write) = (plan.read_figure(), plan.write_figure());
     let column = if plan.entries.iter().all(|e| e.write) { 1 } else { 2 };
@@ -57,17 +57,18 @@ fn within_figures(program: &str, name: &str, log: &[u8], nearest: &mut [Nearest;
 /// So many hostile logs, and the logs in which a read and a write wait their longest. Those must reach the figure.
 pub fn waits(program: &str, count: u64) -> bool {
     let (mut passed, mut failed) = (0, 0);
+    let mut runner = Runner::new(program).expect("a place for two files");
     let mut nearest = [[0; 3]; 33];
     let mut note = |fine: bool| if fine { passed += 1 } else { failed += 1 };
     for seed in 0..count {
-        note(within_figures(program, &format!("hostile log {seed}"), &hostile(seed), &mut nearest));
+        note(within_figures(&mut runner, &format!("hostile log {seed}"), &hostile(seed), &mut nearest));
     }
     for m in 2..=32 {
         let mut own = [[0; 3]; 33];
-        let fine = within_figures(program, &format!("longest write of {m}"), &longest_write(m), &mut own);
+        let fine = within_figures(&mut runner, &format!("longest write of {m}"), &longest_write(m), &mut own);
         note(fine && own[m as usize][1] == 100);
         if m >= 3 {
-            let fine = within_figures(program, &format!("longest read of {m}"), &longest_read(m), &mut own);
+            let fine = within_figures(&mut runner, &format!("longest read of {m}"), &longest_read(m), &mut own);
             note(fine && own[m as usize][0] == 100);
         }
         let row = &mut nearest[m as usize];

@@ -1,0 +1,13 @@
+-- `refuse_unless` meets its contract: what it returns is the definition itself. Assumes nothing.
+use borrow.Author.Needs.{needs}
+use Rattle.refusals.proofs.refuse_unless.Statement.{statement}
+use Rattle.refusals.proofs.refuse_unless.Tie as tie
+
+returns : tie.Need-returns
+returns c = search needs
+
+returns-2 : tie.Need-returns-2
+returns-2 c = search needs
+
+pub refuse-unless-spec : {M : Type 1} → statement M
+refuse-unless-spec = tie.close (tie.spec returns returns-2)
