@@ -2,188 +2,181 @@
 // one past the last: its number, state, direct waits and reach; then the bytes of the whole board's list, and those of
 // a scratch after a reach. A test program: its output is compared with another's.
 mod board_line;
+mod input;
+mod query_line;
 mod scratch_line;
+mod text;
 
+use board_line::put_board_line;
 use call_counts::COUNT_BYTES;
 use encoding::Outcome;
-use fronts::bring_to_front;
-use fronts::copy_in;
-use libc::STDIN_FILENO;
-use libc::STDOUT_FILENO;
+use input::INPUT_ROOM;
+use input::Input;
+use input::after;
+use input::opening;
+use lines::line_size;
 use log_input::due_size;
-use log_input::fill_plan;
-use log_input::fill_to;
+use log_openings::Begun;
 use logs::CountAnswer;
 use logs::RECORD_BYTES;
 use plans::SLOTS;
-use plans::mask_size;
-use queries::MaskAnswer;
-use queries::PhaseAnswer;
-use refusals::Refusal;
+use query_line::query_line;
 use replay::RanBlock;
-use row_words::MOST_ROOM;
+use scratch_line::put_scratch_line;
 use states::Board;
 use states::State;
-use whole_listing::BLOCK_ROOM;
-use whole_listing::LINES_ROOM;
-use whole_listing::PLAN_ROOM;
-ghost use Prim.Native.Nat.{_≤_};
-ghost use lib.ListN.{length};
-ghost use Rattle.encoding.specs.Buffers.{outcomeSays};
+use text::PAGE_ROOM;
+use text::Page;
+use text::front;
+use text::print;
+use text::put_line;
 
 // The processors that are asked for: all that a state holds, and one past them.
 const ASKED: u8 = SLOTS as u8 + 1;
 
-fn print_refusal(refusal: Refusal) {
-    io::write_all(STDOUT_FILENO, b" refused ");
-    io::print_decimal(STDOUT_FILENO, refusals::number(refusal) as u64);
+// The state before a call, the input from its record on, and whether a refusal or a failed read ended the replay.
+struct Turn {
+    state: State,
+    input: Input,
+    over: bool,
 }
 
-// The digits of a mask, two for each of its bytes.
-fn digits_of(processors: u8) -> usize {
-    2 * mask_size(processors)
-}
-
-fn print_mask(answer: MaskAnswer, digits: usize) {
-    match answer {
-        MaskAnswer::Mask(mask) => {
-            io::write_all(STDOUT_FILENO, b" ");
-            io::print_hex(STDOUT_FILENO, mask as u64, digits);
-        }
-        MaskAnswer::Refused(refusal) => print_refusal(refusal),
-    }
-}
-
-// The scratch is as large as a reach needs, so that none is refused for it.
-fn print_query(board: Board, state: State, processor: u8) {
-    let mut scratch = [0u8; MOST_ROOM];
-    let digits = digits_of(board.terms.processors);
-    io::print_decimal(STDOUT_FILENO, processor as u64);
-    let phase = queries::phase_of(board, state, processor);
-    match phase {
-        PhaseAnswer::Is(is) => {
-            io::write_all(STDOUT_FILENO, b" ");
-            io::print_decimal(STDOUT_FILENO, queries::phase_number(is) as u64);
-            print_mask(wait_queries::direct_waits(board, state, processor), digits);
-            print_mask(
-                reach_queries::reach(board, state, processor, &mut scratch),
-                digits,
-            );
-        }
-        PhaseAnswer::Refused(refusal) => print_refusal(refusal),
-    }
-    io::write_all(STDOUT_FILENO, b"\n");
-}
-
-fn print_queries(board: Board, state: State) {
+fn put_queries(page: Page, board: Board, state: State) -> Page {
+    let mut out = page;
     let mut processor: u8 = 0;
     while processor < ASKED {
-        print_query(board, state, processor);
+        out = put_line(out, query_line(board, state, processor));
         processor += 1;
     }
-}
-
-// Writes the line at the start of `out`, if there is one.
-fn show(line: Outcome, out: &[u8])
-    requires { ⌜ outcomeSays line .value ≤ length (now out) ⌝ }
-{
-    let size = lines::line_size(line);
-    io::write_all(STDOUT_FILENO, &out[..size]);
+    out
 }
 
 // One call: its line, and the queries after it unless a refusal ended the replay.
-fn print_call(board: Board, state: State, bytes: &[u8], out: &mut [u8]) -> RanBlock {
-    let ran = replay::run(board, state, 1, bytes, out);
-    let written = ran.written;
-    io::write_all(STDOUT_FILENO, &out[..written]);
-    if !ran.ended {
-        let after = ran.state;
-        print_queries(board, after);
-        board_line::print_board_line(board, after);
-        scratch_line::print_scratch_line(board, after);
+fn print_call(board: Board, state: State, bytes: [u8; INPUT_ROOM]) -> RanBlock {
+    let mut out = [0u8; PAGE_ROOM];
+    let ran = replay::run(board, state, 1, &bytes, &mut out);
+    let page = Page {
+        bytes: out,
+        size: ran.written,
+    };
+    if ran.ended {
+        print(page);
+    } else {
+        let next = ran.state;
+        let asked = put_queries(page, board, next);
+        let listed = put_board_line(asked, board, next);
+        print(put_scratch_line(listed, board, next));
     }
     ran
 }
 
-fn input_failed() {
-    os::fail(b"query_listing: standard input");
+// A call, and then the input as far as it is needed with so many calls left.
+fn take_turn(board: Board, turn: Turn, left: u16) -> Turn {
+    let state = turn.state;
+    let input = turn.input;
+    let bytes = input.bytes;
+    let ran = print_call(board, state, bytes);
+    let next = ran.state;
+    if ran.ended {
+        Turn {
+            state: next,
+            input: input,
+            over: true,
+        }
+    } else {
+        let fed = after(input, RECORD_BYTES, due_size(left));
+        Turn {
+            state: next,
+            input: fed,
+            over: fed.failed,
+        }
+    }
+}
+
+fn has_record(turn: Turn) -> bool {
+    let input = turn.input;
+    (RECORD_BYTES <= input.have) & !turn.over
+}
+
+// Writes the line at the start of `out`, if there is one.
+fn show(line: Outcome, out: [u8; PAGE_ROOM]) {
+    print(Page {
+        bytes: out,
+        size: line_size(line),
+    });
+}
+
+fn print_end(left: u16, input: Input) {
+    let mut out = [0u8; PAGE_ROOM];
+    let bytes = input.bytes;
+    let line = log_ends::finish(left, front(&bytes, input.have), &mut out);
+    show(line, out);
 }
 
 // The calls, one by one as they arrive.
-fn print_calls(
-    board: Board,
-    state: State,
-    calls: u16,
-    block: &mut [u8],
-    filled: usize,
-    out: &mut [u8],
-) {
-    let mut current = state;
+fn print_calls(board: Board, state: State, calls: u16, input: Input) {
     let mut left = calls;
-    let mut have = filled;
-    loop {
-        let fed = fill_to(STDIN_FILENO, block, have, due_size(left));
-        if fed.failed {
-            input_failed();
-            return;
-        }
-        have = fed.have;
-        if (left == 0) | (have < RECORD_BYTES) {
-            break;
-        }
-        let ran = print_call(board, current, &block[..have], out);
-        if ran.ended {
-            return;
-        }
-        let after = ran.state;
-        current = after;
+    let mut turn = Turn {
+        state: state,
+        input: input,
+        over: input.failed,
+    };
+    while 0 < left && has_record(turn) {
         left -= 1;
-        have = bring_to_front(block, RECORD_BYTES, have);
+        turn = take_turn(board, turn, left);
     }
-    let line = log_ends::finish(left, &block[..have], out);
+    if !turn.over {
+        let rest = turn.input;
+        print_end(left, rest);
+    }
+}
+
+fn print_count(input: Input) -> CountAnswer {
+    let mut out = [0u8; PAGE_ROOM];
+    let bytes = input.bytes;
+    let counted = log_ends::count(front(&bytes, input.have), &mut out);
+    let line = counted.line;
     show(line, out);
+    counted.calls
 }
 
 // After the plan: the call count, and then the calls.
-fn print_rest(board: Board, state: State, bytes: &[u8], block: &mut [u8], out: &mut [u8]) {
-    let first = copy_in(bytes, block);
-    let fed = fill_to(STDIN_FILENO, block, first, COUNT_BYTES);
-    if fed.failed {
-        input_failed();
-        return;
-    }
-    let have = fed.have;
-    let counted = log_ends::count(&block[..have], out);
-    let line = counted.line;
-    show(line, out);
-    let calls = counted.calls;
-    if let CountAnswer::Calls(left) = calls {
-        let rest = bring_to_front(block, COUNT_BYTES, have);
-        print_calls(board, state, left, block, rest, out);
+fn print_rest(board: Board, state: State, input: Input) {
+    if !input.failed {
+        let calls = print_count(input);
+        if let CountAnswer::Calls(left) = calls {
+            print_calls(
+                board,
+                state,
+                left,
+                after(input, COUNT_BYTES, due_size(left)),
+            );
+        }
     }
 }
 
-fn print_log(plan: &mut [u8], block: &mut [u8], out: &mut [u8]) {
-    let fed = fill_plan(STDIN_FILENO, plan);
-    if fed.failed {
-        input_failed();
-        return;
-    }
-    let filled = fed.have;
-    let begun = log_openings::begin(&plan[..filled], out);
+fn print_plan(input: Input) -> Begun {
+    let mut out = [0u8; PAGE_ROOM];
+    let bytes = input.bytes;
+    let begun = log_openings::begin(front(&bytes, input.have), &mut out);
     let line = begun.line;
     show(line, out);
-    let board = begun.board;
-    let state = begun.state;
+    begun
+}
+
+fn print_log(input: Input) {
+    let begun = print_plan(input);
     let outcome = begun.outcome;
     if let Outcome::Bytes(size) = outcome {
-        print_rest(board, state, &plan[size..filled], block, out);
+        let board = begun.board;
+        let state = begun.state;
+        print_rest(board, state, after(input, size, COUNT_BYTES));
     }
 }
 
 fn main() {
-    let mut plan = [0u8; PLAN_ROOM];
-    let mut block = [0u8; BLOCK_ROOM];
-    let mut out = [0u8; LINES_ROOM];
-    print_log(&mut plan, &mut block, &mut out);
+    let input = opening();
+    if !input.failed {
+        print_log(input);
+    }
 }

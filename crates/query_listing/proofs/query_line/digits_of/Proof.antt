@@ -2,8 +2,8 @@
 use native.Mathlib.Omega.{arith}
 use Rattle.listing_sizes.proofs.Sizes.{mask-size-small}
 use borrow.Author.Needs.{needs}
-use Rattle.query_listing.proofs.digits_of.Statement.{statement}
-use Rattle.query_listing.proofs.digits_of.Tie as tie
+use Rattle.query_listing.proofs.query_line.digits_of.Statement.{statement}
+use Rattle.query_listing.proofs.query_line.digits_of.Tie as tie
 
 mul-result : tie.Need-mul-result
 mul-result c = omega (arith, c .mask-size .ensures, mask-size-small (c .before .args .processors))

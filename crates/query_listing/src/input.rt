@@ -1,0 +1,42 @@
+// The log as it arrives, by value: no more is waited for than is needed to go on. A failed read is reported here.
+use fronts::bring_to_front;
+use libc::STDIN_FILENO;
+use log_input::Fed;
+use log_input::fill_plan;
+use log_input::fill_to;
+
+// More than the bytes of the longest plan.
+pub const INPUT_ROOM: usize = 4096;
+
+// The bytes that were read and not yet used are the first ones.
+pub struct Input {
+    pub bytes: [u8; INPUT_ROOM],
+    pub have: usize,
+    pub failed: bool,
+}
+
+fn input_of(bytes: [u8; INPUT_ROOM], fed: Fed) -> Input {
+    if fed.failed {
+        os::fail(b"query_listing: standard input");
+    }
+    Input {
+        bytes: bytes,
+        have: fed.have,
+        failed: fed.failed,
+    }
+}
+
+// The start of the input, up to the plan's end at least.
+pub fn opening() -> Input {
+    let mut bytes = [0u8; INPUT_ROOM];
+    let fed = fill_plan(STDIN_FILENO, &mut bytes);
+    input_of(bytes, fed)
+}
+
+// So many bytes are used; behind them so many are needed.
+pub fn after(input: Input, used: usize, needed: usize) -> Input {
+    let mut bytes = input.bytes;
+    let first = bring_to_front(&mut bytes, used, input.have);
+    let fed = fill_to(STDIN_FILENO, &mut bytes, first, needed);
+    input_of(bytes, fed)
+}

@@ -1,0 +1,58 @@
+// The line of a processor: its number, state, direct waits and reach, or the refusal.
+use crate::text::Line;
+use crate::text::empty;
+use crate::text::put;
+use crate::text::put_decimal;
+use crate::text::put_hex;
+use crate::text::put_word;
+use plans::mask_size;
+use queries::MaskAnswer;
+use queries::PhaseAnswer;
+use queries::phase_number;
+use queries::phase_of;
+use reach_queries::reach;
+use refusals::Refusal;
+use row_words::MOST_ROOM;
+use states::Board;
+use states::State;
+use wait_queries::direct_waits;
+
+fn put_refusal(line: Line, refusal: Refusal) -> Line {
+    put_decimal(put_word(line, b" refused "), refusals::number(refusal))
+}
+
+// The digits of a mask, two for each of its bytes.
+fn digits_of(processors: u8) -> usize {
+    2 * mask_size(processors)
+}
+
+fn put_mask(line: Line, answer: MaskAnswer, digits: usize) -> Line {
+    match answer {
+        MaskAnswer::Mask(mask) => put_hex(put(line, 32), mask, digits),
+        MaskAnswer::Refused(refusal) => put_refusal(line, refusal),
+    }
+}
+
+// The scratch is as large as a reach needs, so that none is refused for it.
+fn put_waits(line: Line, board: Board, state: State, processor: u8) -> Line {
+    let mut scratch = [0u8; MOST_ROOM];
+    let digits = digits_of(board.terms.processors);
+    let direct = put_mask(line, direct_waits(board, state, processor), digits);
+    put_mask(direct, reach(board, state, processor, &mut scratch), digits)
+}
+
+fn put_answers(line: Line, board: Board, state: State, processor: u8) -> Line {
+    let phase = phase_of(board, state, processor);
+    match phase {
+        PhaseAnswer::Is(is) => {
+            let said = put_decimal(put(line, 32), phase_number(is));
+            put_waits(said, board, state, processor)
+        }
+        PhaseAnswer::Refused(refusal) => put_refusal(line, refusal),
+    }
+}
+
+pub fn query_line(board: Board, state: State, processor: u8) -> Line {
+    let line = put_decimal(empty(), processor);
+    put(put_answers(line, board, state, processor), 10)
+}
