@@ -1,11 +1,7 @@
-// The line of the whole board: `board`, a space, and the bytes of the list as hexadecimal digits. The buffer is filled
-// with 170 before and is 16 bytes longer than the list; these are printed too.
+// The bytes of the whole board's list as hexadecimal digits. The buffer is filled with 170 before and is 16 bytes
+// longer than the list; these are printed too.
 use crate::text::Page;
-use crate::text::empty;
-use crate::text::put;
 use crate::text::put_bytes;
-use crate::text::put_line;
-use crate::text::put_word;
 use board_queries::list_board;
 use listing_sizes::list_size;
 use plans::SLOTS;
@@ -23,15 +19,10 @@ fn size_of(processors: u8) -> usize
     list_size(processors) + 16
 }
 
-fn put_list(page: Page, board: Board, state: State) -> Page {
+pub fn put_list(page: Page, board: Board, state: State) -> Page {
     let mut buffer = [170u8; MOST];
     let size = size_of(board.terms.processors);
     let lent = &mut buffer[..size];
     list_board(board, state, lent);
     put_bytes(page, lent)
-}
-
-pub fn put_board_line(page: Page, board: Board, state: State) -> Page {
-    let begun = put_line(page, put_word(empty(), b"board "));
-    put_line(put_list(begun, board, state), put(empty(), 10))
 }

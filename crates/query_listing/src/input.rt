@@ -8,21 +8,22 @@ use log_input::fill_to;
 // More than the bytes of the longest plan.
 pub const INPUT_ROOM: usize = 4096;
 
-// The bytes that were read and not yet used are the first ones.
+// The bytes that were read and not yet used are the first ones. A failed read ends the replay, and so does the refusal
+// of a call; nothing is printed then.
 pub struct Input {
     pub bytes: [u8; INPUT_ROOM],
     pub have: usize,
-    pub failed: bool,
+    pub over: bool,
 }
 
-fn input_of(bytes: [u8; INPUT_ROOM], fed: Fed) -> Input {
+fn input_of(bytes: [u8; INPUT_ROOM], fed: Fed, ended: bool) -> Input {
     if fed.failed {
         os::fail(b"query_listing: standard input");
     }
     Input {
         bytes: bytes,
         have: fed.have,
-        failed: fed.failed,
+        over: fed.failed | ended,
     }
 }
 
@@ -30,13 +31,13 @@ fn input_of(bytes: [u8; INPUT_ROOM], fed: Fed) -> Input {
 pub fn opening() -> Input {
     let mut bytes = [0u8; INPUT_ROOM];
     let fed = fill_plan(STDIN_FILENO, &mut bytes);
-    input_of(bytes, fed)
+    input_of(bytes, fed, false)
 }
 
-// So many bytes are used; behind them so many are needed.
-pub fn after(input: Input, used: usize, needed: usize) -> Input {
+// So many bytes are used; behind them so many are needed, or none where the replay has ended.
+pub fn after(input: Input, used: usize, needed: usize, ended: bool) -> Input {
     let mut bytes = input.bytes;
     let first = bring_to_front(&mut bytes, used, input.have);
     let fed = fill_to(STDIN_FILENO, &mut bytes, first, needed);
-    input_of(bytes, fed)
+    input_of(bytes, fed, ended)
 }

@@ -7,7 +7,7 @@ mod query_line;
 mod scratch_line;
 mod text;
 
-use board_line::put_board_line;
+use board_line::put_list;
 use call_counts::COUNT_BYTES;
 use encoding::Outcome;
 use input::INPUT_ROOM;
@@ -22,23 +22,24 @@ use logs::RECORD_BYTES;
 use plans::SLOTS;
 use query_line::query_line;
 use replay::RanBlock;
-use scratch_line::put_scratch_line;
+use scratch_line::put_scratch;
 use states::Board;
 use states::State;
 use text::PAGE_ROOM;
 use text::Page;
+use text::empty;
 use text::front;
 use text::print;
 use text::put_line;
+use text::put_word;
 
 // The processors that are asked for: all that a state holds, and one past them.
 const ASKED: u8 = SLOTS as u8 + 1;
 
-// The state before a call, the input from its record on, and whether a refusal or a failed read ended the replay.
+// The state before a call, and the input from its record on.
 struct Turn {
     state: State,
     input: Input,
-    over: bool,
 }
 
 fn put_queries(page: Page, board: Board, state: State) -> Page {
@@ -51,7 +52,15 @@ fn put_queries(page: Page, board: Board, state: State) -> Page {
     out
 }
 
-// One call: its line, and the queries after it unless a refusal ended the replay.
+fn put_answers(page: Page, board: Board, state: State) -> Page {
+    let asked = put_queries(page, board, state);
+    let board_word = put_line(asked, put_word(empty(), b"board "));
+    let listed = put_list(board_word, board, state);
+    let scratch_word = put_line(listed, put_word(empty(), b"scratch "));
+    put_scratch(scratch_word, board, state)
+}
+
+// One call: its line, and the answers after it unless a refusal ended the replay.
 fn print_call(board: Board, state: State, bytes: [u8; INPUT_ROOM]) -> RanBlock {
     let mut out = [0u8; PAGE_ROOM];
     let ran = replay::run(board, state, 1, &bytes, &mut out);
@@ -63,11 +72,14 @@ fn print_call(board: Board, state: State, bytes: [u8; INPUT_ROOM]) -> RanBlock {
         print(page);
     } else {
         let next = ran.state;
-        let asked = put_queries(page, board, next);
-        let listed = put_board_line(asked, board, next);
-        print(put_scratch_line(listed, board, next));
+        print(put_answers(page, board, next));
     }
     ran
+}
+
+// How many bytes are needed with so many calls left: none after the end.
+fn due(left: u16, ended: bool) -> usize {
+    if ended { 0 } else { due_size(left) }
 }
 
 // A call, and then the input as far as it is needed with so many calls left.
@@ -77,32 +89,27 @@ fn take_turn(board: Board, turn: Turn, left: u16) -> Turn {
     let bytes = input.bytes;
     let ran = print_call(board, state, bytes);
     let next = ran.state;
-    if ran.ended {
-        Turn {
-            state: next,
-            input: input,
-            over: true,
-        }
-    } else {
-        let fed = after(input, RECORD_BYTES, due_size(left));
-        Turn {
-            state: next,
-            input: fed,
-            over: fed.failed,
-        }
+    let rest = after(input, RECORD_BYTES, due(left, ran.ended), ran.ended);
+    Turn {
+        state: next,
+        input: rest,
     }
 }
 
 fn has_record(turn: Turn) -> bool {
     let input = turn.input;
-    (RECORD_BYTES <= input.have) & !turn.over
+    (RECORD_BYTES <= input.have) & !input.over
 }
 
-// Writes the line at the start of `out`, if there is one.
-fn show(line: Outcome, out: [u8; PAGE_ROOM]) {
+fn size_of(line: Outcome, over: bool) -> usize {
+    if over { 0 } else { line_size(line) }
+}
+
+// Writes the line at the start of `out`, if there is one and the replay has not ended.
+fn show(line: Outcome, out: [u8; PAGE_ROOM], over: bool) {
     print(Page {
         bytes: out,
-        size: line_size(line),
+        size: size_of(line, over),
     });
 }
 
@@ -110,7 +117,7 @@ fn print_end(left: u16, input: Input) {
     let mut out = [0u8; PAGE_ROOM];
     let bytes = input.bytes;
     let line = log_ends::finish(left, front(&bytes, input.have), &mut out);
-    show(line, out);
+    show(line, out, input.over);
 }
 
 // The calls, one by one as they arrive.
@@ -119,16 +126,13 @@ fn print_calls(board: Board, state: State, calls: u16, input: Input) {
     let mut turn = Turn {
         state: state,
         input: input,
-        over: input.failed,
     };
     while 0 < left && has_record(turn) {
         left -= 1;
         turn = take_turn(board, turn, left);
     }
-    if !turn.over {
-        let rest = turn.input;
-        print_end(left, rest);
-    }
+    let rest = turn.input;
+    print_end(left, rest);
 }
 
 fn print_count(input: Input) -> CountAnswer {
@@ -136,22 +140,20 @@ fn print_count(input: Input) -> CountAnswer {
     let bytes = input.bytes;
     let counted = log_ends::count(front(&bytes, input.have), &mut out);
     let line = counted.line;
-    show(line, out);
+    show(line, out, input.over);
     counted.calls
 }
 
-// After the plan: the call count, and then the calls.
+// After the plan: the call count, and then the calls. A failed read leaves too few bytes for a count.
 fn print_rest(board: Board, state: State, input: Input) {
-    if !input.failed {
-        let calls = print_count(input);
-        if let CountAnswer::Calls(left) = calls {
-            print_calls(
-                board,
-                state,
-                left,
-                after(input, COUNT_BYTES, due_size(left)),
-            );
-        }
+    let calls = print_count(input);
+    if let CountAnswer::Calls(left) = calls {
+        print_calls(
+            board,
+            state,
+            left,
+            after(input, COUNT_BYTES, due_size(left), false),
+        );
     }
 }
 
@@ -160,23 +162,18 @@ fn print_plan(input: Input) -> Begun {
     let bytes = input.bytes;
     let begun = log_openings::begin(front(&bytes, input.have), &mut out);
     let line = begun.line;
-    show(line, out);
+    show(line, out, input.over);
     begun
 }
 
-fn print_log(input: Input) {
+// A failed read leaves less than a plan.
+fn main() {
+    let input = opening();
     let begun = print_plan(input);
     let outcome = begun.outcome;
     if let Outcome::Bytes(size) = outcome {
         let board = begun.board;
         let state = begun.state;
-        print_rest(board, state, after(input, size, COUNT_BYTES));
-    }
-}
-
-fn main() {
-    let input = opening();
-    if !input.failed {
-        print_log(input);
+        print_rest(board, state, after(input, size, COUNT_BYTES, false));
     }
 }

@@ -1,11 +1,7 @@
-// The line of the scratch: `scratch`, a space, and the bytes of the scratch after processor 0's reach as hexadecimal
-// digits. It is filled with 170 before and is 16 bytes longer than needed; these are printed too.
+// The bytes of the scratch after processor 0's reach as hexadecimal digits. It is filled with 170 before and is 16
+// bytes longer than needed; these are printed too.
 use crate::text::Page;
-use crate::text::empty;
-use crate::text::put;
 use crate::text::put_bytes;
-use crate::text::put_line;
-use crate::text::put_word;
 use reach_queries::reach;
 use row_words::MOST_ROOM;
 use row_words::room_of;
@@ -23,15 +19,10 @@ fn size_of(processors: u8) -> usize
     room_of(processors) + 16
 }
 
-fn put_scratch(page: Page, board: Board, state: State) -> Page {
+pub fn put_scratch(page: Page, board: Board, state: State) -> Page {
     let mut scratch = [170u8; MOST];
     let size = size_of(board.terms.processors);
     let lent = &mut scratch[..size];
     reach(board, state, 0, lent);
     put_bytes(page, lent)
-}
-
-pub fn put_scratch_line(page: Page, board: Board, state: State) -> Page {
-    let begun = put_line(page, put_word(empty(), b"scratch "));
-    put_line(put_scratch(begun, board, state), put(empty(), 10))
 }

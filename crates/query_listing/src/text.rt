@@ -1,17 +1,16 @@
 // Text by value: a short line is made piece by piece, and a page collects the lines of one call, which are written at
-// once. Past the end of either nothing is put.
-use fronts::copy_in;
+// once. Both have room for all that is put there; a place is taken modulo the room so that it is in range.
 use libc::STDOUT_FILENO;
 ghost use Prim.Native.Nat.{_≤_};
 
-// The bytes of the longest line that is made by pieces: a number, a state and two masks.
-const LINE_ROOM: usize = 24;
+// The longest line that is made by pieces has 23 bytes: a number, a state and two masks.
+const LINE_ROOM: usize = 32;
 
-// More than the bytes of all lines of a call.
+// All lines of a call have less than 2000 bytes.
 pub const PAGE_ROOM: usize = 2048;
 
-// The last place of a page.
-const LAST: usize = PAGE_ROOM - 1;
+// The places of a page where two bytes have room.
+const PAIR_ROOM: usize = PAGE_ROOM - 1;
 
 pub struct Line {
     bytes: [u8; LINE_ROOM],
@@ -23,23 +22,7 @@ pub struct Page {
     pub size: usize,
 }
 
-fn at_most(size: usize, most: usize) -> usize
-    ensures { λ r. ⌜ r ≤ most ⌝ }
-{
-    if size < most { size } else { most }
-}
-
-// The first bytes, as many as are there.
-pub fn front(bytes: &[u8], size: usize) -> &[u8] {
-    let end = at_most(size, bytes.len());
-    &bytes[..end]
-}
-
-// Puts a word behind the first bytes, and gives how many they are then.
-fn append(out: &mut [u8], at: usize, word: &[u8]) -> usize {
-    let from = at_most(at, out.len());
-    from + copy_in(word, &mut out[from..])
-}
+// ---- a line
 
 pub fn empty() -> Line {
     Line {
@@ -50,25 +33,22 @@ pub fn empty() -> Line {
 
 pub fn put(line: Line, byte: u8) -> Line {
     let mut bytes = line.bytes;
-    let at = line.size;
-    if at < LINE_ROOM {
-        bytes[at] = byte;
-        Line {
-            bytes: bytes,
-            size: at + 1,
-        }
-    } else {
-        line
+    let at = line.size % LINE_ROOM;
+    bytes[at] = byte;
+    Line {
+        bytes: bytes,
+        size: at + 1,
     }
 }
 
 pub fn put_word(line: Line, word: &[u8]) -> Line {
-    let mut bytes = line.bytes;
-    let size = append(&mut bytes, line.size, word);
-    Line {
-        bytes: bytes,
-        size: size,
+    let mut out = line;
+    let mut i = 0;
+    while i < word.len() {
+        out = put(out, word[i]);
+        i += 1;
     }
+    out
 }
 
 pub fn put_decimal(line: Line, n: u8) -> Line {
@@ -83,10 +63,19 @@ pub fn put_hex(line: Line, n: u32, width: usize) -> Line {
     put_word(line, &digits[..size])
 }
 
+// ---- a page
+
 pub fn put_line(page: Page, line: Line) -> Page {
+    let from = line.bytes;
     let mut bytes = page.bytes;
-    let text = line.bytes;
-    let size = append(&mut bytes, page.size, front(&text, line.size));
+    let mut size = page.size;
+    let mut i = 0;
+    while i < line.size {
+        let at = size % PAGE_ROOM;
+        bytes[at] = from[i % LINE_ROOM];
+        size = at + 1;
+        i += 1;
+    }
     Page {
         bytes: bytes,
         size: size,
@@ -97,24 +86,37 @@ fn glyph(n: u8) -> u8 {
     if n < 10 { 48 + n } else { 87 + n % 16 }
 }
 
-// Two hexadecimal digits for each byte.
-pub fn put_bytes(page: Page, bytes: &[u8]) -> Page {
-    let mut text = page.bytes;
-    let mut at = page.size;
+// Two hexadecimal digits for each byte, and the line feed.
+pub fn put_bytes(page: Page, given: &[u8]) -> Page {
+    let mut bytes = page.bytes;
+    let mut size = page.size;
     let mut i = 0;
-    while i < bytes.len() {
-        let byte = bytes[i];
-        if at < LAST {
-            text[at] = glyph(byte / 16);
-            text[at + 1] = glyph(byte % 16);
-            at += 2;
-        }
+    while i < given.len() {
+        let at = size % PAIR_ROOM;
+        bytes[at] = glyph(given[i] / 16);
+        bytes[at + 1] = glyph(given[i] % 16);
+        size = at + 2;
         i += 1;
     }
+    let end = size % PAGE_ROOM;
+    bytes[end] = 10;
     Page {
-        bytes: text,
-        size: at,
+        bytes: bytes,
+        size: end + 1,
     }
+}
+
+// ---- the first bytes of a buffer
+
+fn at_most(size: usize, most: usize) -> usize
+    ensures { λ r. ⌜ r ≤ most ⌝ }
+{
+    if size < most { size } else { most }
+}
+
+pub fn front(bytes: &[u8], size: usize) -> &[u8] {
+    let end = at_most(size, bytes.len());
+    &bytes[..end]
 }
 
 pub fn print(page: Page) {

@@ -22,5 +22,4 @@ print-calls-spec =
     (λ c. omega arith)
     (λ c. tt)
     (λ c κs. tt)
-    (λ c. tt)
     (λ c. tt))

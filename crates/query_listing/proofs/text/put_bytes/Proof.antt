@@ -6,10 +6,10 @@ use Rattle.query_listing.proofs.text.put_bytes.Statement.{statement}
 use Rattle.query_listing.proofs.text.put_bytes.Tie as tie
 
 abbrev Inv-loop : tie.InvT-loop
-Inv-loop bytes text₀ at₀ i₀ text at i = Unit {0}
+Inv-loop given bytes₀ size₀ i₀ bytes size i = Unit {0}
 
 abbrev μ-loop : tie.MeasureT-loop
-μ-loop bytes text₀ at₀ i₀ text at i = length bytes - i
+μ-loop given bytes₀ size₀ i₀ bytes size i = length given - i
 
 pub put-bytes-spec : {M : Type 1} → statement M
 put-bytes-spec =
@@ -19,13 +19,16 @@ put-bytes-spec =
     μ-loop
     (λ c. tt)
     (λ c. search needs)
-    (λ c κs. search needs)
+    (λ c κs. tt)
     (λ c. search needs)
-    (λ c κs. search needs)
+    (λ c. search needs)
+    (λ c κs. tt)
     (λ c. search needs)
     (λ c. search needs)
     (λ c. search needs)
     (λ c. search needs)
     (λ c. search needs)
     (λ c. tt)
-    (λ c. search needs))
+    (λ c. search needs)
+    (λ c. search needs)
+    (λ c. tt))
