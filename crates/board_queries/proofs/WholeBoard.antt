@@ -17,8 +17,10 @@ use Rattle.states.specs.Faults.{processorFault}
 use Rattle.rules.specs.Calls.{phasesOf}
 use Rattle.wait_fields.specs.Fields.{entryShown, waitedIn}
 use Rattle.listing_sizes.specs.Sizes.{partSize}
-use Rattle.wait_listing.specs.Listing.{partBytes, partIn, listBytes, listBuffer}
-use Rattle.wait_listing.proofs.InTurn.{length-part, part-at}
+use Rattle.wait_parts.specs.Parts.{partBytes}
+use Rattle.wait_parts.proofs.Parts.{length-part}
+use Rattle.wait_listing.specs.Listing.{partIn, listBytes, listBuffer}
+use Rattle.wait_listing.proofs.InTurn.{part-at}
 use Rattle.wait_listing.proofs.Stores.{list-agree}
 use Rattle.queries.specs.Queries.{stateNumber, phaseQuery, waitsFor, waitsQuery, maskSizeOf}
 use Rattle.board_queries.specs.WholeBoard.{listed, boardPart, boardBytes, boardBuffer}

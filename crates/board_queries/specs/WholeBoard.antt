@@ -9,7 +9,8 @@ use Rattle.states.specs.declared.State.{State}
 use Rattle.rules.specs.Calls.{phasesOf}
 use Rattle.wait_fields.specs.Fields.{entryShown, waitedIn}
 use Rattle.listing_sizes.specs.Sizes.{listedOf, listSize}
-use Rattle.wait_listing.specs.Listing.{partBytes, listBytes, listFault, listBuffer}
+use Rattle.wait_parts.specs.Parts.{partBytes}
+use Rattle.wait_listing.specs.Listing.{listBytes, listFault, listBuffer}
 use Rattle.queries.specs.Queries.{stateNumber, waitsFor, maskSizeOf}
 
 -- Clauses 7.7 and 4.10: how many processors are listed.

@@ -5,11 +5,10 @@ use mathlib.Core.List.{List}
 use native.Mathlib.Nat.{mul-le-mul-left, mul-le-mul-right}
 use native.Mathlib.Omega.{arith}
 use lib.ListN.{length}
-use lib.Seq.{sets, length-sets}
+use lib.Seq.{sets}
 use Rattle.encoding.specs.Numbers.{bytesOf}
 use Rattle.encoding.specs.Buffers.{roomFault, bufferAfter}
 use Rattle.encoding.proofs.Numbers.{length-bytesOf}
-use Rattle.encoding.proofs.Room.{stored-where-fits}
 use Rattle.wait_listing.proofs.InTurn.{in-turn-agree, length-in-turn, turn-stores}
 use Rattle.row_words.specs.Words.{wordCount, wordsSize, wordsOf}
 
@@ -37,13 +36,10 @@ module _ (k : ℕ) (f : ℕ → ℕ) where
       → (length next ≡ length l) × (next ≡ sets l 0 (wordsOf k (n + 1) f))
   unfolding wordsOf
   word-stored m n l now next low room size so-far written =
-      let fits : k * n + k ≤ length now = omega (arith, mul-le-mul-left k low) in
-      let stored = written ∙ stored-where-fits now (k * n) (bytesOf k (f n)) k (length-bytesOf k (f n)) fits in
-      let place : k * n ≡ 0 + k * n = omega arith in (
-        ap length stored ∙ length-sets now (k * n) (bytesOf k (f n)) ∙ size,
-        turn-stores k (λ p. bytesOf k (f p)) (λ p. length-bytesOf k (f p)) 0 n l now next so-far
-            (stored ∙ ap (λ (x : ℕ). sets now x (bytesOf k (f n))) place),
-      )
+      let place : k * n ≡ 0 + k * n = omega arith in
+      let whole : 0 + k * m ≤ length l = omega arith in
+      turn-stores k (λ p. bytesOf k (f p)) (λ p. length-bytesOf k (f p)) 0 m n l now next low whole size so-far
+      (written ∙ ap (λ (at : ℕ). bufferAfter (roomFault k (length now) at) (bytesOf k (f n)) now at) place)
 
 pub words-agree : (k n : ℕ) (f g : ℕ → ℕ) → ((p : ℕ) → p < n → f p ≡ g p) → wordsOf k n f ≡ wordsOf k n g
 unfolding wordsOf

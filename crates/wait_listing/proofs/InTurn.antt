@@ -8,12 +8,11 @@ use native.Mathlib.Nat.{le-refl, le-step, le-of-suc-le-suc, not-suc-le-zero, eq-
 use native.Mathlib.Numerals.{add-one}
 use native.Mathlib.Omega.{arith}
 use lib.ListN.{length, take, drop, length-append, length-drop}
-use lib.Seq.{sets, take-append-le, drop-append-le, take-all, drop-at}
-use Rattle.encoding.specs.Numbers.{bytesOf}
-use Rattle.encoding.proofs.Numbers.{length-bytesOf}
+use lib.Seq.{sets, length-sets, take-append-le, drop-append-le, take-all, drop-at}
+use Rattle.encoding.specs.Buffers.{roomFault, bufferAfter}
+use Rattle.encoding.proofs.Room.{stored-where-fits}
 use Rattle.encoding.proofs.Stores.{sets-append}
-use Rattle.listing_sizes.specs.Sizes.{partSize}
-use Rattle.wait_listing.specs.Listing.{partBytes, inTurn}
+use Rattle.wait_listing.specs.Listing.{inTurn}
 
 pub in-turn-more : (n : ℕ) (f : ℕ → List ℕ) → inTurn (n + 1) f ≡ inTurn n f ++ f n
 unfolding inTurn
@@ -24,12 +23,6 @@ unfolding inTurn
 in-turn-agree zero f g same = refl
 in-turn-agree (suc n) f g same =
     ap₂ _++_ (in-turn-agree n f g (λ p l. same p (le-step l))) (same n (le-refl (suc n)))
-
-pub length-part : (k state entry waited waits : ℕ) → length (partBytes k state entry waited waits) ≡ partSize k
-unfolding partBytes
-length-part k state entry waited waits =
-    let both = length-append (bytesOf 4 waited) (bytesOf k waits) in
-    omega (arith, both, length-bytesOf 4 waited, length-bytesOf k waits)
 
 module _ (c : ℕ) (f : ℕ → List ℕ) (size : (p : ℕ) → length (f p) ≡ c) where
   pub length-in-turn : (n : ℕ) → length (inTurn n f) ≡ c * n
@@ -58,13 +51,19 @@ module _ (c : ℕ) (f : ℕ → List ℕ) (size : (p : ℕ) → length (f p) ≡
   part-at (suc n) p l =
       ⊎-elim (last-part n p) (λ h. part-before n p h ∙ part-at n p h) (eq-or-lt-of-le (le-of-suc-le-suc l))
 
-  -- A turn stores the next part, where the first one lies at `at`.
-  pub turn-stores : (at n : ℕ) (l now next : List ℕ) → now ≡ sets l at (inTurn n f) → next ≡ sets now (at + c * n) (f n)
-      → next ≡ sets l at (inTurn (n + 1) f)
-  turn-stores at n l now next so-far stored =
-      let place : at + length (inTurn n f) ≡ at + c * n = ap (λ (x : ℕ). at + x) (length-in-turn n) in
-      stored
-      ∙ ap (λ x. sets x (at + c * n) (f n)) so-far
-      ∙ ap (λ (x : ℕ). sets (sets l at (inTurn n f)) x (f n)) (sym place)
-      ∙ sym (sets-append l at (inTurn n f) (f n))
-      ∙ ap (sets l at) (sym (in-turn-more n f))
+  -- A turn stores the next part, where the first one lies at `at` and all of m parts have room.
+  pub turn-stores : (at m n : ℕ) (l now next : List ℕ) → n < m → at + c * m ≤ length l → length now ≡ length l
+      → now ≡ sets l at (inTurn n f)
+      → next ≡ bufferAfter (roomFault c (length now) (at + c * n)) (f n) now (at + c * n)
+      → (length next ≡ length l) × (next ≡ sets l at (inTurn (n + 1) f))
+  turn-stores at m n l now next low room same so-far written =
+      let fits : at + c * n + c ≤ length now = omega (arith, mul-le-mul-left c low) in
+      let stored = written ∙ stored-where-fits now (at + c * n) (f n) c (size n) fits in
+      let place : at + length (inTurn n f) ≡ at + c * n = ap (λ (x : ℕ). at + x) (length-in-turn n) in (
+        ap length stored ∙ length-sets now (at + c * n) (f n) ∙ same,
+        stored
+            ∙ ap (λ x. sets x (at + c * n) (f n)) so-far
+            ∙ ap (λ (x : ℕ). sets (sets l at (inTurn n f)) x (f n)) (sym place)
+            ∙ sym (sets-append l at (inTurn n f) (f n))
+            ∙ ap (sets l at) (sym (in-turn-more n f)),
+      )

@@ -1,17 +1,13 @@
--- The wait listing: the part of a processor, and all bytes. The phases are of the requests that count.
+-- The wait listing: which part a processor has, and all bytes. The phases are of the requests that count.
 -- Specification, section 7.
 use Prim.Native.Nat.{ℕ, zero, suc}
 use mathlib.Core.List.{List, [], _∷_, _++_}
 use lib.ListN.{length, getD}
-use Rattle.encoding.specs.Numbers.{bytesOf}
 use Rattle.encoding.specs.Buffers.{roomFault, bufferAfter}
 use Rattle.listing_sizes.specs.Sizes.{listSize}
 use Rattle.settling.specs.declared.Phases.{Phases}
 use Rattle.wait_fields.specs.Fields.{stateIn, entryShown, waitedIn}
-
--- Clause 7.7: a processor's part: its state, its entry, the ticks that it has waited, and its direct waits in k bytes.
-unfoldable pub partBytes : ℕ → ℕ → ℕ → ℕ → ℕ → List ℕ
-partBytes k state entry waited waits = state ∷ entry ∷ bytesOf 4 waited ++ bytesOf k waits
+use Rattle.wait_parts.specs.Parts.{partBytes}
 
 -- The part of processor p, with the direct waits of all in a list.
 unfoldable pub partIn : ℕ → Phases → ℕ → List ℕ → List ℕ → List ℕ → ℕ → List ℕ

@@ -9,54 +9,19 @@ use plans::mask_size;
 use refusals::Verdict;
 use room::check_room;
 use settling::Phases;
-use storing::write_number;
 use wait_fields::entry_at;
 use wait_fields::state_at;
 use wait_fields::waited_at;
+use wait_parts::store_part;
 ghost use mathlib.Core.Path.{_≡_};
-ghost use Prim.Native.Nat.{_+_, _≤_};
+ghost use Prim.Native.Nat.{_≤_};
 ghost use lib.ListN.{length};
 ghost use lib.Seq.{sets};
 ghost use Rattle.refusals.specs.Due.{said};
-ghost use Rattle.encoding.specs.Numbers.{bytesOf};
 ghost use Rattle.encoding.specs.Buffers.{outcomeSays};
 ghost use Rattle.plans.specs.Entries.{slots, maskSizeFor};
-ghost use Rattle.listing_sizes.specs.Sizes.{listedOf, partSize, listSize};
-ghost use Rattle.wait_listing.specs.Listing.{partBytes, partIn, inTurn, listFault, listBuffer};
-
-// Stores a mask in so many bytes from position at: two, as up to 16 processors have them, without a loop.
-fn store_mask(size: usize, mask: u32, buffer: &mut [u8], at: usize)
-    requires { ⌜ at + size ≤ length (now buffer) ⌝ }
-    ensures { λ _. ⌜ now (buffer .exit) ≡ sets (now (buffer .entry)) at (bytesOf size mask) ⌝ }
-{
-    if size == 2 {
-        buffer[at] = (mask % 256) as u8;
-        buffer[at + 1] = (mask / 256 % 256) as u8;
-        return;
-    }
-    write_number(mask as u64, size, buffer, at);
-}
-
-// Clause 7.7: stores a processor's part from position at, with its direct waits in so many bytes.
-fn store_part(
-    size: usize,
-    state: u8,
-    entry: u8,
-    waited: u64,
-    waits: u32,
-    buffer: &mut [u8],
-    at: usize,
-)
-    requires { ⌜ at + partSize size ≤ length (now buffer) ⌝ }
-    ensures { λ _. ⌜
-        now (buffer .exit) ≡ sets (now (buffer .entry)) at (partBytes size state entry waited waits)
-        ⌝ }
-{
-    buffer[at] = state;
-    buffer[at + 1] = entry;
-    write_number(waited, 4, buffer, at + 2);
-    store_mask(size, waits, buffer, at + HEAD_BYTES);
-}
+ghost use Rattle.listing_sizes.specs.Sizes.{listedOf, listSize};
+ghost use Rattle.wait_listing.specs.Listing.{partIn, inTurn, listFault, listBuffer};
 
 // Stores the parts of the first count processors, from byte 1.
 fn store_parts(
@@ -81,7 +46,7 @@ fn store_parts(
         let entry = entry_at(phases, entries[i], p);
         let waited = waited_at(phases, last, since[i], p);
         store_part(
-            size,
+            size as u8,
             state,
             entry,
             waited,

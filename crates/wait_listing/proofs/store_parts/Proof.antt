@@ -1,16 +1,16 @@
 -- `store_parts` meets its contract. The invariant: the parts of the processors passed are stored. Assumes nothing.
-use mathlib.Core.Path.{_≡_, refl, sym, ap, _∙_}
-use mathlib.Core.List.{List}
-use Prim.Native.Nat.{ℕ, _+_, _-_, _*_, _≤_, _<_}
+use mathlib.Core.Path.{_≡_, refl}
+use Prim.Native.Nat.{_-_, _≤_, _<_}
 use native.Mathlib.Omega.{arith}
 use lib.ListN.{length}
-use lib.Seq.{sets, length-sets}
+use lib.Seq.{sets}
 use Rattle.plans.specs.Entries.{slots}
 use Rattle.wait_fields.specs.Fields.{entryShown, waitedIn}
 use Rattle.listing_sizes.specs.Sizes.{partSize, listSize}
 use Rattle.wait_listing.specs.Listing.{partIn, inTurn}
-use Rattle.wait_listing.proofs.InTurn.{length-part, turn-stores}
-use Rattle.listing_sizes.proofs.Sizes.{part-inside, list-small}
+use Rattle.wait_listing.proofs.InTurn.{turn-stores}
+use Rattle.wait_parts.proofs.Parts.{length-part}
+use Rattle.listing_sizes.proofs.Sizes.{list-small}
 use borrow.Author.Needs.{needs}
 use Rattle.wait_listing.proofs.store_parts.Statement.{statement}
 use Rattle.wait_listing.proofs.store_parts.Tie as tie
@@ -35,15 +35,15 @@ loop-again c =
     let entry = waited .before .before in
     let state = entry .before .before in
     let loop = state .before .before .loop in
-    let a = state .before .before .before .before .args in
-    let part = stored .store-part .ensures in (
-      omega arith,
-      ap length part ∙ simp length-sets (loop .inv .1),
-      turn-stores (partSize (a .size))
-          (partIn (a .size) (a .phases) (a .last) (a .entries .now) (a .since .now) (a .waits .now))
-          (λ p. length-part (a .size) _ _ _ _) 1 (loop .i) (a .buffer .now) (loop .buffer) _ (loop .inv .2)
-          (rw (state .state-at .ensures, entry .entry-at .ensures, waited .waited-at .ensures) at part),
-    )
+    let start = state .before .before .before .before in
+    let a = start .args in
+    let low : loop .i < a .count = omega arith in
+    let next = turn-stores (partSize (a .size))
+    (partIn (a .size) (a .phases) (a .last) (a .entries .now) (a .since .now) (a .waits .now))
+    (λ p. length-part (a .size) _ _ _ _) 1 (a .count) (loop .i) (a .buffer .now) (loop .buffer) _ low
+    (start .pre .2) (loop .inv .1) (loop .inv .2)
+    (rw (state .state-at .ensures, entry .entry-at .ensures, waited .waited-at .ensures) at (stored .store-part .ensures)) in
+    (omega arith, next .0, next .1)
 
 mul-store-part-2 : tie.Need-mul-store-part-2 Inv-loop μ-loop
 mul-store-part-2 c =
@@ -60,13 +60,6 @@ add-store-part-2 c =
     let below : loop .i ≤ slots = omega arith in
     let small : a .size ≤ 4 = omega arith in
     omega (arith, list-small (a .size) (loop .i) small below)
-
-store-part-requires : tie.Need-store-part-requires Inv-loop μ-loop
-store-part-requires c κs =
-    let loop = c .before .before .before .before .before .before .before .before .loop in
-    let a = c .before .before .before .before .before .before .before .before .before .before .args in
-    let below : loop .i < a .count = omega arith in
-    omega (arith, part-inside (a .size) (loop .i) (a .count) below)
 
 same-length : tie.Need-same-length Inv-loop μ-loop
 same-length c = c .before .loop .inv .1
@@ -93,9 +86,10 @@ store-parts-spec =
     (λ c. omega arith)
     (λ c. omega arith)
     (λ c. omega arith)
+    (λ c. omega arith)
     mul-store-part-2
     add-store-part-2
-    store-part-requires
+    (λ c κs. search needs)
     (λ c. omega arith)
     (λ c. omega arith)
     loop-again

@@ -5,7 +5,7 @@ use lib.ListN.{length, length-set}
 use Rattle.plans.specs.Entries.{maskSizeFor}
 use Rattle.listing_sizes.specs.Sizes.{listedOf}
 use Rattle.wait_listing.specs.Listing.{partIn}
-use Rattle.wait_listing.proofs.InTurn.{length-part}
+use Rattle.wait_parts.proofs.Parts.{length-part}
 use Rattle.listing_sizes.proofs.Sizes.{mask-size-small}
 use Rattle.wait_listing.proofs.Stores.{room-for-list, list-written, list-refused}
 use borrow.Author.Needs.{needs}

@@ -5,10 +5,10 @@ use lib.ListN.{length-set}
 use Rattle.encoding.specs.Numbers.{bytesOf}
 use Rattle.encoding.proofs.Numbers.{length-bytesOf}
 use Rattle.encoding.proofs.Room.{stored-where-fits}
-use Rattle.wait_listing.proofs.Stores.{two-stored}
+use Rattle.wait_parts.proofs.Stores.{two-stored}
 use borrow.Author.Needs.{needs}
-use Rattle.wait_listing.proofs.store_mask.Statement.{statement}
-use Rattle.wait_listing.proofs.store_mask.Tie as tie
+use Rattle.wait_parts.proofs.store_mask.Statement.{statement}
+use Rattle.wait_parts.proofs.store_mask.Tie as tie
 
 returns : tie.Need-returns
 returns c =
