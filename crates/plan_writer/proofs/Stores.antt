@@ -1,14 +1,12 @@
--- Runs of stores: of an entry's bytes and a section's, and into the rest of a list. Assumes nothing.
+-- Runs of stores: of a section's bytes, and into the rest of a list. Assumes nothing.
 use Prim.Native.Nat.{ℕ, suc, _+_, _-_, _*_, _≤_, _<_}
-use mathlib.Core.Path.{_≡_, refl, sym, ap, _∙_}
+use mathlib.Core.Path.{_≡_, refl, sym, _∙_}
 use mathlib.Core.List.{List, append-assoc}
 use native.Mathlib.Omega.{arith}
 use lib.ListN.{length, take, drop, getD, set, length-take, length-drop, length-set, take-append-drop}
-use lib.Seq.{sets, sets-eq, length-sets, drop-drop, drop-append-le}
+use lib.Seq.{sets, sets-eq, drop-drop, drop-append-le}
 use borrow.Rule.Slice.PartMut.{midOf, postOf, putMid}
-use Rattle.encoding.specs.Numbers.{bytesOf}
 use Rattle.encoding.specs.Buffers.{roomFault, overwritten, bufferAfter}
-use Rattle.encoding.proofs.Numbers.{length-bytesOf}
 use Rattle.encoding.proofs.Room.{stored-where-fits}
 use Rattle.encoding.proofs.Stores.{sets-append, sets-overwritten}
 use Rattle.plans.specs.declared.Entry.{Entry}
@@ -18,37 +16,18 @@ use Rattle.plans.specs.Writing.{entryBytes, sectionBytes, planBytes}
 use Rattle.plans.proofs.Counted.{none-left, next-left}
 use Rattle.plans.proofs.EntryBytes.{length-entryBytes, length-sectionBytes}
 
--- The stores of an entry: the kind, the set's eight bytes, the length's two.
-entry-stores : (l : List ℕ) (i : ℕ) (e : Entry)
-    → sets (sets (set l i (e .kind)) (i + 1) (bytesOf 8 (e .set))) (i + 9) (bytesOf 2 (e .length)) ≡ sets l i (entryBytes e)
-unfolding entryBytes
-entry-stores l i e =
-    let s : i + 1 ≡ suc i = omega arith in
-    let n : i + 9 ≡ suc i + 8 = omega arith in
-    rw (s, n, sets-append (set l i (e .kind)) (suc i) (bytesOf 8 (e .set)) (bytesOf 2 (e .length)), length-bytesOf 8 (e .set))
-
--- The same by what `write_number` leaves, where there is room.
-pub entry-written : (l : List ℕ) (i : ℕ) (e : Entry) (mid last : List ℕ) → i + entrySize ≤ length l
-    → mid ≡ bufferAfter (roomFault 8 (length (set l i (e .kind))) (i + 1)) (bytesOf 8 (e .set)) (set l i (e .kind)) (i + 1)
-    → last ≡ bufferAfter (roomFault 2 (length mid) (i + 9)) (bytesOf 2 (e .length)) mid (i + 9) → last ≡ sets l i (entryBytes e)
-entry-written l i e mid last h first second =
-    let start = set l i (e .kind) in
-    let size : length start ≡ length l = length-set l i (e .kind) in
-    let stored = first ∙ stored-where-fits start (i + 1) (bytesOf 8 (e .set)) 8 (length-bytesOf 8 (e .set)) (omega arith) in
-    let kept : length mid ≡ length l = ap length stored ∙ length-sets start (i + 1) (bytesOf 8 (e .set)) ∙ size in
-    second
-    ∙ stored-where-fits mid (i + 9) (bytesOf 2 (e .length)) 2 (length-bytesOf 2 (e .length)) (omega arith)
-    ∙ ap (λ m. sets m (i + 9) (bytesOf 2 (e .length))) stored
-    ∙ entry-stores l i e
-
--- A turn stores the next entry.
-pub section-turn : (l : List ℕ) (es : List Entry) (n i : ℕ) (d : Entry) → i < n → n ≤ length es
-    → sets (sets l (entrySize * i) (entryBytes (getD es i d))) (entrySize * (i + 1)) (sectionBytes (drop (i + 1) (take n es)))
+-- A turn stores the next entry, where all n have room.
+pub section-turn : (l next : List ℕ) (es : List Entry) (n i : ℕ) (d : Entry) → i < n → n ≤ length es → entrySize * n ≤ length l
+    → next ≡ bufferAfter (roomFault entrySize (length l) (entrySize * i)) (entryBytes (getD es i d)) l (entrySize * i)
+    → sets next (entrySize * (i + 1)) (sectionBytes (drop (i + 1) (take n es)))
     ≡ sets l (entrySize * i) (sectionBytes (drop i (take n es)))
 unfolding sectionBytes
-section-turn l es n i d h k =
-    let next : entrySize * (i + 1) ≡ entrySize * i + entrySize = omega arith in
-    rw (next-left n i es d k h, sets-append, length-entryBytes, next)
+section-turn l next es n i d h k room written =
+    let e = getD es i d in
+    let fits : entrySize * i + entrySize ≤ length l = omega arith in
+    let stored = written ∙ stored-where-fits l (entrySize * i) (entryBytes e) entrySize (length-entryBytes e) fits in
+    let place : entrySize * (i + 1) ≡ entrySize * i + entrySize = omega arith in
+    rw (stored, next-left n i es d k h, sets-append, length-entryBytes, place)
 
 -- All entries are stored when none is left.
 pub section-end : (l : List ℕ) (es : List Entry) (n i : ℕ) → n ≤ i → sets l (entrySize * i) (sectionBytes (drop i (take n es))) ≡ l

@@ -1,5 +1,6 @@
 // Plan values to bytes, into a lent buffer. `plan_reader` takes the same bytes back. Specification, section 2.
 use encoding::Outcome;
+use entry_writer::write_entry;
 use plan_room::check_writing;
 use plans::ENTRIES;
 use plans::ENTRY_BYTES;
@@ -8,24 +9,13 @@ use plans::HEAD_BYTES;
 use plans::Plan;
 use plans::plan_size;
 use refusals::Verdict;
-use storing::write_number;
 ghost use mathlib.Core.Path.{_≡_};
 ghost use Prim.Native.Nat.{_+_, _*_, _≤_};
 ghost use lib.ListN.{length, take};
 ghost use lib.Seq.{sets};
 ghost use Rattle.encoding.specs.Buffers.{overwritten, outcomeSays};
 ghost use Rattle.plans.specs.Entries.{mostEntries, entrySize, planSize};
-ghost use Rattle.plans.specs.Writing.{entryBytes, sectionBytes, planBytes, writeSays, writtenBuffer};
-
-// Stores an entry's 11 bytes from position at: kind, set, length.
-fn write_entry(entry: Entry, section: &mut [u8], at: usize)
-    requires { ⌜ at + entrySize ≤ length (now section) ⌝ }
-    ensures { λ _. ⌜ now (section .exit) ≡ sets (now (section .entry)) at (entryBytes entry) ⌝ }
-{
-    section[at] = entry.kind;
-    write_number(entry.set, 8, section, at + 1);
-    write_number(entry.length as u64, 2, section, at + 9);
-}
+ghost use Rattle.plans.specs.Writing.{sectionBytes, planBytes, writeSays, writtenBuffer};
 
 // Stores the first count entries from the start of the section.
 fn write_section(entries: [Entry; ENTRIES], count: usize, section: &mut [u8])

@@ -8,6 +8,7 @@ use lib.Seq.{sets}
 use Rattle.plans.specs.Entries.{entrySize}
 use Rattle.plans.specs.Writing.{sectionBytes}
 use Rattle.plan_writer.proofs.Stores.{section-turn, section-end}
+use borrow.Author.Needs.{needs}
 use Rattle.plan_writer.proofs.write_section.Statement.{statement}
 use Rattle.plan_writer.proofs.write_section.Tie as tie
 
@@ -32,9 +33,6 @@ array-copy-out-entry c = omega arith
 mul-write-entry : tie.Need-mul-write-entry Inv-loop μ-loop
 mul-write-entry c = omega arith
 
-write-entry-requires : tie.Need-write-entry-requires Inv-loop μ-loop
-write-entry-requires c κs = omega arith
-
 add-i : tie.Need-add-i Inv-loop μ-loop
 add-i c = omega arith
 
@@ -48,7 +46,7 @@ loop-again c =
       omega arith,
       (
         c .before .before .write-entry .kept .1 .0 ∙ inv .1 .0,
-        rw (c .before .before .write-entry .ensures) (section-turn _ _ _ _ _ (turn .loop-test .taken) (omega arith) ∙ inv .1 .1),
+        section-turn _ _ _ _ _ _ (turn .loop-test .taken) (omega arith) (omega arith) (c .before .before .write-entry .ensures) ∙ inv .1 .1,
       ),
     )
 
@@ -68,7 +66,7 @@ write-section-spec =
     mul-entry
     array-copy-out-entry
     mul-write-entry
-    write-entry-requires
+    (λ c κs. search needs)
     add-i
     loop-less
     loop-again
