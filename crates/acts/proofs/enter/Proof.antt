@@ -1,5 +1,6 @@
 -- `enter` meets its contract, put together from its parts. Assumes nothing.
 use mathlib.Core.Path.{sym, subst}
+use lib.ListN.{set}
 use borrow.Author.Needs.{needs}
 use Rattle.settling.proofs.Bounds.{settled-small}
 use Rattle.states.specs.inner.Small.{Small}
@@ -16,8 +17,9 @@ returns c =
     let ticks = put .before .before in
     let stored = ticks .before .before in
     let a = stored .before .before .args in
-    entered-done (a .rows .now) (a .writes) (a .tick) (a .processor) (a .phases) (a .earlier .now) _ _ (stored .store-entry .ensures)
-    (ticks .store-tick .ensures) (put .settle-new .ensures) (c .accept .ensures _ _)
+    entered-done (a .rows .now) (a .writes) (a .tick) (a .processor) (a .phases) (a .earlier .now)
+    (set (a .entries .now) (a .processor) (a .entry)) (set (a .since .now) (a .processor) (a .tick))
+    (stored .store-entry .ensures) (ticks .store-tick .ensures) (put .settle-new .ensures) (c .accept .ensures _ _)
 
 pub enter-spec : {M : Type 1} → statement M
 enter-spec =
