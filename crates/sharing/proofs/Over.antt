@@ -11,11 +11,19 @@ use Rattle.masks.specs.Sets.{bit}
 use Rattle.masks.proofs.Counts.{lowest-is, ones-are}
 use Rattle.plans.specs.Entries.{mostResources}
 use Rattle.sharing.specs.declared.Conflict.{Conflict}
-use Rattle.sharing.specs.Sharing.{Over, conflictSays, over}
+use Rattle.sharing.specs.Sharing.{sharedBy, Over, conflictSays, over}
 
 pub over-none : (set : ℕ) → set ≡ 0 → conflictSays Conflict.None ≡ over set
 unfolding over
 over-none set e = rw e
+
+-- Entries that are not both writes: two reads have no conflict, and a read and a write have it over their names.
+module _ (writes reads : Bool) (names widened : ℕ) (w : writes ≡ false) where
+  pub reads-none : reads ≡ true → conflictSays Conflict.None ≡ over (sharedBy writes reads names widened)
+  reads-none r = over-none _ (rw (w, r))
+
+  pub by-names : {o : Over} → reads ≡ false → o ≡ over names → o ≡ over (sharedBy writes reads names widened)
+  by-names r e = rw (w, r) e
 
 pub over-some : (set : ℕ) → 0 < set → set < 2 ^ mostResources
     → conflictSays (Conflict.Over (trailingZeros mostResources set) (ones set)) ≡ over set
