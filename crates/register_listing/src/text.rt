@@ -1,66 +1,71 @@
-// The text of a line, byte by byte into a lent buffer. Past its end nothing is written. Each function gives the
-// position after what it wrote.
+// The text of a line, by value: each function gives the line with more behind it.
+use libc::STDOUT_FILENO;
 use registers::BLOCK;
 
-pub fn put(out: &mut [u8], at: usize, byte: u8) -> usize {
-    if at < out.len() {
-        out[at] = byte;
-        at + 1
-    } else {
-        at
+// More than the longest line has.
+const LINE_ROOM: usize = 96;
+
+// The bytes of a line so far, and how many they are.
+pub struct Line {
+    bytes: [u8; LINE_ROOM],
+    size: usize,
+}
+
+pub fn empty_line() -> Line {
+    Line {
+        bytes: [0u8; LINE_ROOM],
+        size: 0,
     }
 }
 
-pub fn put_word(out: &mut [u8], at: usize, word: &[u8]) -> usize {
-    let mut next = at;
+pub fn put(line: Line, byte: u8) -> Line {
+    let mut longer = line;
+    let at = line.size % LINE_ROOM;
+    longer.bytes[at] = byte;
+    longer.size = at + 1;
+    longer
+}
+
+pub fn put_word(line: Line, word: &[u8]) -> Line {
+    let mut longer = line;
     let mut i = 0;
     while i < word.len() {
-        next = put(out, next, word[i]);
+        longer = put(longer, word[i]);
         i += 1;
     }
-    next
+    longer
 }
 
-fn put_digit(out: &mut [u8], at: usize, n: u8) -> usize {
-    put(out, at, 48 + n % 10)
-}
-
-// A number of one digit or two.
-fn put_short(out: &mut [u8], at: usize, n: u8) -> usize {
-    if 9 < n {
-        let next = put_digit(out, at, n / 10);
-        put_digit(out, next, n)
-    } else {
-        put_digit(out, at, n)
-    }
-}
-
-pub fn put_decimal(out: &mut [u8], at: usize, n: u8) -> usize {
+// A space and a decimal number.
+pub fn put_number(line: Line, n: u8) -> Line {
+    let mut longer = put(line, 32);
     if 99 < n {
-        let first = put_digit(out, at, n / 100);
-        let second = put_digit(out, first, n / 10);
-        put_digit(out, second, n)
-    } else {
-        put_short(out, at, n)
+        longer = put(longer, 48 + n / 100);
     }
+    if 9 < n {
+        longer = put(longer, 48 + n / 10 % 10);
+    }
+    put(longer, 48 + n % 10)
 }
 
 fn hex_digit(n: u8) -> u8 {
     if n < 10 { 48 + n } else { 87 + n % 16 }
 }
 
-fn put_pair(out: &mut [u8], at: usize, byte: u8) -> usize {
-    let next = put(out, at, hex_digit(byte / 16));
-    put(out, next, hex_digit(byte % 16))
-}
-
 // Two hexadecimal digits for each byte of a block.
-pub fn put_block(out: &mut [u8], at: usize, bytes: [u8; BLOCK]) -> usize {
-    let mut next = at;
+pub fn put_block(line: Line, bytes: [u8; BLOCK]) -> Line {
+    let mut longer = line;
     let mut i = 0;
     while i < BLOCK {
-        next = put_pair(out, next, bytes[i]);
+        let byte = bytes[i];
+        longer = put(put(longer, hex_digit(byte / 16)), hex_digit(byte % 16));
         i += 1;
     }
-    next
+    longer
+}
+
+pub fn print(line: Line) {
+    let bytes = line.bytes;
+    let end = line.size % LINE_ROOM;
+    io::write_all(STDOUT_FILENO, &bytes[..end]);
 }
