@@ -16,9 +16,11 @@ use log_input::Fed;
 use log_input::due_size;
 use log_input::fill_plan;
 use log_input::fill_to;
+use log_openings::Begun;
 use log_openings::begin;
 use logs::CountAnswer;
 use logs::RECORD_BYTES;
+use replay::RanBlock;
 use replay::run;
 use states::Board;
 use states::State;
@@ -29,11 +31,17 @@ ghost use Prim.Native.Nat.{_≤_};
 ghost use lib.ListN.{length};
 ghost use Rattle.encoding.specs.Buffers.{outcomeSays};
 
+// What was read before the calls: how many of them there are, and whether the replay goes on.
+struct Counted {
+    calls: u16,
+    more: bool,
+}
+
 // Reads what is needed behind the bytes at hand. Where a read fails, standard error has why.
-fn feed(input: i32, block: &mut [u8], have: usize, needed: usize) -> Fed
+fn feed(block: &mut [u8], have: usize, needed: usize) -> Fed
     ensures { λ r. ⌜ r .have ≤ length (now (block .exit)) ⌝ }
 {
-    let fed = fill_to(input, block, have, needed);
+    let fed = fill_to(STDIN_FILENO, block, have, needed);
     if fed.failed {
         os::fail(b"lockreplay: standard input");
     }
@@ -41,44 +49,64 @@ fn feed(input: i32, block: &mut [u8], have: usize, needed: usize) -> Fed
 }
 
 // Writes lines, and says whether all of them were written. Where a write fails, standard error has why.
-fn put(output: i32, lines: &[u8]) -> bool {
-    if io::write_all(output, lines) {
-        return true;
+fn put(lines: &[u8]) -> bool {
+    let written = io::write_all(STDOUT_FILENO, lines);
+    if !written {
+        os::fail(b"lockreplay: standard output");
     }
-    os::fail(b"lockreplay: standard output");
-    false
+    written
 }
 
 // The same for the line at the start of `out`, if there is one.
-fn show(output: i32, line: Outcome, out: &[u8]) -> bool
+fn show(line: Outcome, out: &[u8]) -> bool
     requires { ⌜ outcomeSays line .value ≤ length (now out) ⌝ }
 {
     let size = line_size(line);
-    put(output, &out[..size])
+    put(&out[..size])
 }
 
-// The calls, as they arrive: a record is waited for only where none is whole in the block, and after the last call any
-// byte. A block that carries no call out is the last: no call is left, or the input ended.
-fn replay_calls(
-    input: i32,
-    output: i32,
-    board: Board,
-    state: State,
-    calls: u16,
-    block: &mut [u8],
-    filled: usize,
-    out: &mut [u8],
-)
-    requires { ⌜ filled ≤ length (now block) ⌝ }
+// Goes on behind the bytes that are used up: a record is waited for only where none is whole in the block, and after
+// the last call any byte.
+fn advance(block: &mut [u8], used: usize, have: usize, left: u16) -> Fed
+    ensures { λ r. ⌜ r .have ≤ length (now (block .exit)) ⌝ }
 {
-    let mut current = state;
+    let rest = bring_to_front(block, used, have);
+    feed(block, rest, due_size(left))
+}
+
+// Carries out the calls that are whole in a block, and writes their lines. Where a write fails, that is the end too.
+fn run_block(board: Board, state: State, left: u16, block: &[u8], out: &mut [u8]) -> RanBlock
+    ensures { λ r. ⌜ r .calls ≤ left ⌝ }
+{
+    let mut ran = run(board, state, left, block, out);
+    let written = ran.written;
+    let shown = put(&out[..written]);
+    ran.ended = ran.ended | !shown;
+    ran
+}
+
+// After the last call that is there: the line of what is wrong with the log's end, if something is.
+fn close(left: u16, block: &[u8], out: &mut [u8]) {
+    let line = finish(left, block, out);
+    show(line, out);
+}
+
+// The calls, as they arrive, behind the call count. A block that carries no call out is the last: no call is left, or
+// the input ended.
+fn replay_calls(begun: Begun, calls: u16, block: &mut [u8], filled: usize, out: &mut [u8]) {
+    let board = begun.board;
+    let mut current = begun.state;
     let mut left = calls;
     let mut have = filled;
+    let mut used = COUNT_BYTES;
     loop {
-        let ran = run(board, current, left, &block[..have], out);
-        let written = ran.written;
-        let shown = put(output, &out[..written]);
-        if ran.ended | !shown {
+        let fed = advance(block, used, have, left);
+        if fed.failed {
+            return;
+        }
+        have = fed.have;
+        let ran = run_block(board, current, left, &block[..have], out);
+        if ran.ended {
             return;
         }
         if ran.calls == 0 {
@@ -87,77 +115,68 @@ fn replay_calls(
         let after = ran.state;
         current = after;
         left -= ran.calls;
-        let rest = bring_to_front(block, RECORD_BYTES * (ran.calls as usize), have);
-        let fed = feed(input, block, rest, due_size(left));
-        if fed.failed {
-            return;
-        }
-        have = fed.have;
+        used = RECORD_BYTES * (ran.calls as usize);
     }
-    let line = finish(left, &block[..have], out);
-    show(output, line, out);
+    close(left, &block[..have], out);
+}
+
+// The call count, and the line of what is wrong with it, if something is.
+fn take_count(block: &[u8], out: &mut [u8]) -> Counted {
+    let counted = count(block, out);
+    let line = counted.line;
+    let shown = show(line, out);
+    let answer = counted.calls;
+    match answer {
+        CountAnswer::Calls(calls) => Counted {
+            calls: calls,
+            more: shown,
+        },
+        CountAnswer::Refused(_) => Counted {
+            calls: 0,
+            more: false,
+        },
+    }
 }
 
 // After the plan: the bytes that came in with it are the log's next ones. The call count, and then the calls.
-fn replay_rest(
-    input: i32,
-    output: i32,
-    board: Board,
-    state: State,
-    bytes: &[u8],
-    block: &mut [u8],
-    out: &mut [u8],
-) {
+fn replay_rest(begun: Begun, bytes: &[u8], block: &mut [u8], out: &mut [u8]) {
     let first = copy_in(bytes, block);
-    let fed = feed(input, block, first, COUNT_BYTES);
-    if fed.failed {
-        return;
-    }
-    let have = fed.have;
-    let counted = count(&block[..have], out);
-    let line = counted.line;
-    let shown = show(output, line, out);
-    let calls = counted.calls;
-    if let CountAnswer::Calls(left) = calls {
-        if shown {
-            let rest = bring_to_front(block, COUNT_BYTES, have);
-            let fed = feed(input, block, rest, due_size(left));
-            if fed.failed {
-                return;
-            }
-            let filled = fed.have;
-            replay_calls(input, output, board, state, left, block, filled, out);
+    let fed = feed(block, first, COUNT_BYTES);
+    if !fed.failed {
+        let have = fed.have;
+        let counted = take_count(&block[..have], out);
+        if counted.more {
+            replay_calls(begun, counted.calls, block, have, out);
         }
     }
 }
 
-// The plan goes into a buffer of its own, of which only the filled part is lent.
-fn replay_log(input: i32, output: i32, plan: &mut [u8], block: &mut [u8], out: &mut [u8]) {
-    let fed = fill_plan(input, plan);
-    if fed.failed {
-        os::fail(b"lockreplay: standard input");
-        return;
-    }
-    let filled = fed.have;
-    let begun = begin(&plan[..filled], out);
+// A log from its plan on, of which the first bytes are there.
+fn replay_log(plan: &[u8], block: &mut [u8], out: &mut [u8]) {
+    let begun = begin(plan, out);
     let line = begun.line;
-    let shown = show(output, line, out);
-    let board = begun.board;
-    let state = begun.state;
+    let shown = show(line, out);
     let outcome = begun.outcome;
     if let Outcome::Bytes(size) = outcome {
         if shown {
-            replay_rest(input, output, board, state, &plan[size..filled], block, out);
+            replay_rest(begun, &plan[size..], block, out);
         }
     }
 }
 
-// Replays the log of one file into another. The plan's buffer holds the longest plan, and begins as zeros.
-fn replay(input: i32, output: i32) {
+// Replays a log. The plan goes into a buffer of its own, which holds the longest plan and begins as zeros; only the
+// filled part is lent.
+fn replay() {
     let mut plan = [0u8; PLAN_ROOM];
     let mut block = [0u8; BLOCK_ROOM];
     let mut out = [0u8; LINES_ROOM];
-    replay_log(input, output, &mut plan, &mut block, &mut out);
+    let fed = fill_plan(STDIN_FILENO, &mut plan);
+    if fed.failed {
+        os::fail(b"lockreplay: standard input");
+    } else {
+        let filled = fed.have;
+        replay_log(&plan[..filled], &mut block, &mut out);
+    }
 }
 
 fn help() {
@@ -173,6 +192,6 @@ fn main() {
     if os::arg_count() > 1 {
         help();
     } else {
-        replay(STDIN_FILENO, STDOUT_FILENO);
+        replay();
     }
 }
