@@ -3,12 +3,9 @@
 use plans::ENTRIES;
 use plans::SLOTS;
 use queries::MaskAnswer;
-use queries::check_processor;
+use reach_checks::check_reach;
 use reaching::reach_rows;
 use refusals::Verdict;
-use refusals::first_of;
-use room::check_room;
-use row_words::room_of;
 use row_words::write_rows;
 use settling::Phases;
 use states::Board;
@@ -19,24 +16,11 @@ ghost use mathlib.Core.Path.{_≡_};
 ghost use Prim.Native.Nat.{_<_, _≤_};
 ghost use lib.ListN.{length};
 ghost use Rattle.masks.specs.Sets.{maskOf};
-ghost use Rattle.refusals.specs.Number.{verdictNumber};
-ghost use Rattle.refusals.specs.Due.{firstOf};
-ghost use Rattle.encoding.specs.Buffers.{roomFault, overwritten};
+ghost use Rattle.encoding.specs.Buffers.{overwritten};
 ghost use Rattle.plans.specs.Entries.{slots};
-ghost use Rattle.states.specs.Faults.{processorFault};
 ghost use Rattle.queries.specs.Queries.{maskSays, reaches, scratchSize, reachBytes, reachQuery, reachScratch};
 ghost use Rattle.queries.specs.Parts.{boardWith, stateWith};
 ghost use Rattle.queries.specs.inner.Rows.{directRows};
-
-// Refuses by 11, then by 16 a scratch that is too short.
-fn check_reach(terms: Terms, processor: u8, size: usize) -> Verdict
-    ensures { λ r. ⌜ verdictNumber r
-        ≡ firstOf (processorFault terms processor) (roomFault (scratchSize (terms .processors)) size 0) ⌝ }
-{
-    let counted = check_processor(terms, processor);
-    let room = check_room(room_of(terms.processors), size, 0);
-    first_of(counted, room)
-}
 
 // Writes the rows of all processors into the scratch, as words for so many, and answers the row asked for.
 fn write_reach(processors: u8, direct: [u32; SLOTS], processor: u8, scratch: &mut [u8]) -> u32

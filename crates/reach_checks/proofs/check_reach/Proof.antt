@@ -2,8 +2,8 @@
 use mathlib.Core.Path.{ap₂, _∙_}
 use Rattle.refusals.specs.Due.{firstOf}
 use borrow.Author.Needs.{needs}
-use Rattle.reach_queries.proofs.check_reach.Statement.{statement}
-use Rattle.reach_queries.proofs.check_reach.Tie as tie
+use Rattle.reach_checks.proofs.check_reach.Statement.{statement}
+use Rattle.reach_checks.proofs.check_reach.Tie as tie
 
 returns : tie.Need-returns
 returns c =
