@@ -1,8 +1,84 @@
-// When a call is refused, and by which number: specification, clause 4.5.
-mod faults;
-mod handovers;
+// When a call of one act is refused, and by which number: specification, clause 4.5, 10 to 15 and 17. The phases are of
+// the requests that count. `handover_checks` has the handover, a call of two acts.
+use conditions::is_active;
+use conditions::is_counted;
+use conditions::is_in_time;
+use conditions::is_unsatisfied;
+use masks::has32;
+use refusals::Refusal;
+use refusals::Verdict;
+use refusals::refuse_unless;
+use settling::Phases;
+use states::Terms;
+ghost use mathlib.Core.Path.{_≡_};
+ghost use Rattle.refusals.specs.Number.{numberOf, verdictNumber};
+ghost use Rattle.refusals.specs.Due.{due};
+ghost use Rattle.states.specs.Faults.{issueFault, takeFault, completeFault, withdrawFault};
 
-pub use faults::check_complete;
-pub use faults::check_issue;
-pub use faults::check_withdraw;
-pub use handovers::check_handover;
+// Clause 4.5: 10, 11, 12, 13. It returns at the first: a call that is accepted pays for the tests alone.
+pub fn check_issue(
+    terms: Terms,
+    last: u64,
+    phases: Phases,
+    processor: u8,
+    entry: u8,
+    tick: u64,
+) -> Verdict
+    ensures { λ r. ⌜ verdictNumber r ≡ issueFault terms last phases processor entry tick ⌝ }
+{
+    if !is_in_time(last, tick) {
+        return Verdict::Refused(Refusal::Tick);
+    }
+    if !is_counted(terms, processor) {
+        return Verdict::Refused(Refusal::Processor);
+    }
+    if terms.count <= entry {
+        return Verdict::Refused(Refusal::Entry);
+    }
+    if is_active(phases, processor) {
+        return Verdict::Refused(Refusal::Busy);
+    }
+    Verdict::Accepted
+}
+
+// Clause 4.5, for a call that takes the processor's request out: 10, 11, 14, then what is due for its phase.
+fn check_taken(
+    terms: Terms,
+    last: u64,
+    phases: Phases,
+    processor: u8,
+    tick: u64,
+    passes: bool,
+    refusal: Refusal,
+) -> Verdict
+    ensures { λ r. ⌜
+        verdictNumber r ≡ takeFault terms last phases processor tick (due passes (numberOf refusal))
+        ⌝ }
+{
+    if !is_in_time(last, tick) {
+        return Verdict::Refused(Refusal::Tick);
+    }
+    if !is_counted(terms, processor) {
+        return Verdict::Refused(Refusal::Processor);
+    }
+    if !is_active(phases, processor) {
+        return Verdict::Refused(Refusal::Idle);
+    }
+    refuse_unless(passes, refusal)
+}
+
+// Clause 4.5: 10, 11, 14, 15.
+pub fn check_complete(terms: Terms, last: u64, phases: Phases, processor: u8, tick: u64) -> Verdict
+    ensures { λ r. ⌜ verdictNumber r ≡ completeFault terms last phases processor tick ⌝ }
+{
+    let held = !is_unsatisfied(phases, processor);
+    check_taken(terms, last, phases, processor, tick, held, Refusal::Unheld)
+}
+
+// Clause 4.5: 10, 11, 14, 17.
+pub fn check_withdraw(terms: Terms, last: u64, phases: Phases, processor: u8, tick: u64) -> Verdict
+    ensures { λ r. ⌜ verdictNumber r ≡ withdrawFault terms last phases processor tick ⌝ }
+{
+    let unheld = !has32(phases.holding, processor as u32);
+    check_taken(terms, last, phases, processor, tick, unheld, Refusal::Held)
+}

@@ -1,4 +1,4 @@
--- What a command takes from the registers, and what its reply leaves there. Specification, section 10.
+-- What the reply to a command leaves in the registers. Specification, section 10.
 use Prim.Native.Nat.{ℕ}
 use mathlib.Core.Bool.{cond, _||_}
 use mathlib.Core.List.{List}
@@ -7,19 +7,9 @@ use lib.ListN.{set}
 use Rattle.masks.specs.Sets.{bit, maskOf}
 use Rattle.encoding.specs.Numbers.{bytesOf}
 use Rattle.encoding.specs.Buffers.{overwritten}
-use Rattle.calls.specs.declared.Call.{Call}
 use Rattle.calls.specs.Replies.{Response}
 use Rattle.registers.specs.declared.Block.{Block}
-use Rattle.registers.specs.Registers.{processorIn, requestedIn, tickIn, pendingIn, withLine}
-
--- Clause 10.7: the call that a command makes of the registers: 1 issues, 2 completes, 3 withdraws, 4 hands over. A
--- completion and a withdrawal take no notice of the entry.
-unfoldable pub commandCall : List ℕ → ℕ → Call
-commandCall bytes command =
-    cond (eqb command 1) (Call.Issue (processorIn bytes) (requestedIn bytes) (tickIn bytes))
-    (cond (eqb command 2) (Call.Complete (processorIn bytes) (tickIn bytes))
-    (cond (eqb command 3) (Call.Withdraw (processorIn bytes) (tickIn bytes))
-    (Call.Handover (processorIn bytes) (requestedIn bytes) (tickIn bytes))))
+use Rattle.registers.specs.Registers.{pendingIn, withLine}
 
 -- Clause 2.1: the bytes with a mask in four of them.
 abbrev pub withMask : ℕ → ℕ → List ℕ → List ℕ

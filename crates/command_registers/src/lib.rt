@@ -1,46 +1,17 @@
-// What a command takes from the registers of a block, and what its reply leaves there. Specification, clauses 10.7 to
-// 10.9.
-use calls::Call;
+// What the reply to a command leaves in the registers of a block. Specification, clauses 10.8 and 10.9. `command_calls`
+// has what a command takes from them.
 use calls::Reply;
 use refusals::number;
 use registers::BLOCK;
 use registers::Block;
 use registers::pending_in;
-use registers::tick_in;
 use registers::with_line;
 use storing::write_number;
 ghost use mathlib.Core.Path.{_≡_};
 ghost use Prim.Native.Nat.{_+_, _≤_};
 ghost use lib.ListN.{set};
 ghost use Rattle.calls.specs.Replies.{replySays};
-ghost use Rattle.command_registers.specs.Registers.{commandCall, withMask, acceptedBlock, repliedBlock};
-
-// Clause 10.7: the call that a command makes of the registers.
-pub fn call_of(bytes: [u8; BLOCK], command: u8) -> Call
-    ensures { λ r. ⌜ r ≡ commandCall bytes command ⌝ }
-{
-    let processor = bytes[1];
-    let entry = bytes[2];
-    let tick = tick_in(bytes);
-    if command == 1 {
-        return Call::Issue {
-            processor,
-            entry,
-            tick,
-        };
-    }
-    if command == 2 {
-        return Call::Complete { processor, tick };
-    }
-    if command == 3 {
-        return Call::Withdraw { processor, tick };
-    }
-    Call::Handover {
-        processor,
-        entry,
-        tick,
-    }
-}
+ghost use Rattle.command_registers.specs.Registers.{withMask, acceptedBlock, repliedBlock};
 
 // The bytes with a mask in four of them.
 fn put_mask(bytes: [u8; BLOCK], place: usize, mask: u64) -> [u8; BLOCK]

@@ -1,6 +1,6 @@
 // Commands of the register block, on a board and a state by value. Specification, section 10.
 use arbiter::answer_on;
-use command_registers::call_of;
+use command_calls::call_of;
 use command_registers::show;
 use plans::ENTRIES;
 use refusals::Refusal;

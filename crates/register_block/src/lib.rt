@@ -2,10 +2,10 @@
 // calls the one by value, and puts the block back. The arbiter's state goes in by value and comes back.
 use commands::Written;
 use plans::ENTRIES;
+use register_reads::read;
 use register_writes::write;
 use registers::Block;
 use registers::ReadAnswer;
-use registers::read;
 use states::State;
 use states::Terms;
 ghost use mathlib.Core.Path.{_≡_};

@@ -21,7 +21,7 @@ use Rattle.rules.specs.Calls.{answered}
 use Rattle.boards.specs.Fresh.{boardOf, freshState}
 use Rattle.registers.specs.declared.Block.{Block}
 use Rattle.registers.specs.Registers.{pendingIn, raised, lineOf}
-use Rattle.command_registers.specs.Registers.{commandCall}
+use Rattle.command_calls.specs.Calls.{commandCall}
 use Rattle.commands.specs.Commands.{WriteAnswer, registerWrite}
 use Rattle.runs.specs.Events.{Event, events, stateAfter}
 use Rattle.runs.proofs.refinement.WholeRuns.{whole-runs}

@@ -14,7 +14,7 @@ use Rattle.registers.specs.declared.Register.{Register}
 use Rattle.registers.specs.declared.Register.the-variants.{Command, Argument, Answer, Pending, Enabled, Line, Unlisted}
 use Rattle.registers.specs.Registers.{registerAt}
 use Rattle.register_stores.specs.Stores.{stored}
-use Rattle.command_registers.specs.Registers.{commandCall}
+use Rattle.command_calls.specs.Calls.{commandCall}
 use Rattle.commands.specs.Commands.{unmoved, carriedOut, commanded, writtenTo, registerWrite}
 use Rattle.register_runs.specs.Steps.{carries}
 use Rattle.register_runs.proofs.Blocks.{pending-place}

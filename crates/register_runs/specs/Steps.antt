@@ -13,7 +13,7 @@ use Rattle.rules.specs.Calls.{answered}
 use Rattle.boards.specs.Fresh.{freshState}
 use Rattle.registers.specs.declared.Block.{Block}
 use Rattle.registers.specs.Registers.{refusalIn, lateIn, grantedIn, entitledIn}
-use Rattle.command_registers.specs.Registers.{commandCall}
+use Rattle.command_calls.specs.Calls.{commandCall}
 use Rattle.commands.specs.Commands.{registerWrite}
 use Rattle.runs.specs.Events.{Event}
 

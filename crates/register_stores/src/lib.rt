@@ -1,9 +1,9 @@
 // What a write that is no command leaves in a register block. Specification, clause 10.6.
 use encoding::byte_at;
+use register_reads::register_at;
 use registers::BLOCK;
 use registers::Block;
 use registers::Register;
-use registers::register_at;
 use registers::with_line;
 ghost use mathlib.Core.Path.{_≡_};
 ghost use lib.ListN.{set};

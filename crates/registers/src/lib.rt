@@ -1,21 +1,12 @@
-// The register block of the arbiter: 32 bytes, what stands at which offset, and what a read gives. Writes are in the
-// crates `register_stores` and `commands`.
-use encoding::byte_at;
+// The register block of the arbiter: 32 bytes, and the numbers and the line in them. What stands at which offset and what
+// a read gives is defined here too, and `register_reads` has the functions. Writes are in the crates `register_stores`
+// and `commands`.
 use encoding::read_number;
 use masks::meet64;
 use refusals::Refusal;
 ghost use mathlib.Core.Path.{_≡_};
 ghost use Prim.Native.Nat.{_^_, _<_};
-ghost use Rattle.registers.specs.Registers.{
-  registerAt,
-  tickIn,
-  pendingIn,
-  enabledIn,
-  lineOf,
-  withLine,
-  registerRead,
-  registerSays,
-};
+ghost use Rattle.registers.specs.Registers.{tickIn, pendingIn, enabledIn, lineOf, withLine};
 
 // How many bytes a block has.
 pub const BLOCK: usize = 32;
@@ -49,31 +40,6 @@ pub enum ReadAnswer {
     Refused(Refusal),
 }
 
-// Which register an offset is.
-pub fn register_at(offset: u8) -> Register
-    ensures { λ r. ⌜ r ≡ registerAt offset ⌝ }
-{
-    if offset == 0 {
-        return Register::Command;
-    }
-    if ((1 <= offset) & (offset <= 2)) | ((4 <= offset) & (offset <= 8)) {
-        return Register::Argument;
-    }
-    if (offset == 3) | ((offset == 9) | ((12 <= offset) & (offset <= 19))) {
-        return Register::Answer;
-    }
-    if (20 <= offset) & (offset <= 23) {
-        return Register::Pending;
-    }
-    if (24 <= offset) & (offset <= 27) {
-        return Register::Enabled;
-    }
-    if offset == 28 {
-        return Register::Line;
-    }
-    Register::Unlisted
-}
-
 // The tick of the next command.
 pub fn tick_in(bytes: [u8; BLOCK]) -> u64
     ensures { λ r. ⌜ r ≡ tickIn bytes ⌝ }
@@ -97,7 +63,7 @@ fn enabled_in(bytes: [u8; BLOCK]) -> u64
 }
 
 // Clause 10.3: 1 where some bit is both pending and enabled.
-fn line_of(bytes: [u8; BLOCK]) -> u8
+pub fn line_of(bytes: [u8; BLOCK]) -> u8
     ensures { λ r. ⌜ r ≡ lineOf bytes ⌝ }
 {
     if meet64(pending_in(bytes), enabled_in(bytes)) {
@@ -114,22 +80,4 @@ pub fn with_line(bytes: [u8; BLOCK]) -> Block
     let mut kept = bytes;
     kept[28] = line_of(bytes);
     Block { bytes: kept }
-}
-
-// Reads an offset of a block. Refused by 18.
-pub fn read(block: Block, offset: u8) -> ReadAnswer
-    ensures { λ r. ⌜ registerSays r ≡ registerRead block offset ⌝ }
-{
-    let bytes = block.bytes;
-    let byte = byte_at(&bytes, offset as usize);
-    let register = register_at(offset);
-    match register {
-        Register::Command => ReadAnswer::Value(0),
-        Register::Argument => ReadAnswer::Value(byte),
-        Register::Answer => ReadAnswer::Value(byte),
-        Register::Pending => ReadAnswer::Value(byte),
-        Register::Enabled => ReadAnswer::Value(byte),
-        Register::Line => ReadAnswer::Value(line_of(bytes)),
-        Register::Unlisted => ReadAnswer::Refused(Refusal::Register),
-    }
 }

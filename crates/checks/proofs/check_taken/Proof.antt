@@ -2,8 +2,8 @@
 -- nothing.
 use borrow.Author.Needs.{needs}
 use Rattle.plans.proofs.Flags.{passes, fails}
-use Rattle.checks.proofs.faults.check_taken.Statement.{statement}
-use Rattle.checks.proofs.faults.check_taken.Tie as tie
+use Rattle.checks.proofs.check_taken.Statement.{statement}
+use Rattle.checks.proofs.check_taken.Tie as tie
 
 returns : tie.Need-returns
 returns c = rw (fails _ _ (c .before .is-in-time .ensures) (c .if1 .taken))

@@ -1,8 +1,8 @@
 -- `check_complete` meets its contract: the phase that it asks for is that of a holder. Assumes nothing.
 use borrow.Author.Needs.{needs}
 use Rattle.states.specs.Faults.{completeFault}
-use Rattle.checks.proofs.faults.check_complete.Statement.{statement}
-use Rattle.checks.proofs.faults.check_complete.Tie as tie
+use Rattle.checks.proofs.check_complete.Statement.{statement}
+use Rattle.checks.proofs.check_complete.Tie as tie
 
 returns : tie.Need-returns
 unfolding completeFault

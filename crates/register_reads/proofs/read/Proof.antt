@@ -1,10 +1,10 @@
 -- `read` meets its contract, register by register. Assumes nothing.
 use mathlib.Core.Path.{refl}
 use borrow.Author.Needs.{needs}
 use Rattle.registers.specs.declared.Register.the-variants.{Command, Argument, Answer, Pending, Enabled, Line, Unlisted}
-use Rattle.registers.proofs.Blocks.{read-at}
-use Rattle.registers.proofs.read.Statement.{statement}
-use Rattle.registers.proofs.read.Tie as tie
+use Rattle.register_reads.proofs.Shown.{read-at}
+use Rattle.register_reads.proofs.read.Statement.{statement}
+use Rattle.register_reads.proofs.read.Tie as tie
 
 returns : tie.Need-returns
 returns c = let looked = c .before .before in read-at _ _ _ Command _ (looked .register-at .ensures) (c .enum-told .given .1) refl

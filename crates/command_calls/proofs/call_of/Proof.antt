@@ -1,9 +1,9 @@
 -- `call_of` meets its contract, command by command. Assumes nothing.
 use borrow.Author.Needs.{needs}
 use borrow.Author.Tests.{eq-eqb, ne-eqb}
-use Rattle.command_registers.specs.Registers.{commandCall}
-use Rattle.command_registers.proofs.call_of.Statement.{statement}
-use Rattle.command_registers.proofs.call_of.Tie as tie
+use Rattle.command_calls.specs.Calls.{commandCall}
+use Rattle.command_calls.proofs.call_of.Statement.{statement}
+use Rattle.command_calls.proofs.call_of.Tie as tie
 
 returns : tie.Need-returns
 unfolding commandCall

@@ -4,8 +4,8 @@ use lib.Dec.{ltb}
 use borrow.Author.Needs.{needs}
 use Rattle.plans.proofs.Flags.{passes, fails}
 use Rattle.states.specs.Faults.{handoverFault}
-use Rattle.checks.proofs.handovers.check_handover.Statement.{statement}
-use Rattle.checks.proofs.handovers.check_handover.Tie as tie
+use Rattle.handover_checks.proofs.check_handover.Statement.{statement}
+use Rattle.handover_checks.proofs.check_handover.Tie as tie
 
 returns : tie.Need-returns
 unfolding handoverFault

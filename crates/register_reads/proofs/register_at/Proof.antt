@@ -1,8 +1,8 @@
 -- `register_at` meets its contract: one test after the other. Assumes nothing.
 use borrow.Author.Tests.{eq-eqb, ne-eqb}
 use Rattle.registers.specs.Registers.{registerAt}
-use Rattle.registers.proofs.register_at.Statement.{statement}
-use Rattle.registers.proofs.register_at.Tie as tie
+use Rattle.register_reads.proofs.register_at.Statement.{statement}
+use Rattle.register_reads.proofs.register_at.Tie as tie
 
 returns : tie.Need-returns
 unfolding registerAt

@@ -1,8 +1,8 @@
 -- `check_withdraw` meets its contract: the phase that it refuses is that of a holder. Assumes nothing.
 use borrow.Author.Needs.{needs}
 use Rattle.states.specs.Faults.{withdrawFault}
-use Rattle.checks.proofs.faults.check_withdraw.Statement.{statement}
-use Rattle.checks.proofs.faults.check_withdraw.Tie as tie
+use Rattle.checks.proofs.check_withdraw.Statement.{statement}
+use Rattle.checks.proofs.check_withdraw.Tie as tie
 
 returns : tie.Need-returns
 unfolding withdrawFault
