@@ -3,6 +3,5 @@
 mod reads;
 
 pub use reads::Fed;
-pub use reads::due_size;
 pub use reads::fill_plan;
 pub use reads::fill_to;

@@ -1,13 +1,8 @@
 // Reads into a lent buffer, behind the bytes that it has.
-use encoding::Outcome;
-use logs::RECORD_BYTES;
-use refusals::number;
+use needed_input::is_short;
 ghost use mathlib.Core.Path.{_≡_};
 ghost use Prim.Native.Nat.{_+_, _≤_, min};
-ghost use lib.Dec.{eqb};
 ghost use lib.ListN.{length, take};
-ghost use Rattle.encoding.specs.Buffers.{outcomeSays};
-ghost use Rattle.log_input.specs.Stages.{isShort, dueSize};
 
 // How many bytes a buffer has after some reads, and whether the last of them failed.
 pub struct Fed {
@@ -65,24 +60,6 @@ pub fn fill_to(input: i32, buffer: &mut [u8], first: usize, needed: usize) -> Fe
     }
 }
 
-fn short_outcome(outcome: Outcome) -> bool
-    ensures { λ r. ⌜ r ≡ eqb (outcomeSays outcome .number) 1 ⌝ }
-{
-    match outcome {
-        Outcome::Bytes(_) => false,
-        Outcome::Refused(refusal) => number(refusal) == 1,
-    }
-}
-
-// Whether a plan's bytes are still to come: what is there so far is refused for that alone.
-fn is_short(bytes: &[u8]) -> bool
-    ensures { λ r. ⌜ r ≡ isShort (now (bytes .entry)) ⌝ }
-{
-    let read = plan_reader::read(bytes);
-    let outcome = read.outcome;
-    short_outcome(outcome)
-}
-
 // Reads until the plan at the start of the buffer is accepted or refused by what is there, or the input ends or a read
 // fails. A plan that fits is never short once the buffer is full.
 pub fn fill_plan(input: i32, buffer: &mut [u8]) -> Fed
@@ -104,11 +81,4 @@ pub fn fill_plan(input: i32, buffer: &mut [u8]) -> Fed
         have: have,
         failed: false,
     }
-}
-
-// How many bytes are waited for with so many calls left: a record, and after the last call a single byte.
-pub fn due_size(left: u16) -> usize
-    ensures { λ r. ⌜ r ≡ dueSize left ⌝ }
-{
-    if left == 0 { 1 } else { RECORD_BYTES }
 }

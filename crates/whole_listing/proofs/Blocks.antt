@@ -11,7 +11,7 @@ use lib.ListN.{length, drop, length-drop}
 use Rattle.states.specs.declared.Board.{Board}
 use Rattle.states.specs.declared.State.{State}
 use Rattle.logs.specs.Records.{recordSize}
-use Rattle.log_input.specs.Stages.{dueSize}
+use Rattle.needed_input.specs.Stages.{dueSize}
 use Rattle.budgets.specs.Budgets.{lineRoom}
 use Rattle.replay.specs.Blocks.{Ran, ran, budget, goingOn}
 use Rattle.log_ends.specs.Ends.{endLine}

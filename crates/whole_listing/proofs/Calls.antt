@@ -15,7 +15,7 @@ use Rattle.states.specs.declared.Board.{Board}
 use Rattle.states.specs.declared.State.{State}
 use Rattle.logs.specs.Records.{recordSize, fieldsIn, recordFault, tailFault}
 use Rattle.lines.specs.Lines.{refusalLine}
-use Rattle.log_input.specs.Stages.{dueSize}
+use Rattle.needed_input.specs.Stages.{dueSize}
 use Rattle.replay.specs.Blocks.{Ran, oneMore, ran, goingOn}
 use Rattle.log_ends.specs.Ends.{faultLine, endFault, endLine}
 use Rattle.replay.proofs.Records.{Found, found, lineIn, stateIn, ran-call, ran-refused}

@@ -21,7 +21,7 @@ use Rattle.boards.specs.Fresh.{boardOf, freshBoard, freshState}
 use Rattle.logs.specs.Records.{countSize, readCount}
 use Rattle.lines.specs.Lines.{refusalLine}
 use Rattle.listings.specs.Lines.{firstLine}
-use Rattle.log_input.specs.Stages.{isShort}
+use Rattle.needed_input.specs.Stages.{isShort}
 use Rattle.whole_listing.specs.Rooms.{planRoom, blockRoom}
 use Rattle.whole_listing.specs.Listing.{listingOf}
 use Rattle.whole_listing.specs.SoFar.{listingSoFar}

@@ -13,7 +13,7 @@ use Rattle.boards.specs.Fresh.{boardOf, freshState}
 use Rattle.logs.specs.Records.{countSize, readCount}
 use Rattle.lines.specs.Lines.{refusalLine}
 use Rattle.listings.specs.Lines.{firstLine}
-use Rattle.log_input.specs.Stages.{isShort}
+use Rattle.needed_input.specs.Stages.{isShort}
 use Rattle.whole_listing.specs.Listing.{countedListing, listingOf}
 use Rattle.whole_listing.specs.SoFar.{countedSoFar, listingSoFar}
 use Rattle.whole_listing.specs.Arrivals.{planThere, countThere}

@@ -10,7 +10,7 @@ use Rattle.states.specs.declared.Board.{Board}
 use Rattle.states.specs.declared.State.{State}
 use Rattle.boards.specs.Fresh.{freshState, freshBoard}
 use Rattle.logs.specs.Records.{countSize, recordSize, readCount}
-use Rattle.log_input.specs.Stages.{isShort, dueSize}
+use Rattle.needed_input.specs.Stages.{isShort, dueSize}
 use Rattle.replay.specs.Blocks.{ran, budget, goingOn}
 use Rattle.log_openings.specs.Openings.{openingLine}
 use Rattle.log_ends.specs.Ends.{countLine, endLine}

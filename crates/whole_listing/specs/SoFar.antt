@@ -13,7 +13,7 @@ use Rattle.boards.specs.Fresh.{boardOf, freshState}
 use Rattle.logs.specs.Records.{countSize, recordSize, readCount, recordFault, tailFault}
 use Rattle.lines.specs.Lines.{refusalLine}
 use Rattle.listings.specs.Lines.{firstLine, callLine}
-use Rattle.log_input.specs.Stages.{isShort}
+use Rattle.needed_input.specs.Stages.{isShort}
 use Rattle.replay_records.specs.Records.{callIn}
 use Rattle.log_ends.specs.Ends.{faultLine}
 

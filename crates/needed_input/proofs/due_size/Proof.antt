@@ -1,7 +1,7 @@
--- `log_input::due_size` meets its contract. Assumes nothing.
+-- `needed_input::due_size` meets its contract. Assumes nothing.
 use borrow.Author.Tests.{eq-eqb, ne-eqb}
-use Rattle.log_input.proofs.reads.due_size.Statement.{statement}
-use Rattle.log_input.proofs.reads.due_size.Tie as tie
+use Rattle.needed_input.proofs.due_size.Statement.{statement}
+use Rattle.needed_input.proofs.due_size.Tie as tie
 
 returns : tie.Need-returns
 returns c = rw (eq-eqb _ 0 (c .if1 .taken))

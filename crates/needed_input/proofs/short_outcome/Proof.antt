@@ -1,7 +1,7 @@
--- `log_input::short_outcome` meets its contract. Assumes nothing.
+-- `needed_input::short_outcome` meets its contract. Assumes nothing.
 use borrow.Author.Needs.{needs}
-use Rattle.log_input.proofs.reads.short_outcome.Statement.{statement}
-use Rattle.log_input.proofs.reads.short_outcome.Tie as tie
+use Rattle.needed_input.proofs.short_outcome.Statement.{statement}
+use Rattle.needed_input.proofs.short_outcome.Tie as tie
 
 returns : tie.Need-returns
 returns c = rw (c .enum-told .given .1)
