@@ -1,9 +1,10 @@
 -- The wait listing: which part a processor has, and all bytes. The phases are of the requests that count.
 -- Specification, section 7.
-use Prim.Native.Nat.{ℕ, zero, suc}
-use mathlib.Core.List.{List, [], _∷_, _++_}
+use Prim.Native.Nat.{ℕ}
+use mathlib.Core.List.{List, _∷_}
 use lib.ListN.{length, getD}
 use Rattle.encoding.specs.Buffers.{roomFault, bufferAfter}
+use Rattle.listing_sizes.specs.InTurn.{inTurn}
 use Rattle.listing_sizes.specs.Sizes.{listSize}
 use Rattle.settling.specs.declared.Phases.{Phases}
 use Rattle.wait_fields.specs.Fields.{stateIn, entryShown, waitedIn}
@@ -13,11 +14,6 @@ use Rattle.wait_parts.specs.Parts.{partBytes}
 unfoldable pub partIn : ℕ → Phases → ℕ → List ℕ → List ℕ → List ℕ → ℕ → List ℕ
 partIn k ph last entry since waits p =
     partBytes k (stateIn ph p) (entryShown ph entry p) (waitedIn ph last since p) (getD waits p 0)
-
--- The bytes f 0, f 1, .. below n, one after the other.
-unfoldable pub inTurn : ℕ → (ℕ → List ℕ) → List ℕ
-inTurn zero f = []
-inTurn (suc n) f = inTurn n f ++ f n
 
 -- Clause 7.7: the list of m processors: their count, then the part of each.
 unfoldable pub listBytes : ℕ → (ℕ → List ℕ) → List ℕ

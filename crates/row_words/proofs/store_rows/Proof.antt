@@ -4,7 +4,7 @@ use Prim.Native.Nat.{ℕ, _*_, _≤_, _<_, _-_}
 use native.Mathlib.Omega.{arith}
 use lib.ListN.{length, getD}
 use lib.Seq.{sets}
-use Rattle.wait_listing.specs.Listing.{inTurn}
+use Rattle.listing_sizes.specs.InTurn.{inTurn}
 use Rattle.row_words.specs.Words.{wordCount, wordsOf}
 use Rattle.row_words.proofs.Words.{words-small, word-inside, word-stored}
 use borrow.Author.Needs.{needs}

@@ -12,7 +12,7 @@ use lib.Seq.{sets, length-sets, take-append-le, drop-append-le, take-all, drop-a
 use Rattle.encoding.specs.Buffers.{roomFault, bufferAfter}
 use Rattle.encoding.proofs.Room.{stored-where-fits}
 use Rattle.encoding.proofs.Stores.{sets-append}
-use Rattle.wait_listing.specs.Listing.{inTurn}
+use Rattle.listing_sizes.specs.InTurn.{inTurn}
 
 pub in-turn-more : (n : ℕ) (f : ℕ → List ℕ) → inTurn (n + 1) f ≡ inTurn n f ++ f n
 unfolding inTurn
