@@ -9,8 +9,8 @@ use Rattle.masks.specs.Sets.{bit, without, maskOf}
 use Rattle.masks.proofs.Places.{bit-without, and-below, wider}
 use Rattle.masks.proofs.Tests.{Mask, by-bits, bit-is}
 use Rattle.plans.specs.Entries.{slots}
-use Rattle.conflicts.specs.Conflict.{tabulate}
-use Rattle.conflicts.proofs.Tabulate.{tabulate-agree}
+use Rattle.tabulation.specs.Tabulation.{tabulate}
+use Rattle.tabulation.proofs.Tabulate.{tabulate-agree}
 use Rattle.settling.specs.declared.Phases.{Phases}
 use Rattle.settling.specs.Requests.{Facts, factsBy}
 use Rattle.settling.specs.Settling.{settled}

@@ -14,8 +14,8 @@ use Rattle.masks.proofs.Places.{bit-or}
 use Rattle.masks.proofs.Tests.{Mask, agree-is, all-is, cut-is, any-and}
 use Rattle.masks.proofs.Stores.{stored-at}
 use Rattle.plans.specs.Entries.{slots}
-use Rattle.conflicts.specs.Conflict.{tabulate}
-use Rattle.conflicts.proofs.Tabulate.{length-tabulate, getD-tabulate}
+use Rattle.tabulation.specs.Tabulation.{tabulate}
+use Rattle.tabulation.proofs.Tabulate.{length-tabulate, getD-tabulate}
 use Rattle.settling.specs.declared.Phases.{Phases}
 use Rattle.settling.specs.Requests.{active}
 use Rattle.rules.specs.Acts.{putLast}

@@ -11,7 +11,7 @@ ghost use lib.Dec.{eqb};
 ghost use lib.ListN.{getD, length};
 ghost use Rattle.masks.specs.Sets.{bit, maskOf};
 ghost use Rattle.plans.specs.Entries.{slots};
-ghost use Rattle.conflicts.specs.Conflict.{tabulate};
+ghost use Rattle.tabulation.specs.Tabulation.{tabulate};
 ghost use Rattle.rules.specs.Acts.{putLast};
 
 // What the types of two lent arrays say, for the proofs. Compiled, there is nothing left of them.

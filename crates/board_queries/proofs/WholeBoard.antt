@@ -9,7 +9,7 @@ use borrow.Author.Tests.{lt-ltb}
 use Rattle.masks.specs.Sets.{maskOf}
 use Rattle.refusals.specs.Due.{said}
 use Rattle.plans.specs.Entries.{slots}
-use Rattle.conflicts.proofs.Tabulate.{getD-tabulate}
+use Rattle.tabulation.proofs.Tabulate.{getD-tabulate}
 use Rattle.settling.specs.declared.Phases.{Phases}
 use Rattle.states.specs.declared.Board.{Board}
 use Rattle.states.specs.declared.State.{State}

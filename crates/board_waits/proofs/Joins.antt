@@ -19,8 +19,8 @@ use Rattle.masks.proofs.Masks.{mask-below, bit-mask-at, is-mask}
 use Rattle.masks.proofs.Walks.{Left, left-more, lowest-place, bit-left, at-lowest, bit-none}
 use Rattle.masks.proofs.Stores.{stored-at}
 use Rattle.plans.specs.Entries.{slots}
-use Rattle.conflicts.specs.Conflict.{tabulate}
-use Rattle.conflicts.proofs.Tabulate.{length-tabulate, getD-tabulate}
+use Rattle.tabulation.specs.Tabulation.{tabulate}
+use Rattle.tabulation.proofs.Tabulate.{length-tabulate, getD-tabulate}
 use Rattle.settling.specs.declared.Phases.{Phases}
 use Rattle.settling.specs.Requests.{Facts, active, isEarlier, isWriter, conflicts}
 use Rattle.settling.proofs.Active.{waiting-active, entitled-active, holding-active}

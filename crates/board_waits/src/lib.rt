@@ -1,17 +1,17 @@
 // The direct waits of every processor at once: who writes is worked out once, and the four cases of the table are gone
 // through one after the other. The queries use it. Specification, clause 7.2.
-use conflicts::row_at;
 use known_requests::ALL;
 use known_requests::all_below;
 use opposition::those_in;
 use plans::ENTRIES;
 use plans::SLOTS;
 use settling::Phases;
+use tabulation::row_at;
 ghost use mathlib.Core.Path.{_≡_};
 ghost use lib.ListN.{length};
 ghost use Rattle.masks.specs.Sets.{maskOf};
 ghost use Rattle.plans.specs.Entries.{slots, mostEntries};
-ghost use Rattle.conflicts.specs.Conflict.{tabulate};
+ghost use Rattle.tabulation.specs.Tabulation.{tabulate};
 ghost use Rattle.settling.specs.Requests.{factsBy};
 ghost use Rattle.settling.specs.inner.Moves.{Table, knownIn};
 ghost use Rattle.waiting.specs.Waits.{waitsIn};

@@ -7,7 +7,8 @@ use Rattle.masks.specs.Sets.{maskOf}
 use Rattle.plans.specs.declared.Plan.{Plan}
 use Rattle.plans.specs.Entries.{slots, mostEntries, isWrite, entryAt}
 use Rattle.plans.specs.Acceptance.{planFault}
-use Rattle.conflicts.specs.Conflict.{tabulate, conflictsOf}
+use Rattle.conflicts.specs.Conflict.{conflictsOf}
+use Rattle.tabulation.specs.Tabulation.{tabulate}
 use Rattle.states.specs.declared.Board.{Board}
 use Rattle.states.specs.declared.State.{State}
 

@@ -1,4 +1,3 @@
-pub mod Tabulate
 pub mod Widening
 pub mod Pairs
 pub mod Rows

@@ -12,7 +12,7 @@ use Rattle.plans.specs.declared.Plan.{Plan}
 use Rattle.plans.specs.Entries.{mostEntries, countedEntries, blankEntry, entryAt}
 use Rattle.widening.specs.Widening.{widenedSet}
 use Rattle.conflicts.specs.Conflict.{conflictsOf}
-use Rattle.conflicts.proofs.Tabulate.{getD-tabulate}
+use Rattle.tabulation.proofs.Tabulate.{getD-tabulate}
 
 -- The widened set of entry i, empty past the count.
 abbrev pub widenedAt : Plan → ℕ → ℕ

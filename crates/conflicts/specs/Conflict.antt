@@ -1,10 +1,11 @@
 -- Which entries of a plan conflict. Specification, section 3.
-use Prim.Native.Nat.{ℕ, zero, suc}
+use Prim.Native.Nat.{ℕ}
 use mathlib.Core.Bool.{Bool, cond, not, _&&_}
-use mathlib.Core.List.{List, [], _∷_, _++_}
+use mathlib.Core.List.{List}
 use lib.Bits.{bitAnd}
 use lib.Dec.{eqb, ltb}
 use Rattle.masks.specs.Sets.{maskOf}
+use Rattle.tabulation.specs.Tabulation.{tabulate}
 use Rattle.plans.specs.declared.Entry.{Entry}
 use Rattle.plans.specs.declared.Plan.{Plan}
 use Rattle.plans.specs.Entries.{mostEntries, isRead, isWrite, countedEntries, entryAt}
@@ -26,11 +27,6 @@ conflict entries e f = not (eqb (shared entries e f) 0)
 unfoldable pub inConflict : Plan → ℕ → ℕ → Bool
 inConflict p i j =
     (ltb i (p .count) && ltb j (p .count)) && conflict (countedEntries p) (entryAt p i) (entryAt p j)
-
--- The list of f 0, f 1, .. below n.
-unfoldable pub tabulate : ℕ → (ℕ → ℕ) → List ℕ
-tabulate zero f = []
-tabulate (suc n) f = tabulate n f ++ (f n ∷ [])
 
 -- Clause 3.3: worked out once: the names and the widened set of each entry, and as its row the entries that it
 -- conflicts with.

@@ -10,7 +10,6 @@ ghost use mathlib.Core.Path.{_≡_};
 ghost use mathlib.Core.Bool.{cond};
 ghost use Prim.Native.Nat.{_<_};
 ghost use lib.Dec.{ltb};
-ghost use lib.ListN.{getD};
 ghost use Rattle.masks.specs.Sets.{added, maskOf};
 ghost use Rattle.plans.specs.Entries.{mostEntries, countedEntries, entryAt};
 ghost use Rattle.widening.specs.Widening.{widenedSet};
@@ -121,12 +120,4 @@ pub fn conflicts_of(plan: Plan) -> Conflicts
         widened: widened,
         rows: rows,
     }
-}
-
-// The entries that an entry conflicts with: its row of the rows. Past the rows there are none.
-pub fn row_at(rows: &[u64], entry: u32) -> u64
-    ensures { λ r. ⌜ r ≡ getD (now (rows .entry)) entry 0 ⌝ }
-{
-    let i = entry as usize;
-    if i < rows.len() { rows[i] } else { 0 }
 }

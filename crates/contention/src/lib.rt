@@ -1,6 +1,5 @@
 // Which resource two entries of a board fight over: what an integrator asks who sees that they conflict. Nothing is
 // changed.
-use conflicts::row_at;
 use masks::has64;
 use plans::ENTRIES;
 use refusals::Refusal;
@@ -8,6 +7,7 @@ use sharing::Conflict;
 use sharing::conflict_by;
 use states::Board;
 use states::Terms;
+use tabulation::row_at;
 ghost use mathlib.Core.Path.{_≡_};
 ghost use lib.ListN.{getD};
 ghost use Rattle.sharing.specs.Sharing.{conflictSays, over};

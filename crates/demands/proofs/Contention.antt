@@ -20,7 +20,7 @@ use Rattle.sharing.proofs.Over.{over-is}
 use Rattle.widening.specs.Widening.{widenedSet}
 use Rattle.conflicts.specs.Conflict.{shared, conflict, inConflict, conflictsOf}
 use Rattle.conflicts.proofs.Accepted.{read-or-write}
-use Rattle.conflicts.proofs.Tabulate.{getD-tabulate}
+use Rattle.tabulation.proofs.Tabulate.{getD-tabulate}
 use Rattle.conflicts.proofs.Widening.{widened-at}
 use Rattle.boards.specs.Fresh.{boardOf}
 use Rattle.runs.proofs.refinement.Board.{write-on-board, conflict-on-board}

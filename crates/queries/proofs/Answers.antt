@@ -16,7 +16,7 @@ use Rattle.refusals.proofs.Numbers.{first-accepted, due-accepted, number-not-ze
 use Rattle.encoding.specs.Buffers.{roomFault}
 use Rattle.encoding.proofs.Room.{room-fits}
 use Rattle.plans.specs.Entries.{slots}
-use Rattle.conflicts.specs.Conflict.{tabulate}
+use Rattle.tabulation.specs.Tabulation.{tabulate}
 use Rattle.settling.specs.declared.Phases.{Phases}
 use Rattle.states.specs.declared.Terms.{Terms}
 use Rattle.states.specs.declared.Board.{Board}

@@ -14,8 +14,8 @@ use Rattle.masks.proofs.Truth.{and-left, and-right}
 use Rattle.encoding.specs.Buffers.{overwritten, bufferAfter}
 use Rattle.encoding.proofs.Room.{fits-room}
 use Rattle.plans.specs.Entries.{slots, maskSizeFor}
-use Rattle.conflicts.specs.Conflict.{tabulate}
-use Rattle.conflicts.proofs.Tabulate.{getD-tabulate, tabulate-agree}
+use Rattle.tabulation.specs.Tabulation.{tabulate}
+use Rattle.tabulation.proofs.Tabulate.{getD-tabulate, tabulate-agree}
 use Rattle.states.specs.declared.Board.{Board}
 use Rattle.states.specs.declared.State.{State}
 use Rattle.listing_sizes.specs.Sizes.{listedOf}

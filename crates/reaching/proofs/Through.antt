@@ -13,8 +13,8 @@ use Rattle.masks.specs.Sets.{bit, maskOf}
 use Rattle.masks.proofs.Masks.{bit-mask-at, mask-agree, mask-or}
 use Rattle.masks.proofs.Truth.{and-left, and-right, and-both, or-cases, or-left, or-right}
 use Rattle.plans.specs.Entries.{slots}
-use Rattle.conflicts.specs.Conflict.{tabulate}
-use Rattle.conflicts.proofs.Tabulate.{getD-tabulate, tabulate-agree}
+use Rattle.tabulation.specs.Tabulation.{tabulate}
+use Rattle.tabulation.proofs.Tabulate.{getD-tabulate, tabulate-agree}
 use Rattle.reaching.specs.Rows.{joinedRow, rowsThrough}
 
 -- A row with or without another.

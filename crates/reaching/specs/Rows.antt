@@ -6,7 +6,7 @@ use lib.Bits.{bitOr}
 use lib.ListN.{getD}
 use Rattle.masks.specs.Sets.{bit}
 use Rattle.plans.specs.Entries.{slots}
-use Rattle.conflicts.specs.Conflict.{tabulate}
+use Rattle.tabulation.specs.Tabulation.{tabulate}
 
 -- Row p, joined with row k where k is in it.
 unfoldable pub joinedRow : List ℕ → ℕ → ℕ → ℕ

@@ -6,7 +6,7 @@ use plans::SLOTS;
 ghost use mathlib.Core.Path.{_≡_};
 ghost use Prim.Native.Nat.{_<_};
 ghost use Rattle.plans.specs.Entries.{slots};
-ghost use Rattle.conflicts.specs.Conflict.{tabulate};
+ghost use Rattle.tabulation.specs.Tabulation.{tabulate};
 ghost use Rattle.listing_sizes.specs.Sizes.{listedOf};
 ghost use Rattle.reaching.specs.Rows.{joinedRow, rowsThrough};
 

@@ -6,7 +6,7 @@ use lib.Dec.{eqb}
 use lib.ListN.{getD}
 use Rattle.masks.specs.Sets.{bit, maskOf}
 use Rattle.plans.specs.Entries.{slots}
-use Rattle.conflicts.specs.Conflict.{tabulate}
+use Rattle.tabulation.specs.Tabulation.{tabulate}
 use Rattle.settling.specs.declared.Phases.{Phases}
 use Rattle.settling.specs.Requests.{active}
 

@@ -8,7 +8,8 @@ use Rattle.plans.specs.declared.Entry.{Entry}
 use Rattle.plans.specs.declared.Plan.{Plan}
 use Rattle.plans.specs.Entries.{blankEntry}
 use Rattle.widening.specs.Widening.{widen, widenedSet}
-use Rattle.conflicts.specs.Conflict.{shared, conflict, inConflict, tabulate, conflictsOf}
+use Rattle.conflicts.specs.Conflict.{shared, conflict, inConflict, conflictsOf}
+use Rattle.tabulation.specs.Tabulation.{tabulate}
 use Rattle.calls.specs.declared.Call.{Call}
 use Rattle.calls.specs.Replies.{Response, refusedWith}
 use Rattle.settling.specs.Settling.{test1, step1, test2, step2, test3, step3, test4, step4, settled}

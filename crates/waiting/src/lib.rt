@@ -1,12 +1,12 @@
 // For whom a request waits directly, by masks of processors, on the parts of a board and a state. An entry past the
 // rows conflicts with none. The queries use it. Specification, clause 7.2.
-use conflicts::row_at;
 use facing::facing_of;
 use known_requests::all_below;
 use opposition::those_in;
 use plans::ENTRIES;
 use plans::SLOTS;
 use settling::Phases;
+use tabulation::row_at;
 ghost use mathlib.Core.Path.{_≡_};
 ghost use lib.ListN.{length};
 ghost use Rattle.plans.specs.Entries.{mostEntries};

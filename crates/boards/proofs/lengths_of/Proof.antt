@@ -7,8 +7,8 @@ use lib.ListN.{length, take, length-set}
 use borrow.Author.Needs.{needs}
 use Rattle.plans.specs.declared.Entry.{Entry}
 use Rattle.plans.specs.Entries.{mostEntries, entryAt}
-use Rattle.conflicts.specs.Conflict.{tabulate}
-use Rattle.conflicts.proofs.Tabulate.{fill-more, filled-whole}
+use Rattle.tabulation.specs.Tabulation.{tabulate}
+use Rattle.tabulation.proofs.Tabulate.{fill-more, filled-whole}
 use Rattle.boards.specs.Fresh.{boardOf}
 use Rattle.conflicts.proofs.Widening.{counted-field}
 use Rattle.boards.proofs.lengths_of.Statement.{statement}

@@ -3,7 +3,7 @@ use Prim.Native.Nat.{ℕ}
 use mathlib.Core.List.{List}
 use Rattle.masks.specs.Sets.{maskOf}
 use Rattle.plans.specs.Entries.{slots}
-use Rattle.conflicts.specs.Conflict.{tabulate}
+use Rattle.tabulation.specs.Tabulation.{tabulate}
 use Rattle.states.specs.declared.Board.{Board}
 use Rattle.states.specs.declared.State.{State}
 use Rattle.queries.specs.Queries.{waitsFor}

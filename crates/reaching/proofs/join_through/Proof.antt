@@ -4,8 +4,8 @@ use Prim.Native.Nat.{_<_, _≤_, _-_}
 use native.Mathlib.Omega.{arith}
 use lib.ListN.{length, take, length-set}
 use Rattle.plans.specs.Entries.{slots}
-use Rattle.conflicts.specs.Conflict.{tabulate}
-use Rattle.conflicts.proofs.Tabulate.{fill-more, filled-whole}
+use Rattle.tabulation.specs.Tabulation.{tabulate}
+use Rattle.tabulation.proofs.Tabulate.{fill-more, filled-whole}
 use Rattle.reaching.specs.Rows.{joinedRow}
 use borrow.Author.Needs.{needs}
 use Rattle.reaching.proofs.join_through.Statement.{statement}

@@ -5,7 +5,7 @@ use Prim.Native.Nat.{ℕ, _≤_, _-_}
 use native.Mathlib.Numerals.{add-one}
 use native.Mathlib.Omega.{arith}
 use Rattle.plans.specs.Entries.{slots}
-use Rattle.conflicts.specs.Conflict.{tabulate}
+use Rattle.tabulation.specs.Tabulation.{tabulate}
 use Rattle.reaching.specs.Rows.{joinedRow, rowsThrough}
 use borrow.Author.Needs.{needs}
 use Rattle.reaching.proofs.reach_rows.Statement.{statement}

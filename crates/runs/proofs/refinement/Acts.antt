@@ -13,7 +13,7 @@ use Rattle.masks.specs.Sets.{bit, maskOf}
 use Rattle.masks.proofs.Masks.{bit-mask-at}
 use Rattle.masks.proofs.Truth.{and-left, and-right}
 use Rattle.plans.specs.Entries.{slots}
-use Rattle.conflicts.proofs.Tabulate.{length-tabulate, getD-tabulate}
+use Rattle.tabulation.proofs.Tabulate.{length-tabulate, getD-tabulate}
 use Rattle.settling.specs.declared.Phases.{Phases}
 use Rattle.settling.specs.Requests.{Facts}
 use Rattle.settling.specs.Settling.{settled}

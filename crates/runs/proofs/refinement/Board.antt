@@ -18,7 +18,7 @@ use Rattle.plans.specs.Entries.{mostEntries, blankEntry, isWrite, countedEntrie
 use Rattle.plans.specs.Acceptance.{planFault}
 use Rattle.plans.proofs.Accepted.{accepted-count}
 use Rattle.conflicts.specs.Conflict.{conflictsOf, inConflict}
-use Rattle.conflicts.proofs.Tabulate.{getD-tabulate, getD-tabulate-past}
+use Rattle.tabulation.proofs.Tabulate.{getD-tabulate, getD-tabulate-past}
 use Rattle.conflicts.proofs.Bridge.{both-counted, conflict-symmetric, reads-never-conflict, read-bridges-writes}
 use Rattle.conflicts.proofs.Rows.{bit-row, row-below}
 use Rattle.conflicts.proofs.Accepted.{read-or-write}

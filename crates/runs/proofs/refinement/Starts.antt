@@ -10,7 +10,7 @@ use borrow.Author.Tests.{eqb-true, eq-eqb, ne-eqb}
 use Rattle.masks.specs.Sets.{bit, maskOf}
 use Rattle.masks.proofs.Masks.{mask-below, bit-mask-at}
 use Rattle.plans.specs.Entries.{slots}
-use Rattle.conflicts.proofs.Tabulate.{getD-tabulate}
+use Rattle.tabulation.proofs.Tabulate.{getD-tabulate}
 use Rattle.settling.specs.declared.Phases.{Phases}
 use Rattle.settling.specs.Requests.{Facts, factsBy, isEarlier, active}
 use Rattle.rules.specs.Acts.{putIn, putLast, takenOut}

@@ -9,7 +9,7 @@ use mathlib.Core.Logic.{⊎-elim}
 use mathlib.Core.List.{List, [], _∷_, _++_}
 use lib.ListN.{length, take, getD, set, length-append, List·getD-append, List·getD-eq-default}
 use lib.Seq.{getD-at, take-all, take-suc-set}
-use Rattle.conflicts.specs.Conflict.{tabulate}
+use Rattle.tabulation.specs.Tabulation.{tabulate}
 
 pub length-tabulate : (n : ℕ) (f : ℕ → ℕ) → length (tabulate n f) ≡ n
 unfolding tabulate
