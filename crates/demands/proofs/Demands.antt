@@ -31,7 +31,8 @@ use Rattle.rules.specs.InPlace.{boardBy, stateBy}
 use Rattle.queries.specs.Queries.{reachFault, reachBytes, reachQuery, reachScratch}
 use Rattle.wait_listing.specs.Listing.{listFault, listBuffer}
 use Rattle.board_queries.specs.WholeBoard.{boardBytes, boardFault, boardQuery, boardBuffer}
-use Rattle.logs.specs.Records.{fieldsIn, noFields, recordFault, readRecord}
+use Rattle.record_calls.specs.Verbs.{noFields}
+use Rattle.logs.specs.Records.{fieldsIn, recordFault, readRecord}
 
 -- Demand 1. What meets no refusal condition is carried out to the end; everything else is refused by the number due in
 -- that case alone, with the state and all lent buffers unchanged.

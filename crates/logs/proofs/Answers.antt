@@ -8,9 +8,10 @@ use Rattle.refusals.specs.Number.{numberOf}
 use Rattle.encoding.proofs.Room.{enough-length}
 use Rattle.calls.specs.declared.Call.{Call}
 use Rattle.calls.specs.Calls.{callSays, callOf}
+use Rattle.record_calls.specs.declared.RecordAnswer.{RecordAnswer}
+use Rattle.record_calls.specs.Verbs.{recordSays}
 use Rattle.logs.specs.declared.CountAnswer.{CountAnswer}
-use Rattle.logs.specs.declared.RecordAnswer.{RecordAnswer}
-use Rattle.logs.specs.Records.{countSize, countSays, readCount, fieldsIn, recordFault, recordSays, readRecord}
+use Rattle.logs.specs.Records.{countSize, countSays, readCount, fieldsIn, recordFault, readRecord}
 
 -- A count that is taken is there.
 pub count-there : (s : List ℕ) → readCount s .number ≡ 0 → countSize ≤ length s

@@ -1,6 +1,6 @@
 -- What stands in a log behind its plan, and when it is refused: 1, 2 and 9. Specification, section 9.
 use Prim.Native.Nat.{ℕ}
-use mathlib.Core.Bool.{cond, _&&_, _||_}
+use mathlib.Core.Bool.{cond}
 use mathlib.Core.List.{List}
 use lib.Dec.{eqb}
 use lib.ListN.{length, getD, take}
@@ -9,9 +9,9 @@ use Rattle.refusals.specs.Number.{numberOf}
 use Rattle.refusals.specs.Due.{Said, due, firstOf, said}
 use Rattle.encoding.specs.Numbers.{number}
 use Rattle.encoding.specs.Buffers.{shortFault}
-use Rattle.calls.specs.Calls.{Fields, callSays}
+use Rattle.calls.specs.Calls.{Fields}
+use Rattle.record_calls.specs.Verbs.{Recorded, noFields, verbFault}
 use Rattle.logs.specs.declared.CountAnswer.{CountAnswer}
-use Rattle.logs.specs.declared.RecordAnswer.{RecordAnswer}
 
 -- Clauses 9.1 and 9.2: the bytes of the number of calls, and those of a call.
 abbrev pub countSize : ℕ
@@ -34,29 +34,9 @@ unfoldable pub fieldsIn : List ℕ → Fields
 fieldsIn s =
     record { verb = getD s 0 0; processor = getD s 1 0; entry = getD s 2 0; tick = number (slice 3 recordSize s) }
 
--- Clause 9.3: 9 for a verb above 3, or a completion or a withdrawal with an entry.
-abbrev pub verbFault : Fields → ℕ
-verbFault f =
-    due
-    (eqb (f .verb) 0
-    || ((eqb (f .verb) 1 && eqb (f .entry) 0) || ((eqb (f .verb) 2 && eqb (f .entry) 0) || eqb (f .verb) 3)))
-    9
-
 -- Clauses 9.4 and 8.2: the record's bytes are due (1) before its verb is looked at.
 unfoldable pub recordFault : List ℕ → ℕ
 recordFault s = firstOf (shortFault recordSize s) (verbFault (fieldsIn s))
-
--- A record in numbers: what is due, and the call's fields, which are all 0 beside a refusal.
-pub record Recorded : Type 0 where
-  pub number : ℕ
-  pub fields : Fields
-
-abbrev pub noFields : Fields
-noFields = record { verb = 0; processor = 0; entry = 0; tick = 0 }
-
-abbrev pub recordSays : RecordAnswer → Recorded
-recordSays (RecordAnswer.Is c) = record { number = 0; fields = callSays c }
-recordSays (RecordAnswer.Refused r) = record { number = numberOf r; fields = noFields }
 
 -- A call's record at the start of the bytes s.
 unfoldable pub readRecord : List ℕ → Recorded

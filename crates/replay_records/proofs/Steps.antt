@@ -12,8 +12,9 @@ use Rattle.encoding.specs.Buffers.{outcomeSays}
 use Rattle.calls.specs.declared.Call.{Call}
 use Rattle.states.specs.declared.Board.{Board}
 use Rattle.states.specs.declared.State.{State}
-use Rattle.logs.specs.declared.RecordAnswer.{RecordAnswer}
-use Rattle.logs.specs.Records.{recordSays, readRecord}
+use Rattle.record_calls.specs.declared.RecordAnswer.{RecordAnswer}
+use Rattle.record_calls.specs.Verbs.{recordSays}
+use Rattle.logs.specs.Records.{readRecord}
 use Rattle.logs.proofs.Answers.{record-is, record-refused}
 use Rattle.lines.specs.Lines.{refusalLine, lineSays, lineBuffer}
 use Rattle.carrying_out.specs.Steps.{Stands, callStep, stands}
