@@ -2,9 +2,8 @@
 // who began to hold and who became entitled by it. Specification, clauses 4.4 to 4.8.
 mod stores;
 
-use ages::stamp;
+use accepting::accept;
 use effects::Carried;
-use masks::without32;
 use placing::settle_left;
 use placing::settle_new;
 use placing::take_out;
@@ -14,33 +13,13 @@ use settling::Phases;
 use stores::store_entry;
 use stores::store_tick;
 ghost use mathlib.Core.Path.{_≡_};
-ghost use mathlib.Core.List.{List};
-ghost use Prim.Native.Nat.{ℕ};
 ghost use lib.ListN.{set};
 ghost use Rattle.settling.specs.Requests.{factsBy};
 ghost use Rattle.settling.specs.Settling.{settled};
-ghost use Rattle.states.specs.inner.Small.{Small};
 ghost use Rattle.rules.specs.Acts.{putIn, takenOut};
 ghost use Rattle.rules.specs.Calls.{done};
 ghost use Rattle.rules.specs.InPlace.{stateBy};
 ghost use Rattle.effects.specs.Carried.{carriedSays};
-
-// The two masks. `before` has the request put in or taken out, `after` is settled. Those that began to hold have this
-// tick.
-fn accept(tick: u64, before: Phases, after: Phases, since: &mut [u64; SLOTS], late: u8) -> Carried
-    requires { ⌜ Small after ⌝ }
-    ensures { λ r. ⌜ ((entry : List ℕ) (earlier : List ℕ) → carriedSays r tick entry (now (since .exit)) earlier
-        ≡ done (stateBy (record { last = tick; phases = before }) entry (now (since .entry)) earlier) after late) ⌝ }
-{
-    let granted = without32(after.holding, before.holding);
-    stamp(since, granted, tick);
-    Carried {
-        granted: granted,
-        entitled: without32(after.entitled, before.entitled),
-        late: late,
-        phases: after,
-    }
-}
 
 // The processor's request for the entry is put in, beside the requests of these phases. Who is earlier is told. It is
 // never late.

@@ -1,15 +1,9 @@
 -- `enter` meets its contract, put together from its parts. Assumes nothing.
-use mathlib.Core.Path.{sym, subst}
 use lib.ListN.{set}
 use borrow.Author.Needs.{needs}
-use Rattle.settling.proofs.Bounds.{settled-small}
-use Rattle.states.specs.inner.Small.{Small}
 use Rattle.acts.proofs.Done.{entered-done}
 use Rattle.acts.proofs.enter.Statement.{statement}
 use Rattle.acts.proofs.enter.Tie as tie
-
-accept-requires : tie.Need-accept-requires
-accept-requires c κs = subst Small (sym (c .before .settle-new .ensures)) (settled-small _ _)
 
 returns : tie.Need-returns
 returns c =
@@ -24,4 +18,4 @@ returns c =
 pub enter-spec : {M : Type 1} → statement M
 enter-spec =
     tie.close
-    (tie.spec (λ c κs. search needs) (λ c κs. search needs) (λ c κs. search needs) accept-requires returns)
+    (tie.spec (λ c κs. search needs) (λ c κs. search needs) (λ c κs. search needs) (λ c κs. search needs) returns)

@@ -1,14 +1,15 @@
 -- `accept` meets its contract, by the law of the masks and the ticks of grants. Assumes nothing.
 use borrow.Author.Needs.{needs}
-use Rattle.acts.proofs.Done.{carried-done}
-use Rattle.acts.proofs.accept.Statement.{statement}
-use Rattle.acts.proofs.accept.Tie as tie
+use Rattle.accepting.proofs.Done.{carried-done}
+use Rattle.accepting.proofs.accept.Statement.{statement}
+use Rattle.accepting.proofs.accept.Tie as tie
 
 returns : tie.Need-returns
 returns c entry earlier =
     let marks = c .before .before .before in
     let start = marks .before in
-    carried-done _ (start .args .before) (start .args .after) _ _ _ _ _ _ _ (start .pre) (search needs) (search needs)
+    carried-done _ (start .args .before) (start .args .after) _ _ _ _ _ _ _
+    (search needs) (search needs) (search needs) (search needs)
     (marks .without32 .ensures) (c .without322 .ensures) (c .before .stamp .ensures)
 
 pub accept-spec : {M : Type 1} → statement M
