@@ -2,26 +2,16 @@
 // Every core's call goes through `answer`; the reply says who began to hold. `issue`, `complete`, `withdraw` and
 // `handover` are the same by name. The crates `issuing`, `completing`, `withdrawing`, `handing_over` and `answering`
 // have the calls on lent arrays: no copies.
-use answering::answer_in_place;
+pub use answering_by_value::Answered;
+pub use answering_by_value::answer;
 use calls::Call;
-use calls::Reply;
-use plans::ENTRIES;
 use settling::Phases;
 use states::Board;
-use states::Moment;
 use states::State;
-use states::Terms;
 use states::clean;
 ghost use mathlib.Core.Path.{_≡_};
-ghost use Rattle.rules.specs.Calls.{phasesOf, issued, completed, withdrawn, handedOver, answered};
-ghost use Rattle.rules.specs.InPlace.{boardBy};
-ghost use Rattle.arbiter.specs.Answers.{answerOf};
-
-// On a refusal the state is the one given.
-pub struct Answered {
-    pub reply: Reply,
-    pub state: State,
-}
+ghost use Rattle.rules.specs.Calls.{phasesOf, issued, completed, withdrawn, handedOver};
+ghost use Rattle.answering_by_value.specs.Answers.{answerOf};
 
 // The phases of the requests that count: who waits, who is entitled and who holds.
 pub fn phases_of(board: Board, state: State) -> Phases
@@ -31,59 +21,6 @@ pub fn phases_of(board: Board, state: State) -> Phases
     let entry = state.entry;
     let given = state.phases;
     clean(terms, entry, given)
-}
-
-// The answer to any call, on a board of which the rows and the lengths are lent: who makes many calls copies no board.
-pub fn answer_on(
-    terms: Terms,
-    rows: &[u64; ENTRIES],
-    lengths: &[u16; ENTRIES],
-    state: State,
-    call: Call,
-) -> Answered
-    ensures { λ r. ⌜ answerOf r ≡ answered (boardBy terms (now (rows .entry)) (now (lengths .entry))) state call ⌝ }
-{
-    let phases = state.phases;
-    let given = Moment {
-        last: state.last,
-        phases: phases,
-    };
-    let mut entries = state.entry;
-    let mut since = state.since;
-    let mut earlier = state.earlier;
-    let changed = answer_in_place(
-        terms,
-        rows,
-        lengths,
-        given,
-        &mut entries,
-        &mut since,
-        &mut earlier,
-        call,
-    );
-    let reply = changed.reply;
-    let moment = changed.moment;
-    let after = moment.phases;
-    Answered {
-        reply: reply,
-        state: State {
-            last: moment.last,
-            phases: after,
-            since: since,
-            earlier: earlier,
-            entry: entries,
-        },
-    }
-}
-
-// The answer to any call.
-pub fn answer(board: Board, state: State, call: Call) -> Answered
-    ensures { λ r. ⌜ answerOf r ≡ answered board state call ⌝ }
-{
-    let terms = board.terms;
-    let rows = board.rows;
-    let lengths = board.lengths;
-    answer_on(terms, &rows, &lengths, state, call)
 }
 
 // Processor asks for an entry at a tick. Refused by 10, 11, 12, 13, in that order.

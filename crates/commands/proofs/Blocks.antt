@@ -9,8 +9,8 @@ use Rattle.calls.specs.Replies.{replySays}
 use Rattle.states.specs.declared.Board.{Board}
 use Rattle.states.specs.declared.State.{State}
 use Rattle.rules.specs.Calls.{answered}
-use Rattle.arbiter.specs.declared.Answered.{Answered}
-use Rattle.arbiter.specs.Answers.{answerOf}
+use Rattle.answering_by_value.specs.declared.Answered.{Answered}
+use Rattle.answering_by_value.specs.Answers.{answerOf}
 use Rattle.registers.specs.declared.Block.{Block}
 use Rattle.registers.specs.declared.Register.{Register}
 use Rattle.registers.specs.Registers.{registerAt}

@@ -1,5 +1,5 @@
 // Commands of the register block, on a board and a state by value. Specification, section 10.
-use arbiter::answer_on;
+use answering_by_value::answer_on;
 use command_calls::call_of;
 use command_registers::show;
 use plans::ENTRIES;

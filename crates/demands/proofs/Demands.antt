@@ -49,7 +49,7 @@ use Rattle.logs.specs.Records.{fieldsIn, recordFault, readRecord}
 --   arbiter::complete        answerOf r ≡ completed board state processor tick
 --   arbiter::withdraw        answerOf r ≡ withdrawn board state processor tick
 --   arbiter::handover        answerOf r ≡ handedOver board state processor entry tick
---   arbiter::answer_on       answerOf r ≡ answered, of the board whose terms, rows and lengths it was lent
+--   answering_by_value::answer_on  answerOf r ≡ answered, of the board whose terms, rows and lengths it was lent
 --   answering::answer_in_place  answerBy r and the arrays after it ≡ answered, of the board and the state that it was lent
 --   issuing::issue_in_place  the same with issued, completing::complete_in_place with completed,
 --                            withdrawing::withdraw_in_place with withdrawn, handing_over::handover_in_place with handedOver

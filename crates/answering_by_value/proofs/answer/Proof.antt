@@ -2,8 +2,8 @@
 use mathlib.Core.Path.{_∙_}
 use borrow.Author.Needs.{needs}
 use Rattle.answers.proofs.Verdicts.{call-reads}
-use Rattle.arbiter.proofs.answer.Statement.{statement}
-use Rattle.arbiter.proofs.answer.Tie as tie
+use Rattle.answering_by_value.proofs.answer.Statement.{statement}
+use Rattle.answering_by_value.proofs.answer.Tie as tie
 
 returns : tie.Need-returns
 returns c =

@@ -1,7 +1,7 @@
 -- `answer_on` meets its contract: what it returns is the definition itself. Assumes nothing.
 use borrow.Author.Needs.{needs}
-use Rattle.arbiter.proofs.answer_on.Statement.{statement}
-use Rattle.arbiter.proofs.answer_on.Tie as tie
+use Rattle.answering_by_value.proofs.answer_on.Statement.{statement}
+use Rattle.answering_by_value.proofs.answer_on.Tie as tie
 
 returns : tie.Need-returns
 returns c = search needs
