@@ -26,7 +26,7 @@ use Rattle.settling.specs.Requests.{Facts, active, isEarlier, isWriter, conflic
 use Rattle.settling.proofs.Active.{waiting-active, entitled-active, holding-active}
 use Rattle.settling.proofs.FourSteps.{fit}
 use Rattle.settling.proofs.Known.{Known, known-all, known-and, and-known, known-kept}
-use Rattle.settling.proofs.Lookups.{agree-among, known-those}
+use Rattle.settlement.proofs.Lookups.{agree-among, known-those}
 use Rattle.opposition.specs.Opposition.{wrappedEntry, thoseIn}
 use Rattle.facing.proofs.Faces.{left-to-right}
 use Rattle.waiting.specs.Waits.{waitsIn}

@@ -181,7 +181,7 @@ accepted-record-is-read s ok = rw ok
 -- back is the same bytes.
 --
 -- The rules are `settled` and its four steps (settling), `putIn`, `takenOut`, `stamped` and `done` (acting); plan F's
--- twelve calls are computed by them in runs/proofs/PlanF.antt. The functions promise: settling::settle ≡ settled,
+-- twelve calls are computed by them in runs/proofs/PlanF.antt. The functions promise: settlement::settle ≡ settled,
 -- conflicts::conflicts_of ≡ conflictsOf, figures::figures_of ≡ figuresOf; and the calls as above.
 
 -- A handover does what a completion and then an issue would do: leaves-what-both-leave, grants-of-both and

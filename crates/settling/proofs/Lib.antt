@@ -1,8 +1,6 @@
 pub mod Active
 pub mod FourSteps
 pub mod Known
-pub mod Lookups
-pub mod KnownSteps
 pub mod Quiet
 pub mod Idle
 pub mod Bounds

@@ -15,7 +15,7 @@ use Rattle.settling.specs.Requests.{Facts, active, isEarlier, isWriter, entryOf
 use Rattle.settling.specs.inner.Moves.{Table, knownIn}
 use Rattle.settling.proofs.Active.{waiting-active, entitled-active, holding-active, within-and, within-not}
 use Rattle.settling.proofs.Known.{known-all, and-known, known-writers, unknown-row}
-use Rattle.settling.proofs.Lookups.{known-those}
+use Rattle.settlement.proofs.Lookups.{known-those}
 use Rattle.opposition.specs.Opposition.{thoseIn}
 use Rattle.facing.specs.Facing.{facing, facedOf}
 use Rattle.waiting.specs.Waits.{waitsIn}

@@ -1,7 +1,7 @@
 -- `settle` meets its contract: where nobody is unsatisfied, and by the four steps. Assumes nothing.
 use Rattle.settling.proofs.Quiet.{cut-follows, quiet-cut}
-use Rattle.settling.proofs.settle.Statement.{statement}
-use Rattle.settling.proofs.settle.Tie as tie
+use Rattle.settlement.proofs.settle.Statement.{statement}
+use Rattle.settlement.proofs.settle.Tie as tie
 
 returns : tie.Need-returns
 returns c = quiet-cut _ _ (c .if1 .taken)

@@ -1,15 +1,15 @@
 // The four settling steps. Specification, section 5.
-use crate::Phases;
 use opposition::first_in_line;
 use opposition::those_in;
 use opposition::unopposed;
 use plans::ENTRIES;
 use plans::SLOTS;
+use settling::Phases;
 ghost use mathlib.Core.Path.{_≡_};
 ghost use Rattle.settling.specs.Requests.{factsBy};
 ghost use Rattle.settling.specs.Settling.{settled};
 ghost use Rattle.settling.specs.declared.Phases.{Phases};
 ghost use Rattle.settling.specs.inner.Moves.{Table, knownIn, Follows};
 
 // The phases after the four steps, by their masks. Each step goes by those that the one before it left. Of the known
 // processors, w are the active ones whose requests are writes, and r are the others.

@@ -7,8 +7,8 @@ use lib.ListN.{getD}
 use borrow.Author.Needs.{needs}
 use Rattle.masks.specs.Sets.{maskOf}
 use Rattle.plans.specs.Entries.{slots}
-use Rattle.settling.proofs.known_in.Statement.{statement}
-use Rattle.settling.proofs.known_in.Tie as tie
+use Rattle.settlement.proofs.known_in.Statement.{statement}
+use Rattle.settlement.proofs.known_in.Tie as tie
 
 returns : tie.Need-returns
 returns c =

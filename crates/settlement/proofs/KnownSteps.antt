@@ -8,13 +8,13 @@ use Rattle.masks.specs.Sets.{without}
 use Rattle.masks.proofs.Tests.{and-is}
 use Rattle.plans.specs.Entries.{mostEntries}
 use Rattle.opposition.specs.Opposition.{thoseIn, unopposedBy, firstBefore}
 use Rattle.settling.specs.Requests.{Facts, entryOf, active}
 use Rattle.settling.specs.Settling.{step1, step2, step3, step4}
 use Rattle.settling.specs.inner.Moves.{Table, knownIn, Follows}
 use Rattle.settling.specs.declared.Phases.{Phases}
 use Rattle.settling.proofs.FourSteps.{unopposedIn, activeWrite, At, at-first, after1, after2, after3, after4}
 use Rattle.settling.proofs.Known.{Known, unknown-read, known-writers, known1, known2, known3, known4, known-all, known-kept, and-known, known-and, known-or}
-use Rattle.settling.proofs.Lookups.{known-those, known-unopposed, known-first}
+use Rattle.settlement.proofs.Lookups.{known-those, known-unopposed, known-first}
 
 module _ (f : Facts) (small : f .writes < 2 ^ mostEntries) (table : Table (f .rows)) {k : ℕ} (all : k ≡ knownIn (f .entry)) where
   -- The writes among the known processors of a mask.

@@ -1,12 +1,12 @@
 -- `four_steps` meets its contract: the masks are those of the four steps. Assumes nothing.
 use lib.Bits.{bitOr}
 use borrow.Author.Needs.{needs}
 use Rattle.settling.specs.Requests.{factsBy}
 use Rattle.settling.specs.Settling.{settled}
 use Rattle.settling.proofs.FourSteps.{at-last}
-use Rattle.settling.proofs.KnownSteps.{known-writes, at-known, known-after1, known-after2, known-after3, known-after4}
-use Rattle.settling.proofs.steps.four_steps.Statement.{statement}
-use Rattle.settling.proofs.steps.four_steps.Tie as tie
+use Rattle.settlement.proofs.KnownSteps.{known-writes, at-known, known-after1, known-after2, known-after3, known-after4}
+use Rattle.settlement.proofs.steps.four_steps.Statement.{statement}
+use Rattle.settlement.proofs.steps.four_steps.Tie as tie
 
 returns : tie.Need-returns
 unfolding settled
