@@ -3,5 +3,4 @@ pub mod FourSteps
 pub mod Known
 pub mod Quiet
 pub mod Idle
-pub mod Bounds
 pub mod AtOnce

@@ -10,13 +10,11 @@ use lib.ListN.{getD}
 use borrow.Author.Tests.{lt-ltb}
 use Rattle.masks.specs.Sets.{bit, without, maskOf}
 use Rattle.masks.proofs.Places.{bit-or, bit-without, or-below}
-use Rattle.masks.proofs.Masks.{mask-below}
 use Rattle.masks.proofs.Tests.{Mask, bit-is, agree-is, first-is, and-any}
 use Rattle.plans.specs.Entries.{slots}
 use Rattle.settling.specs.declared.Phases.{Phases}
 use Rattle.states.specs.declared.Terms.{Terms}
 use Rattle.states.specs.Requests.{hasProcessor, inPlan, isWaiting, isEntitled, isHolding, cleaned}
-use Rattle.states.specs.inner.Small.{Small}
 
 -- The first n places, where the first m are meant.
 pub processors-are : (terms : Terms) (n : ℕ) → n ≤ slots → ((k : ℕ) → k < slots → ltb k n ≡ ltb k (terms .processors))
@@ -50,7 +48,3 @@ module _ (terms : Terms) (entry : List ℕ) (ph : Phases) where
 
       e : Mask slots (isEntitled terms entry ph) (bitAnd among entitled)
       e = kept entitled _ (λ k. ap (λ (x : ℕ). bit x k) ee ∙ bit-without 32 (ph .entitled) (ph .holding) k he hh)
-
-  pub cleaned-small : Small (cleaned terms entry ph)
-  unfolding cleaned
-  cleaned-small = (mask-below slots _, mask-below slots _, mask-below slots _)
