@@ -27,11 +27,10 @@ use states::Board;
 use states::State;
 use text::PAGE_ROOM;
 use text::Page;
-use text::empty;
 use text::front;
 use text::print;
+use text::put;
 use text::put_line;
-use text::put_word;
 
 // The processors that are asked for: all that a state holds, and one past them.
 const ASKED: u8 = SLOTS as u8 + 1;
@@ -46,50 +45,44 @@ fn put_queries(page: Page, board: Board, state: State) -> Page {
     let mut out = page;
     let mut processor: u8 = 0;
     while processor < ASKED {
-        out = put_line(out, query_line(board, state, processor));
+        out = put_line(out, put(query_line(board, state, processor), 10));
         processor += 1;
     }
     out
 }
 
-fn put_answers(page: Page, board: Board, state: State) -> Page {
-    let asked = put_queries(page, board, state);
-    let board_word = put_line(asked, put_word(empty(), b"board "));
-    let listed = put_list(board_word, board, state);
-    let scratch_word = put_line(listed, put_word(empty(), b"scratch "));
-    put_scratch(scratch_word, board, state)
+// What is written after a call: its line, and the answers unless a refusal ended the replay.
+fn put_answers(page: Page, board: Board, state: State, ended: bool) -> Page {
+    if ended {
+        page
+    } else {
+        let asked = put_queries(page, board, state);
+        put_scratch(put_list(asked, board, state), board, state)
+    }
 }
 
-// One call: its line, and the answers after it unless a refusal ended the replay.
+// One call: its line, and the answers after it.
 fn print_call(board: Board, state: State, bytes: [u8; INPUT_ROOM]) -> RanBlock {
     let mut out = [0u8; PAGE_ROOM];
     let ran = replay::run(board, state, 1, &bytes, &mut out);
+    let next = ran.state;
     let page = Page {
         bytes: out,
         size: ran.written,
     };
-    if ran.ended {
-        print(page);
-    } else {
-        let next = ran.state;
-        print(put_answers(page, board, next));
-    }
+    print(put_answers(page, board, next, ran.ended));
     ran
 }
 
-// How many bytes are needed with so many calls left: none after the end.
-fn due(left: u16, ended: bool) -> usize {
-    if ended { 0 } else { due_size(left) }
-}
-
-// A call, and then the input as far as it is needed with so many calls left.
+// A call, and then the input as far as it is needed with so many calls left: none after the end.
 fn take_turn(board: Board, turn: Turn, left: u16) -> Turn {
     let state = turn.state;
     let input = turn.input;
     let bytes = input.bytes;
     let ran = print_call(board, state, bytes);
     let next = ran.state;
-    let rest = after(input, RECORD_BYTES, due(left, ran.ended), ran.ended);
+    let needed = if ran.ended { 0 } else { due_size(left) };
+    let rest = after(input, RECORD_BYTES, needed, ran.ended);
     Turn {
         state: next,
         input: rest,
@@ -101,15 +94,12 @@ fn has_record(turn: Turn) -> bool {
     (RECORD_BYTES <= input.have) & !input.over
 }
 
-fn size_of(line: Outcome, over: bool) -> usize {
-    if over { 0 } else { line_size(line) }
-}
-
 // Writes the line at the start of `out`, if there is one and the replay has not ended.
 fn show(line: Outcome, out: [u8; PAGE_ROOM], over: bool) {
+    let size = if over { 0 } else { line_size(line) };
     print(Page {
         bytes: out,
-        size: size_of(line, over),
+        size: size,
     });
 }
 

@@ -21,11 +21,6 @@ fn put_refusal(line: Line, refusal: Refusal) -> Line {
     put_decimal(put_word(line, b" refused "), refusals::number(refusal))
 }
 
-// The digits of a mask, two for each of its bytes.
-fn digits_of(processors: u8) -> usize {
-    2 * mask_size(processors)
-}
-
 fn put_mask(line: Line, answer: MaskAnswer, digits: usize) -> Line {
     match answer {
         MaskAnswer::Mask(mask) => put_hex(put(line, 32), mask, digits),
@@ -33,15 +28,16 @@ fn put_mask(line: Line, answer: MaskAnswer, digits: usize) -> Line {
     }
 }
 
-// The scratch is as large as a reach needs, so that none is refused for it.
+// Two digits for each byte of a mask. The scratch is as large as a reach needs, so that none is refused for it.
 fn put_waits(line: Line, board: Board, state: State, processor: u8) -> Line {
     let mut scratch = [0u8; MOST_ROOM];
-    let digits = digits_of(board.terms.processors);
+    let digits = 2 * mask_size(board.terms.processors);
     let direct = put_mask(line, direct_waits(board, state, processor), digits);
     put_mask(direct, reach(board, state, processor, &mut scratch), digits)
 }
 
-fn put_answers(line: Line, board: Board, state: State, processor: u8) -> Line {
+pub fn query_line(board: Board, state: State, processor: u8) -> Line {
+    let line = put_decimal(empty(), processor);
     let phase = phase_of(board, state, processor);
     match phase {
         PhaseAnswer::Is(is) => {
@@ -50,9 +46,4 @@ fn put_answers(line: Line, board: Board, state: State, processor: u8) -> Line {
         }
         PhaseAnswer::Refused(refusal) => put_refusal(line, refusal),
     }
-}
-
-pub fn query_line(board: Board, state: State, processor: u8) -> Line {
-    let line = put_decimal(empty(), processor);
-    put(put_answers(line, board, state, processor), 10)
 }

@@ -1,16 +1,12 @@
 // Text by value: a short line is made piece by piece, and a page collects the lines of one call, which are written at
 // once. Both have room for all that is put there; a place is taken modulo the room so that it is in range.
 use libc::STDOUT_FILENO;
-ghost use Prim.Native.Nat.{_≤_};
 
 // The longest line that is made by pieces has 23 bytes: a number, a state and two masks.
 const LINE_ROOM: usize = 32;
 
 // All lines of a call have less than 2000 bytes.
 pub const PAGE_ROOM: usize = 2048;
-
-// The places of a page where two bytes have room.
-const PAIR_ROOM: usize = PAGE_ROOM - 1;
 
 pub struct Line {
     bytes: [u8; LINE_ROOM],
@@ -82,40 +78,26 @@ pub fn put_line(page: Page, line: Line) -> Page {
     }
 }
 
-fn glyph(n: u8) -> u8 {
-    if n < 10 { 48 + n } else { 87 + n % 16 }
-}
-
-// Two hexadecimal digits for each byte, and the line feed.
-pub fn put_bytes(page: Page, given: &[u8]) -> Page {
-    let mut bytes = page.bytes;
-    let mut size = page.size;
+// A word, two hexadecimal digits for each of the first bytes, and the line feed.
+pub fn put_bytes(page: Page, word: &[u8], bytes: &[u8], size: usize) -> Page {
+    let given = front(bytes, size);
+    let mut out = put_line(page, put_word(empty(), word));
     let mut i = 0;
     while i < given.len() {
-        let at = size % PAIR_ROOM;
-        bytes[at] = glyph(given[i] / 16);
-        bytes[at + 1] = glyph(given[i] % 16);
-        size = at + 2;
+        out = put_line(out, put_hex(empty(), given[i] as u32, 2));
         i += 1;
     }
-    let end = size % PAGE_ROOM;
-    bytes[end] = 10;
-    Page {
-        bytes: bytes,
-        size: end + 1,
-    }
+    put_line(out, put(empty(), 10))
 }
 
 // ---- the first bytes of a buffer
 
-fn at_most(size: usize, most: usize) -> usize
-    ensures { λ r. ⌜ r ≤ most ⌝ }
-{
-    if size < most { size } else { most }
-}
-
 pub fn front(bytes: &[u8], size: usize) -> &[u8] {
-    let end = at_most(size, bytes.len());
+    let end = if size < bytes.len() {
+        size
+    } else {
+        bytes.len()
+    };
     &bytes[..end]
 }
 

@@ -20,6 +20,7 @@ put-queries-spec =
     (λ c. tt)
     (λ c κs. tt)
     (λ c κs. tt)
+    (λ c κs. tt)
     (λ c. omega arith)
     (λ c. omega arith)
     (λ c. tt)

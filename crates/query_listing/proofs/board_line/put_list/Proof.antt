@@ -1,20 +1,28 @@
--- `put_list` lends a part of the buffer that is there. Assumes nothing.
-use mathlib.Core.Path.{sym}
-use lib.Seq.{length-take-le}
+-- `put_list` does not run over: no list is longer than that of all places with masks of four bytes. Assumes nothing.
+use Prim.Native.Nat.{_≤_}
+use native.Mathlib.Omega.{arith}
+use Rattle.plans.specs.Entries.{slots, maskSizeFor}
+use Rattle.listing_sizes.specs.Sizes.{listedOf}
+use Rattle.listing_sizes.proofs.Sizes.{mask-size-small, list-small}
 use borrow.Author.Needs.{needs}
 use Rattle.query_listing.proofs.board_line.put_list.Statement.{statement}
 use Rattle.query_listing.proofs.board_line.put_list.Tie as tie
 
-slice-aggregate-lent : tie.Need-slice-aggregate-lent
-slice-aggregate-lent c = sym (length-take-le _ _ (c .before .size-of .ensures))
+add-size : tie.Need-add-size
+add-size c =
+    let m = c .before .args .board .terms .processors in
+    let places : listedOf m ≤ slots = omega arith in
+    omega (arith, c .list-size .ensures, list-small (maskSizeFor m) (listedOf m) (mask-size-small m) places)
 
 pub put-list-spec : {M : Type 1} → statement M
 put-list-spec =
     tie.close
     (tie.spec
-    (λ c κs. search needs)
+    (λ c κs. tt)
+    add-size
     (λ c. search needs)
-    slice-aggregate-lent
-    (λ c κs. search needs)
-    (λ c κs. search needs)
-    (λ c. search needs))
+    (λ c κs. tt)
+    (λ c. search needs)
+    (λ c. search needs)
+    (λ c κs. tt)
+    (λ c. tt))

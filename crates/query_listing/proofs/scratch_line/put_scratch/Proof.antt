@@ -1,20 +1,27 @@
--- `put_scratch` lends a part of the scratch that is there. Assumes nothing.
-use mathlib.Core.Path.{sym}
-use lib.Seq.{length-take-le}
+-- `put_scratch` does not run over: no scratch needs more than 128 bytes. Assumes nothing.
+use native.Mathlib.Omega.{arith}
+use Rattle.plans.specs.Entries.{maskSizeFor}
+use Rattle.listing_sizes.proofs.Sizes.{mask-size-small}
+use Rattle.row_words.specs.Words.{wordsSize}
+use Rattle.row_words.proofs.Words.{words-small}
 use borrow.Author.Needs.{needs}
 use Rattle.query_listing.proofs.scratch_line.put_scratch.Statement.{statement}
 use Rattle.query_listing.proofs.scratch_line.put_scratch.Tie as tie
 
-slice-aggregate-lent : tie.Need-slice-aggregate-lent
-slice-aggregate-lent c = sym (length-take-le _ _ (c .before .size-of .ensures))
+add-size : tie.Need-add-size
+add-size c =
+    let m = c .before .args .board .terms .processors in
+    omega (arith, c .room-of .ensures, words-small (maskSizeFor m) (mask-size-small m))
 
 pub put-scratch-spec : {M : Type 1} → statement M
 put-scratch-spec =
     tie.close
     (tie.spec
-    (λ c κs. search needs)
+    (λ c κs. tt)
+    add-size
     (λ c. search needs)
-    slice-aggregate-lent
-    (λ c κs. search needs)
-    (λ c κs. search needs)
-    (λ c. search needs))
+    (λ c κs. tt)
+    (λ c. search needs)
+    (λ c. search needs)
+    (λ c κs. tt)
+    (λ c. tt))
