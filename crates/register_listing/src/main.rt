@@ -8,7 +8,6 @@ mod text;
 use driver::read_lent;
 use driver::write_lent;
 use encoding::Outcome;
-use encoding::byte_at;
 use fronts::bring_to_front;
 use libc::STDIN_FILENO;
 use log_input::fill_plan;
@@ -28,13 +27,14 @@ use text::put;
 use text::put_block;
 use text::put_number;
 use text::put_word;
-ghost use Prim.Native.Nat.{_≤_};
-ghost use lib.ListN.{length};
 
 // The bytes of the input's buffer, which holds the longest plan, and of an operation.
 const INPUT_ROOM: usize = 4096;
 
 const OPERATION: usize = 3;
+
+// How many counts of bytes the buffer can have, from none to all.
+const COUNTS: usize = INPUT_ROOM + 1;
 
 // What a driver keeps.
 struct Kept {
@@ -43,13 +43,10 @@ struct Kept {
     block: Block,
 }
 
-// An operation, whether it is one, and how many bytes the input's buffer has behind it.
-struct Operation {
-    kind: u8,
-    offset: u8,
-    value: u8,
-    whole: bool,
-    left: usize,
+// The input's bytes that are read and not yet used are the first ones.
+struct Input {
+    bytes: [u8; INPUT_ROOM],
+    have: usize,
 }
 
 fn put_refusal(line: Line, refusal: Refusal) -> Line {
@@ -98,51 +95,48 @@ fn write_at(kept: Kept, offset: u8, value: u8) -> Kept {
     }
 }
 
-// One operation, printed.
-fn operate(kept: Kept, operation: Operation) -> Kept {
-    let offset = operation.offset;
-    if operation.kind == 0 {
+// The operation in front of the input, printed.
+fn operate(kept: Kept, input: Input) -> Kept {
+    let offset = input.bytes[1];
+    if input.bytes[0] == 0 {
         let block = kept.block;
         print_line(read_line(offset, read_lent(block, offset)), block);
         kept
     } else {
-        write_at(kept, offset, operation.value)
+        write_at(kept, offset, input.bytes[2])
     }
 }
 
-fn is_operation(kind: u8, value: u8) -> bool {
-    (kind == 1) | ((kind == 0) & (value == 0))
+// Whether an operation is in front of the input.
+fn has_operation(input: Input) -> bool {
+    let kind = input.bytes[0];
+    let value = input.bytes[2];
+    (OPERATION <= input.have) & ((kind == 1) | ((kind == 0) & (value == 0)))
 }
 
-// The input's next operation, which goes through the buffer. At the end of the input there is none.
-fn take_operation(input: &mut [u8], have: usize) -> Operation {
-    let fed = fill_to(STDIN_FILENO, input, have, OPERATION);
+// So many bytes are used, and behind them the next operation is read, as far as the input goes.
+fn after(input: Input, used: usize) -> Input {
+    let mut bytes = input.bytes;
+    let first = bring_to_front(&mut bytes, used, input.have);
+    let fed = fill_to(STDIN_FILENO, &mut bytes, first, OPERATION);
     if fed.failed {
         os::fail(b"register_listing: standard input");
     }
-    let bytes: &[u8] = input;
-    let kind = byte_at(bytes, 0);
-    let offset = byte_at(bytes, 1);
-    let value = byte_at(bytes, 2);
-    let left = bring_to_front(input, OPERATION, fed.have);
-    Operation {
-        kind: kind,
-        offset: offset,
-        value: value,
-        whole: (OPERATION <= fed.have) & is_operation(kind, value),
-        left: left,
+    Input {
+        bytes: bytes,
+        have: fed.have,
     }
 }
 
 // A proved loop has to end, and nothing says that the input does. So it counts its turns down, from a number that no
 // run uses up.
-fn take_turns(first: Kept, input: &mut [u8], have: usize) {
+fn take_turns(first: Kept, given: Input) {
     let mut kept = first;
-    let mut operation = take_operation(input, have);
+    let mut input = given;
     let mut turns = u64::MAX;
-    while (turns > 0) & operation.whole {
-        kept = operate(kept, operation);
-        operation = take_operation(input, operation.left);
+    while (turns > 0) & has_operation(input) {
+        kept = operate(kept, input);
+        input = after(input, OPERATION);
         turns -= 1;
     }
 }
@@ -161,27 +155,30 @@ fn opened(plan: Plan) -> Kept {
     }
 }
 
-fn print_listing(input: &mut [u8], have: usize)
-    requires { ⌜ have ≤ length (now input) ⌝ }
-{
-    let read = plan_reader::read(&input[..have]);
+// The count of bytes is taken modulo the number of counts, so that it is in range.
+fn print_listing(input: Input) {
+    let bytes = input.bytes;
+    let end = input.have % COUNTS;
+    let read = plan_reader::read(&bytes[..end]);
     let outcome = read.outcome;
     match outcome {
         Outcome::Bytes(size) => {
             let plan = read.plan;
-            let left = bring_to_front(input, size, have);
-            take_turns(opened(plan), input, left);
+            take_turns(opened(plan), after(input, size));
         }
         Outcome::Refused(refusal) => print(put(put_refusal(empty_line(), refusal), 10)),
     }
 }
 
 fn main() {
-    let mut input = [0u8; INPUT_ROOM];
-    let fed = fill_plan(STDIN_FILENO, &mut input);
+    let mut bytes = [0u8; INPUT_ROOM];
+    let fed = fill_plan(STDIN_FILENO, &mut bytes);
     if fed.failed {
         os::fail(b"register_listing: standard input");
     } else {
-        print_listing(&mut input, fed.have);
+        print_listing(Input {
+            bytes: bytes,
+            have: fed.have,
+        });
     }
 }

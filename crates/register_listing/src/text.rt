@@ -38,18 +38,15 @@ pub fn put_word(line: Line, word: &[u8]) -> Line {
 
 // A space and a decimal number.
 pub fn put_number(line: Line, n: u8) -> Line {
-    let mut longer = put(line, 32);
-    if 99 < n {
-        longer = put(longer, 48 + n / 100);
-    }
-    if 9 < n {
-        longer = put(longer, 48 + n / 10 % 10);
-    }
-    put(longer, 48 + n % 10)
+    let mut digits = [0u8; 20];
+    let size = io::decimal(n as u64, &mut digits);
+    put_word(put(line, 32), &digits[..size])
 }
 
-fn hex_digit(n: u8) -> u8 {
-    if n < 10 { 48 + n } else { 87 + n % 16 }
+fn put_hex(line: Line, n: u8) -> Line {
+    let mut digits = [0u8; 16];
+    let size = io::hex(n as u64, 2, &mut digits);
+    put_word(line, &digits[..size])
 }
 
 // Two hexadecimal digits for each byte of a block.
@@ -57,8 +54,7 @@ pub fn put_block(line: Line, bytes: [u8; BLOCK]) -> Line {
     let mut longer = line;
     let mut i = 0;
     while i < BLOCK {
-        let byte = bytes[i];
-        longer = put(put(longer, hex_digit(byte / 16)), hex_digit(byte % 16));
+        longer = put_hex(longer, bytes[i]);
         i += 1;
     }
     longer
