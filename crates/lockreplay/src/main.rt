@@ -92,7 +92,7 @@ fn close(left: u16, block: &[u8], out: &mut [u8]) {
 }
 
 // The calls, as they arrive, behind the call count. A block that carries no call out is the last: no call is left, or
-// the input ended.
+// the input ended, or a read failed, which happens only where no call is whole in the block.
 fn replay_calls(begun: Begun, calls: u16, block: &mut [u8], filled: usize, out: &mut [u8]) {
     let board = begun.board;
     let mut current = begun.state;
@@ -101,12 +101,9 @@ fn replay_calls(begun: Begun, calls: u16, block: &mut [u8], filled: usize, out: 
     let mut used = COUNT_BYTES;
     loop {
         let fed = advance(block, used, have, left);
-        if fed.failed {
-            return;
-        }
         have = fed.have;
         let ran = run_block(board, current, left, &block[..have], out);
-        if ran.ended {
+        if ran.ended | fed.failed {
             return;
         }
         if ran.calls == 0 {

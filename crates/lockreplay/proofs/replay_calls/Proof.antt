@@ -17,43 +17,40 @@ abbrev μ-loop : tie.MeasureT-loop
 
 same-length : tie.Need-same-length Inv-loop μ-loop
 same-length c =
-    let fed = c .before .before .before in
+    let ran = c .before .before .before .before .before in
+    let fed = ran .before .before .before .before .before in
     fed .advance .kept .0 ∙ fed .before .before .loop .inv .0
 
-same-length-3 : tie.Need-same-length-3 Inv-loop μ-loop
-same-length-3 c =
-    let fed = c .before .before .before .before .before .before .before .before .before in
-    fed .advance .kept .0 ∙ fed .before .before .loop .inv .0
-
-same-length-4 : tie.Need-same-length-4 Inv-loop μ-loop
-same-length-4 c =
-    let ran = c .before .before .before in
-    let loop = ran .before .before .before .before .before .before .before .before in
+same-length-2 : tie.Need-same-length-2 Inv-loop μ-loop
+same-length-2 c =
+    let ran = c .before .before .before .before .before in
+    let loop = ran .before .before .before .before .before .before .before in
     ran .run-block .kept .1 .1 .1 .1 .0 ∙ loop .loop .inv .1
 
 loop-less : tie.Need-loop-less Inv-loop μ-loop
 loop-less c =
     let some = c .before .before .before in
-    let ran = some .before .before .before .before .before in
-    omega (arith, ran .run-block .ensures, some .if3 .left)
+    let ran = some .before .before .before .before .before .before .before in
+    omega (arith, ran .run-block .ensures, some .if2 .left)
 
 loop-again : tie.Need-loop-again Inv-loop μ-loop
 loop-again c =
-    let ran = c .before .before .before .before .before .before .before .before in
-    let fed = ran .before .before .before .before .before .before in
+    let ran = c .before .before .before .before .before .before .before .before .before .before in
+    let fed = ran .before .before .before .before .before in
     let loop = fed .before .before in
     (fed .advance .kept .0 ∙ loop .loop .inv .0, ran .run-block .kept .1 .1 .1 .1 .0 ∙ loop .loop .inv .1)
 
-same-length-5 : tie.Need-same-length-5 Inv-loop μ-loop
-same-length-5 c =
-    let fed = c .before .before .before .before .before .before .before .before .before .before .before .before .before .before .before .before in
+same-length-3 : tie.Need-same-length-3 Inv-loop μ-loop
+same-length-3 c =
+    let ran = c .before .before .before .before .before .before .before .before .before .before .before .before in
+    let fed = ran .before .before .before .before .before in
     fed .advance .kept .0 ∙ fed .before .before .loop .inv .0
 
-same-length-6 : tie.Need-same-length-6 Inv-loop μ-loop
-same-length-6 c =
+same-length-4 : tie.Need-same-length-4 Inv-loop μ-loop
+same-length-4 c =
     let closed = c .before .before in
-    let ran = closed .before .before .before .before .before .before .before .before in
-    let loop = ran .before .before .before .before .before .before .before .before in
+    let ran = closed .before .before .before .before .before .before .before .before .before .before in
+    let loop = ran .before .before .before .before .before .before .before in
     closed .close .kept .1 .1 .0 ∙ ran .run-block .kept .1 .1 .1 .1 .0 ∙ loop .loop .inv .1
 
 pub replay-calls-spec : {M : Type 1} → statement M
@@ -64,23 +61,20 @@ replay-calls-spec =
     μ-loop
     (λ c. (refl, refl))
     (λ c κs. tt)
-    same-length
-    (λ c. c .before .before .before .before .before .loop .inv .1)
-    (λ c. tt)
-    (λ c. c .before .before .before .advance .ensures)
-    (λ c. sym (length-take-le _ _ (c .before .before .before .before .advance .ensures)))
+    (λ c. c .before .before .advance .ensures)
+    (λ c. sym (length-take-le _ _ (c .before .before .before .advance .ensures)))
     (λ c κs. tt)
-    same-length-3
-    same-length-4
+    same-length
+    same-length-2
     (λ c. tt)
-    (λ c. c .before .before .before .before .before .before .before .run-block .ensures)
+    (λ c. c .before .before .before .before .before .before .before .before .before .run-block .ensures)
     (λ c. search needs)
     (λ c. search needs)
     loop-less
     loop-again
-    (λ c. c .before .before .before .before .before .before .before .before .before .before .before .advance .ensures)
-    (λ c. sym (length-take-le _ _ (c .before .before .before .before .before .before .before .before .before .before .before .before .advance .ensures)))
+    (λ c. c .before .before .before .before .before .before .before .before .before .before .before .before .advance .ensures)
+    (λ c. sym (length-take-le _ _ (c .before .before .before .before .before .before .before .before .before .before .before .before .before .advance .ensures)))
     (λ c κs. tt)
-    same-length-5
-    same-length-6
+    same-length-3
+    same-length-4
     (λ c. tt))
