@@ -2,9 +2,7 @@
 use crate::board::plan;
 use encoding::Outcome;
 use plans::Entry;
-ghost use mathlib.Core.Path.{_≡_};
-ghost use Prim.Native.Nat.{_<_, _≤_};
-ghost use lib.ListN.{length};
+ghost use Prim.Native.Nat.{_<_};
 
 fn taken(outcome: Outcome) -> u64 {
     match outcome {
@@ -18,8 +16,8 @@ fn mixed(sum: u64, taken: u64, entry: Entry) -> u64 {
 }
 
 // The turns over the bytes of a plan, and the checksum of what was read.
-fn sum_over(bytes: &mut [u8], turns: u64) -> u64
-    requires { ⌜ (length (now bytes) ≡ 707) × (turns < 1000000000) ⌝ }
+fn sum_over(bytes: &mut [u8; 707], turns: u64) -> u64
+    requires { ⌜ turns < 1000000000 ⌝ }
 {
     let mut sum: u64 = 0;
     let mut turn: u64 = 0;
