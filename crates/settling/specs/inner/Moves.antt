@@ -1,4 +1,4 @@
--- Processors in masks, as the functions of settling go by them.
+-- Processors in masks, as the functions that settle and that find waits go by them.
 use Prim.Native.Nat.{ℕ, _<_, _^_}
 use mathlib.Core.Path.{_≡_}
 use mathlib.Core.List.{List}
