@@ -130,14 +130,17 @@ static uint8_t *buffer_of(size_t size)
     return size == 0 ? NULL : of_buffer.end - size;
 }
 
+/* Whether all bytes between two places are 170: the first is, and each is as the one before it. */
+static int all_filled(const uint8_t *from, const uint8_t *to)
+{
+    return from == to || (*from == FILL && memcmp(from, from + 1, (size_t)(to - from - 1)) == 0);
+}
+
 /* Whether all bytes of the buffers' region are 170 but the first so many of a buffer. */
 static int kept_but(size_t size, size_t written)
 {
-    uint8_t *from = of_buffer.end - size;
-    for (uint8_t *byte = of_buffer.start; byte < of_buffer.end; byte++)
-        if (*byte != FILL && !(byte >= from && byte < from + written))
-            return 0;
-    return 1;
+    uint8_t *from = of_buffer.end - size, *behind = written < size ? from + written : of_buffer.end;
+    return all_filled(of_buffer.start, from) && all_filled(behind, of_buffer.end);
 }
 
 static size_t scratch_room(void)
@@ -173,9 +176,12 @@ static struct bittmelon_answer waits(uint8_t processor)
 {
     before = *board;
     struct bittmelon_answer answer = bittmelon_waits(board, processor);
+    enum phase phase[32];
+    model_phases(board, phase);
     check(WAITS, answer.refusal, answer.value == 0);
     expect(answer.refusal == due_for(processor), WAITS, "another refusal than the model's");
-    expect(answer.refusal || answer.value == model_waits(board, processor), WAITS, "other waits than the model's");
+    expect(answer.refusal || answer.value == model_waits(board, phase, processor), WAITS,
+        "other waits than the model's");
     return answer;
 }
 
@@ -192,7 +198,8 @@ static struct bittmelon_answer reach(uint8_t processor, size_t size)
         uint32_t reaches[32];
         model_reaches(board, reaches);
         expect(answer.value == reaches[processor], REACH, "another reach than the model's");
-        expect(memcmp(of_buffer.end - size, words, model_words(board, words)) == 0, REACH, "other words than the model's");
+        size_t bytes = model_words(board, reaches, words);
+        expect(memcmp(of_buffer.end - size, words, bytes) == 0, REACH, "other words than the model's");
     }
     return answer;
 }

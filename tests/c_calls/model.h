@@ -69,6 +69,8 @@ static int model_behind(const struct bittmelon_board *b, const enum phase phase[
 static enum phase model_step(const struct bittmelon_board *b, const enum phase phase[32], unsigned p, int step)
 {
     enum phase is = phase[p];
+    if (is == IDLE || is == HOLDING) /* no step moves these */
+        return is;
     int write = model_writes(b, p), by_holding = model_meets(b, phase, p, HOLDING, 1);
     int by_entitled = model_meets(b, phase, p, ENTITLED, 1);
     switch (step) {
@@ -157,12 +159,10 @@ static struct bittmelon_reply model_call(struct bittmelon_board *b, unsigned ver
     return reply;
 }
 
-/* Clause 7.2. */
-static uint32_t model_waits(const struct bittmelon_board *b, unsigned p)
+/* Clause 7.2, with the phases of all. */
+static uint32_t model_waits(const struct bittmelon_board *b, const enum phase phase[32], unsigned p)
 {
-    enum phase phase[32];
     uint32_t mask = 0;
-    model_phases(b, phase);
     for (unsigned q = 0; q < 32; q++) {
         int for_it = phase[p] == ENTITLED ? phase[q] == HOLDING && model_writes(b, q) != model_writes(b, p)
             : phase[p] != WAITING ? 0
@@ -176,8 +176,10 @@ static uint32_t model_waits(const struct bittmelon_board *b, unsigned p)
 /* Clause 7.3: of every processor, those to which a chain leads. */
 static void model_reaches(const struct bittmelon_board *b, uint32_t reach[32])
 {
+    enum phase phase[32];
+    model_phases(b, phase);
     for (unsigned p = 0; p < 32; p++)
-        reach[p] = model_waits(b, p);
+        reach[p] = model_waits(b, phase, p);
     for (int again = 1; again;) {
         again = 0;
         for (unsigned p = 0; p < 32; p++)
@@ -198,13 +200,11 @@ static uint8_t *model_put(uint8_t *at, uint64_t number, int size)
     return at;
 }
 
-/* Clause 7.4: the words of a scratch; how many bytes they are. */
-static size_t model_words(const struct bittmelon_board *b, uint8_t bytes[128])
+/* Clause 7.4: the words of a scratch, from the reach of all; how many bytes they are. */
+static size_t model_words(const struct bittmelon_board *b, const uint32_t reach[32], uint8_t bytes[128])
 {
     int size = b->processors <= 16 ? 2 : 4;
-    uint32_t reach[32];
     uint8_t *at = bytes;
-    model_reaches(b, reach);
     for (int p = 0; p < 8 * size; p++)
         at = model_put(at, reach[p], size);
     return (size_t)(at - bytes);
@@ -223,7 +223,7 @@ static size_t model_list(const struct bittmelon_board *b, uint8_t bytes[321])
         at = model_put(at, phase[p], 1);
         at = model_put(at, phase[p] == IDLE ? 255 : b->entry[p], 1);
         at = model_put(at, waited < 4294967295 ? waited : 4294967295, 4);
-        at = model_put(at, model_waits(b, p), b->processors <= 16 ? 2 : 4);
+        at = model_put(at, model_waits(b, phase, p), b->processors <= 16 ? 2 : 4);
     }
     return (size_t)(at - bytes);
 }
