@@ -19,9 +19,9 @@ pub fn four_steps(
     entry: &[u8; SLOTS],
     earlier: &[u32; SLOTS],
     known: u32,
-    waiting: u32,
-    entitled: u32,
-    holding: u32,
+    mut waiting: u32,
+    mut entitled: u32,
+    mut holding: u32,
 ) -> Phases
     requires { ⌜ (known ≡ knownIn (now entry)) × Table (now rows) ⌝ }
     ensures { λ r. ⌜ ((ph : Phases) → Follows ph waiting entitled holding
@@ -34,19 +34,19 @@ pub fn four_steps(
     let ahead = unopposed(rows, entry, waiting & r, entitled & w);
     let free = unopposed(rows, entry, (entitled & r) | ahead, holding & w);
     let reads = ((waiting | entitled) & !known) | free;
-    let waiting = waiting & !reads;
-    let entitled = entitled & !reads;
-    let holding = holding | reads;
+    waiting = waiting & !reads;
+    entitled = entitled & !reads;
+    holding = holding | reads;
     // Step 2 (5.4): waiting writes that no holding write, entitled read or earlier write in line is against.
     let clear = unopposed(rows, entry, waiting & w, (holding & w) | (entitled & r));
     let next = first_in_line(rows, entry, earlier, clear, (waiting | entitled) & w);
-    let waiting = waiting & !next;
-    let entitled = entitled | next;
+    waiting = waiting & !next;
+    entitled = entitled | next;
     // Step 3 (5.5): entitled writes that no holding read is against.
     let granted = unopposed(rows, entry, entitled & w, holding & r);
-    let waiting = waiting & !granted;
-    let entitled = entitled & !granted;
-    let holding = holding | granted;
+    waiting = waiting & !granted;
+    entitled = entitled & !granted;
+    holding = holding | granted;
     // Step 4 (5.6): waiting reads that a holding write is against, and no entitled one.
     let clear = unopposed(rows, entry, waiting & r, holding & w);
     let behind = unopposed(rows, entry, waiting & r & !clear, entitled & w);
