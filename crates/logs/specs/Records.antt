@@ -1,6 +1,5 @@
 -- What stands in a log behind its plan, and when it is refused: 1, 2 and 9. Specification, section 9.
 use Prim.Native.Nat.{ℕ}
-use mathlib.Core.Bool.{cond}
 use mathlib.Core.List.{List}
 use lib.Dec.{eqb}
 use lib.ListN.{length, getD, take}
@@ -10,7 +9,7 @@ use Rattle.refusals.specs.Due.{Said, due, firstOf, said}
 use Rattle.encoding.specs.Numbers.{number}
 use Rattle.encoding.specs.Buffers.{shortFault}
 use Rattle.calls.specs.Calls.{Fields}
-use Rattle.record_calls.specs.Verbs.{Recorded, noFields, verbFault}
+use Rattle.record_calls.specs.Verbs.{Recorded, recordDue, verbFault}
 use Rattle.logs.specs.declared.CountAnswer.{CountAnswer}
 
 -- Clauses 9.1 and 9.2: the bytes of the number of calls, and those of a call.
@@ -40,7 +39,7 @@ recordFault s = firstOf (shortFault recordSize s) (verbFault (fieldsIn s))
 
 -- A call's record at the start of the bytes s.
 unfoldable pub readRecord : List ℕ → Recorded
-readRecord s = record { number = recordFault s; fields = cond (eqb (recordFault s) 0) (fieldsIn s) noFields }
+readRecord s = recordDue (recordFault s) (fieldsIn s)
 
 -- Clause 9.5: 2 where bytes stand behind the last call.
 abbrev pub tailFault : List ℕ → ℕ

@@ -23,10 +23,14 @@ pub record Recorded : Type 0 where
 abbrev pub noFields : Fields
 noFields = record { verb = 0; processor = 0; entry = 0; tick = 0 }
 
+-- What is due, and the fields where nothing is.
+abbrev pub recordDue : ℕ → Fields → Recorded
+recordDue n f = record { number = n; fields = cond (eqb n 0) f noFields }
+
 abbrev pub recordSays : RecordAnswer → Recorded
 recordSays (RecordAnswer.Is c) = record { number = 0; fields = callSays c }
 recordSays (RecordAnswer.Refused r) = record { number = numberOf r; fields = noFields }
 
 -- Clause 9.3: what some fields say.
 abbrev pub recorded : Fields → Recorded
-recorded f = record { number = verbFault f; fields = cond (eqb (verbFault f) 0) f noFields }
+recorded f = recordDue (verbFault f) f
