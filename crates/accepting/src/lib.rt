@@ -2,7 +2,7 @@
 // Specification, clauses 4.6 to 4.8.
 use ages::stamp;
 use effects::Carried;
-use masks::without32;
+use masks32::without32;
 use plans::SLOTS;
 use settling::Phases;
 ghost use mathlib.Core.Path.{_≡_};

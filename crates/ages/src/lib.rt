@@ -1,7 +1,7 @@
 // What a state keeps of each processor's request beside its phase: who is earlier, and since when it holds or waits.
 // Specification, clauses 4.2 and 4.8. A processor that a state has no place for changes nothing.
 use known_requests::ALL;
-use masks::remove32;
+use masks32::remove32;
 use plans::SLOTS;
 use settling::Phases;
 ghost use mathlib.Core.Path.{_≡_};

@@ -2,7 +2,7 @@
 // Specification, clauses 3.3 and 4.3.
 use acceptance::check;
 use conflicts::conflicts_of;
-use masks::add64;
+use masks64::add64;
 use plans::ENTRIES;
 use plans::Entry;
 use plans::Plan;

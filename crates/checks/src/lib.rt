@@ -4,7 +4,7 @@ use conditions::is_active;
 use conditions::is_counted;
 use conditions::is_in_time;
 use conditions::is_unsatisfied;
-use masks::has32;
+use masks32::has32;
 use refusals::Refusal;
 use refusals::Verdict;
 use refusals::refuse_unless;

@@ -1,6 +1,6 @@
 // What the refusals of a call go by: is the tick in time, is the processor on the board, is its request unsatisfied or
 // active. The phases are of the requests that count. Specification, clause 4.5.
-use masks::has32;
+use masks32::has32;
 use plans::SLOTS;
 use settling::Phases;
 use states::Terms;

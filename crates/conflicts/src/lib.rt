@@ -1,5 +1,5 @@
 // Which entries of a plan conflict: worked out once for all pairs of entries, and read by settling.
-use masks::add64;
+use masks64::add64;
 use plans::ENTRIES;
 use plans::Entry;
 use plans::Plan;

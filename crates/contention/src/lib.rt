@@ -1,6 +1,6 @@
 // Which resource two entries of a board fight over: what an integrator asks who sees that they conflict. Nothing is
 // changed.
-use masks::has64;
+use masks64::has64;
 use plans::ENTRIES;
 use refusals::Refusal;
 use sharing::Conflict;

@@ -1,6 +1,6 @@
 // Facing: the processors that one waits for if their requests conflict with its own, by masks of the phases and of the
 // writes. The direct waits use it. Specification, clause 7.2.
-use masks::has32;
+use masks32::has32;
 use settling::Phases;
 ghost use mathlib.Core.Path.{_≡_};
 ghost use mathlib.Core.Bool.{cond};

@@ -2,7 +2,7 @@
 // entries that an entry conflicts with (specification, clause 5.7). Every walk goes through the processors of a mask
 // and takes their entries modulo the number of rows: it compares none with anything. Settling and the direct waits use
 // it, for processors whose entries are below that number.
-use masks::meet64;
+use masks64::meet64;
 use plans::ENTRIES;
 use plans::SLOTS;
 ghost use mathlib.Core.Path.{_≡_};

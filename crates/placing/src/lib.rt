@@ -2,7 +2,7 @@
 // processor that a state has no place for changes nothing.
 use ages::all_but;
 use known_requests::ALL;
-use masks::add32;
+use masks32::add32;
 use plans::ENTRIES;
 use plans::SLOTS;
 use settlement::settle;

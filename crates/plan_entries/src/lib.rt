@@ -1,6 +1,6 @@
 // One entry of a plan: whether it is taken, and by which number it is refused: 6, 7 and 8. Specification, clauses 2.6,
 // 2.7 and 2.9.
-use masks::below64;
+use masks64::below64;
 use plans::Entry;
 use plans::is_read;
 use plans::is_write;

@@ -1,6 +1,6 @@
 // What a viewer asks of a state: who holds and who waits, here; for whom, in `wait_queries`; the whole board at once,
 // in `board_queries`. The definitions of single queries stand here. Nothing is changed.
-use masks::has32;
+use masks32::has32;
 use plans::SLOTS;
 use refusals::Refusal;
 use refusals::Verdict;

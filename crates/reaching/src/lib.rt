@@ -1,7 +1,7 @@
 // Reach in rows: row p is the mask of all that processor p reaches. The queries use it. Specification, clause 7.3.
 use facing::join_if;
 use listing_sizes::listed;
-use masks::has32;
+use masks32::has32;
 use plans::SLOTS;
 ghost use mathlib.Core.Path.{_≡_};
 ghost use Prim.Native.Nat.{_<_};

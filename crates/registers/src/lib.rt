@@ -2,7 +2,7 @@
 // a read gives is defined here too, and `register_reads` has the functions. Writes are in the crates `register_stores`
 // and `commands`.
 use encoding::read_number;
-use masks::meet64;
+use masks64::meet64;
 use refusals::Refusal;
 ghost use mathlib.Core.Path.{_≡_};
 ghost use Prim.Native.Nat.{_^_, _<_};

@@ -2,7 +2,7 @@
 use crate::Terms;
 use known_requests::ALL;
 use known_requests::entries_below;
-use masks::without32;
+use masks32::without32;
 use plans::SLOTS;
 use settling::Phases;
 ghost use mathlib.Core.Path.{_≡_};

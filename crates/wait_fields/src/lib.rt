@@ -1,6 +1,6 @@
 // The fields of the wait listing: the state of a processor by number, the entry that is shown of it, and the ticks that
 // it has waited. Specification, clauses 7.1 and 7.8.
-use masks::has32;
+use masks32::has32;
 use settling::Phases;
 ghost use mathlib.Core.Path.{_≡_};
 ghost use mathlib.Core.Bool.{cond};

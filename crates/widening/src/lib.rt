@@ -1,6 +1,6 @@
 // Widened sets: what a write holds against other writes, its names and those of the reads that share a resource with
 // it. Specification, clause 3.1.
-use masks::meet64;
+use masks64::meet64;
 use plans::Entry;
 use plans::Plan;
 use plans::counted_of;

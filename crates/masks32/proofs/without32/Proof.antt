@@ -1,7 +1,7 @@
 -- `without32` meets its contract: what it returns is the definition itself. Assumes nothing.
 use borrow.Author.Needs.{needs}
-use Rattle.masks.proofs.without32.Statement.{statement}
-use Rattle.masks.proofs.without32.Tie as tie
+use Rattle.masks32.proofs.without32.Statement.{statement}
+use Rattle.masks32.proofs.without32.Tie as tie
 
 returns : tie.Need-returns
 returns c = search needs

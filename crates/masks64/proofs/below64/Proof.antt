@@ -1,9 +1,8 @@
--- `masks::below64` meets its contract, by the laws of shifts at 64 bits.
--- Assumes nothing.
+-- `below64` meets its contract, by the laws of shifts at 64 bits. Assumes nothing.
 use Rattle.masks.proofs.Shifts.{none-past, all-below}
 use borrow.Author.Needs.{needs}
-use Rattle.masks.proofs.below64.Statement.{statement}
-use Rattle.masks.proofs.below64.Tie as tie
+use Rattle.masks64.proofs.below64.Statement.{statement}
+use Rattle.masks64.proofs.below64.Tie as tie
 
 shr-result : tie.Need-shr-result
 shr-result c = search needs

@@ -1,7 +1,7 @@
 -- `meet64` meets its contract: what it returns is the definition itself. Assumes nothing.
 use borrow.Author.Needs.{needs}
-use Rattle.masks.proofs.meet64.Statement.{statement}
-use Rattle.masks.proofs.meet64.Tie as tie
+use Rattle.masks64.proofs.meet64.Statement.{statement}
+use Rattle.masks64.proofs.meet64.Tie as tie
 
 returns : tie.Need-returns
 returns c = search needs

@@ -1,10 +1,9 @@
--- `masks::add64` meets its contract, by the law of shifts at 64 bits.
--- Assumes nothing.
+-- `add64` meets its contract, by the law of shifts at 64 bits. Assumes nothing.
 use Rattle.masks.specs.Sets.{added}
 use Rattle.masks.proofs.Shifts.{adds, leaves}
 use borrow.Author.Needs.{needs}
-use Rattle.masks.proofs.add64.Statement.{statement}
-use Rattle.masks.proofs.add64.Tie as tie
+use Rattle.masks64.proofs.add64.Statement.{statement}
+use Rattle.masks64.proofs.add64.Tie as tie
 
 shl-result : tie.Need-shl-result
 shl-result c = search needs

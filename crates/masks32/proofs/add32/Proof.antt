@@ -1,10 +1,9 @@
--- `masks::add32` meets its contract, by the law of shifts at 32 bits.
--- Assumes nothing.
+-- `add32` meets its contract, by the law of shifts at 32 bits. Assumes nothing.
 use Rattle.masks.specs.Sets.{added}
 use Rattle.masks.proofs.Shifts.{adds, leaves}
 use borrow.Author.Needs.{needs}
-use Rattle.masks.proofs.add32.Statement.{statement}
-use Rattle.masks.proofs.add32.Tie as tie
+use Rattle.masks32.proofs.add32.Statement.{statement}
+use Rattle.masks32.proofs.add32.Tie as tie
 
 shl-result : tie.Need-shl-result
 shl-result c = search needs

@@ -1,11 +1,11 @@
--- `masks::has32` meets its contract: below 32 the test is the definition, and past it no set of 32 places has the
+-- `has32` meets its contract: below 32 the test is the definition, and past it no set of 32 places has the
 -- place. Assumes nothing.
 use mathlib.Core.Path.{refl, sym}
 use Rattle.masks.specs.Sets.{bit}
 use Rattle.masks.proofs.Places.{bit-past}
 use borrow.Author.Needs.{needs}
-use Rattle.masks.proofs.has32.Statement.{statement}
-use Rattle.masks.proofs.has32.Tie as tie
+use Rattle.masks32.proofs.has32.Statement.{statement}
+use Rattle.masks32.proofs.has32.Tie as tie
 
 shr-result : tie.Need-shr-result
 shr-result c = search needs

@@ -1,10 +1,9 @@
--- `masks::remove32` meets its contract, by the law of shifts at 32 bits.
--- Assumes nothing.
+-- `remove32` meets its contract, by the law of shifts at 32 bits. Assumes nothing.
 use Rattle.masks.specs.Sets.{removed}
 use Rattle.masks.proofs.Shifts.{removes, leaves}
 use borrow.Author.Needs.{needs}
-use Rattle.masks.proofs.remove32.Statement.{statement}
-use Rattle.masks.proofs.remove32.Tie as tie
+use Rattle.masks32.proofs.remove32.Statement.{statement}
+use Rattle.masks32.proofs.remove32.Tie as tie
 
 shl-result : tie.Need-shl-result
 shl-result c = search needs
