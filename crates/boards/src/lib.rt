@@ -2,12 +2,12 @@
 // Specification, clauses 3.3 and 4.3.
 use acceptance::check;
 use conflicts::conflicts_of;
+use entry_kinds::is_write;
 use masks64::add64;
 use plans::ENTRIES;
 use plans::Entry;
 use plans::Plan;
 use plans::SLOTS;
-use plans::is_write;
 use refusals::Verdict;
 use settling::Phases;
 use states::Board;

@@ -5,7 +5,7 @@ use encoding::Outcome;
 use mask_fields::put_masks;
 use number_fields::put_last;
 use number_fields::put_lead;
-use plans::mask_size;
+use plan_sizes::mask_size;
 use refusals::Refusal;
 ghost use mathlib.Core.Path.{_≡_};
 ghost use lib.ListN.{length};

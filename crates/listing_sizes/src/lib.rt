@@ -1,7 +1,7 @@
 // The size of the wait listing: which processors are listed, and how many bytes that takes. Specification, clauses 4.10
 // and 7.7.
+use plan_sizes::mask_size;
 use plans::SLOTS;
-use plans::mask_size;
 ghost use mathlib.Core.Path.{_≡_};
 ghost use Rattle.plans.specs.Entries.{maskSizeFor};
 ghost use Rattle.listing_sizes.specs.Sizes.{listedOf, listSize};

@@ -1,6 +1,6 @@
 // The two masks of a call's line in hexadecimal digits, stored in a lent buffer where they fit.
 use digits::pair_at;
-use plans::mask_size;
+use plan_sizes::mask_size;
 use room::has_room;
 ghost use mathlib.Core.Path.{_≡_};
 ghost use Prim.Native.Nat.{_+_, _*_, _≤_};

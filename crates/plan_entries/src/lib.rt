@@ -1,9 +1,9 @@
 // One entry of a plan: whether it is taken, and by which number it is refused: 6, 7 and 8. Specification, clauses 2.6,
 // 2.7 and 2.9.
+use entry_kinds::is_read;
+use entry_kinds::is_write;
 use masks64::below64;
 use plans::Entry;
-use plans::is_read;
-use plans::is_write;
 use refusals::Refusal;
 use refusals::Verdict;
 use refusals::first_of;

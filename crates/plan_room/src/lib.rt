@@ -1,7 +1,7 @@
 // Whether a plan can be written at a position of a lent buffer: a value that the reader would take, with room for its
 // bytes. Specification, clauses 2.12 and 8.2.
+use plan_sizes::plan_size;
 use plans::Plan;
-use plans::plan_size;
 use refusals::Verdict;
 use refusals::first_of;
 use room::check_room;

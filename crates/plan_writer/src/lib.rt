@@ -2,12 +2,12 @@
 use encoding::Outcome;
 use entry_writer::write_entry;
 use plan_room::check_writing;
+use plan_sizes::plan_size;
 use plans::ENTRIES;
 use plans::ENTRY_BYTES;
 use plans::Entry;
 use plans::HEAD_BYTES;
 use plans::Plan;
-use plans::plan_size;
 use refusals::Verdict;
 ghost use mathlib.Core.Path.{_≡_};
 ghost use Prim.Native.Nat.{_+_, _*_, _≤_};

@@ -1,16 +1,8 @@
 // Plan values: three counts and up to 64 entries, by value, so that a caller can make any of them.
 // `acceptance` says which values are taken, `figures` works out the two figures of a plan, and `plan_reader` and
-// `plan_writer` carry plans from and to bytes; the definitions of all of that stand here.
+// `plan_writer` carry plans from and to bytes; the definitions of all of that stand here. The functions that several
+// of these call are in `entry_kinds` and `plan_sizes`.
 use encoding::Outcome;
-
-mod shape;
-
-// How many entries of a plan value count: for loops over them.
-pub use shape::counted_of;
-pub use shape::is_read;
-pub use shape::is_write;
-pub use shape::mask_size;
-pub use shape::plan_size;
 
 // The most processors of a plan: so many requests a state holds.
 pub const SLOTS: usize = 32;

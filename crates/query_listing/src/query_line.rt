@@ -5,7 +5,7 @@ use crate::text::put;
 use crate::text::put_decimal;
 use crate::text::put_hex;
 use crate::text::put_word;
-use plans::mask_size;
+use plan_sizes::mask_size;
 use queries::MaskAnswer;
 use queries::PhaseAnswer;
 use queries::phase_number;

@@ -1,8 +1,8 @@
 // Rows, one mask for each processor, as the words of a scratch. The reach of a processor leaves all rows there.
 // Specification, clause 7.4.
 use encoding::Outcome;
+use plan_sizes::mask_size;
 use plans::SLOTS;
-use plans::mask_size;
 use refusals::Refusal;
 use room::has_room;
 use storing::write_number;

@@ -1,8 +1,8 @@
 // What two entries conflict over: the lowest-numbered resource that they share, and how many. `conflicts` asks it of
 // all pairs of a plan, and `contention` of two entries of a board. Specification, clauses 3.2 and 3.4.
+use entry_kinds::is_read;
+use entry_kinds::is_write;
 use plans::Entry;
-use plans::is_read;
-use plans::is_write;
 ghost use mathlib.Core.Path.{_≡_};
 ghost use mathlib.Core.Bool.{_&&_};
 ghost use lib.Bits.{bitAnd};

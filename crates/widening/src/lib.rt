@@ -1,11 +1,11 @@
 // Widened sets: what a write holds against other writes, its names and those of the reads that share a resource with
 // it. Specification, clause 3.1.
+use entry_kinds::counted_of;
+use entry_kinds::is_read;
+use entry_kinds::is_write;
 use masks64::meet64;
 use plans::Entry;
 use plans::Plan;
-use plans::counted_of;
-use plans::is_read;
-use plans::is_write;
 ghost use mathlib.Core.Path.{_≡_};
 ghost use mathlib.Core.Bool.{cond, _&&_};
 ghost use Rattle.masks.specs.Sets.{meets};

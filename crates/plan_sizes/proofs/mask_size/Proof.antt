@@ -1,8 +1,8 @@
 -- `mask_size` meets its contract. Assumes nothing.
 use native.Mathlib.Omega.{arith}
 use borrow.Author.Tests.{le-leb, lt-leb}
-use Rattle.plans.proofs.shape.mask_size.Statement.{statement}
-use Rattle.plans.proofs.shape.mask_size.Tie as tie
+use Rattle.plan_sizes.proofs.mask_size.Statement.{statement}
+use Rattle.plan_sizes.proofs.mask_size.Tie as tie
 
 returns : tie.Need-returns
 returns c = rw (le-leb (c .before .args .processors) 16 (omega (arith, c .if1 .taken)))

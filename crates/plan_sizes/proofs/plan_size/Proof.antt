@@ -1,7 +1,7 @@
 -- `plan_size` meets its contract: what it returns is the definition itself. Assumes nothing.
 use borrow.Author.Needs.{needs}
-use Rattle.plans.proofs.shape.plan_size.Statement.{statement}
-use Rattle.plans.proofs.shape.plan_size.Tie as tie
+use Rattle.plan_sizes.proofs.plan_size.Statement.{statement}
+use Rattle.plan_sizes.proofs.plan_size.Tie as tie
 
 returns : tie.Need-returns
 returns c = search needs

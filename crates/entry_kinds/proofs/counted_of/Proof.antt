@@ -1,7 +1,7 @@
 -- `counted_of` meets its contract: what it returns is the definition itself. Assumes nothing.
 use borrow.Author.Needs.{needs}
-use Rattle.plans.proofs.shape.counted_of.Statement.{statement}
-use Rattle.plans.proofs.shape.counted_of.Tie as tie
+use Rattle.entry_kinds.proofs.counted_of.Statement.{statement}
+use Rattle.entry_kinds.proofs.counted_of.Tie as tie
 
 returns : tie.Need-returns
 returns c = search needs

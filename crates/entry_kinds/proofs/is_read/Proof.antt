@@ -1,7 +1,7 @@
 -- `is_read` meets its contract: what it returns is the definition itself. Assumes nothing.
 use borrow.Author.Needs.{needs}
-use Rattle.plans.proofs.shape.is_read.Statement.{statement}
-use Rattle.plans.proofs.shape.is_read.Tie as tie
+use Rattle.entry_kinds.proofs.is_read.Statement.{statement}
+use Rattle.entry_kinds.proofs.is_read.Tie as tie
 
 returns : tie.Need-returns
 returns c = search needs
