@@ -1,7 +1,7 @@
 // What stands around the records of a log: the number of calls before them, and nothing behind the last (specification,
 // section 9). `logs` has the records. Each function looks only at the bytes from its place on.
-use encoding::read_number;
 use logs::CountAnswer;
+use number_reads::read_number;
 use refusals::Refusal;
 use refusals::Verdict;
 ghost use mathlib.Core.Path.{_≡_};

@@ -1,6 +1,5 @@
 pub mod Bytes
 pub mod Numbers
-pub mod Top
 pub mod Stores
 pub mod Room
 pub mod Outcomes

@@ -1,5 +1,5 @@
 // The next entry of a plan in bytes: read, and checked as it is met. Specification, clauses 2.6 and 2.9.
-use encoding::read_number;
+use number_reads::read_number;
 use plan_entries::check_entry;
 use plans::ENTRY_BYTES;
 use plans::Entry;

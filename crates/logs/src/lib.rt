@@ -1,7 +1,7 @@
 // A call's record in a log: its 8 bytes (specification, section 9). `call_counts` has the call count before the records
 // and the end behind them, which are defined here too. `lockreplay` reads a log record by record, so each function
 // looks only at the bytes from its record on.
-use encoding::read_number;
+use number_reads::read_number;
 use record_calls::RecordAnswer;
 use record_calls::call_by;
 use refusals::Refusal;

@@ -1,7 +1,7 @@
 // The head of a plan in bytes: its three counts, each due before it is checked. Specification, clauses 2.2 to 2.5 and
 // 2.9.
-use encoding::byte_at;
-use encoding::check_due;
+use byte_reads::byte_at;
+use byte_reads::check_due;
 use plan_counts::check_entry_count;
 use plan_counts::check_processors;
 use plan_counts::check_resources;

@@ -1,5 +1,5 @@
 // Which register stands at an offset of a block, and what a read of it gives. Specification, clauses 10.2 and 10.4.
-use encoding::byte_at;
+use byte_reads::byte_at;
 use refusals::Refusal;
 use registers::Block;
 use registers::ReadAnswer;

@@ -1,5 +1,5 @@
 // What a write that is no command leaves in a register block. Specification, clause 10.6.
-use encoding::byte_at;
+use byte_reads::byte_at;
 use register_reads::register_at;
 use registers::BLOCK;
 use registers::Block;

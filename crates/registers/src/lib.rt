@@ -1,8 +1,8 @@
 // The register block of the arbiter: 32 bytes, and the numbers and the line in them. What stands at which offset and what
 // a read gives is defined here too, and `register_reads` has the functions. Writes are in the crates `register_stores`
 // and `commands`.
-use encoding::read_number;
 use masks64::meet64;
+use number_reads::read_number;
 use refusals::Refusal;
 ghost use mathlib.Core.Path.{_≡_};
 ghost use Prim.Native.Nat.{_^_, _<_};

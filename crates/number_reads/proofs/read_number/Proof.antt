@@ -3,9 +3,9 @@
 use Prim.Native.Nat.{_-_}
 use native.Mathlib.Omega.{arith}
 use borrow.Author.Needs.{needs}
-use Rattle.encoding.proofs.Top.{IsTop, at-most-seven, no-byte, one-byte-more, all-bytes}
-use Rattle.encoding.proofs.read_number.Statement.{statement}
-use Rattle.encoding.proofs.read_number.Tie as tie
+use Rattle.number_reads.proofs.Top.{IsTop, at-most-seven, no-byte, one-byte-more, all-bytes}
+use Rattle.number_reads.proofs.read_number.Statement.{statement}
+use Rattle.number_reads.proofs.read_number.Tie as tie
 
 abbrev Inv-loop : tie.InvT-loop
 Inv-loop bytes size sum₀ done₀ sum done = IsTop bytes done sum

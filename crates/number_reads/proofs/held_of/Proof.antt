@@ -1,7 +1,7 @@
 -- `held_of` meets its contract: what it returns is the definition itself. Assumes nothing.
 use borrow.Author.Needs.{needs}
-use Rattle.encoding.proofs.held_of.Statement.{statement}
-use Rattle.encoding.proofs.held_of.Tie as tie
+use Rattle.number_reads.proofs.held_of.Statement.{statement}
+use Rattle.number_reads.proofs.held_of.Tie as tie
 
 returns : tie.Need-returns
 returns c = search needs

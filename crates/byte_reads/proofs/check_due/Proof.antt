@@ -1,7 +1,7 @@
 -- `check_due` meets its contract: what it returns is the definition itself. Assumes nothing.
 use borrow.Author.Needs.{needs}
-use Rattle.encoding.proofs.check_due.Statement.{statement}
-use Rattle.encoding.proofs.check_due.Tie as tie
+use Rattle.byte_reads.proofs.check_due.Statement.{statement}
+use Rattle.byte_reads.proofs.check_due.Tie as tie
 
 returns : tie.Need-returns
 returns c = search needs
