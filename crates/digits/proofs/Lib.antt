@@ -1,3 +1,4 @@
 pub mod Table
 pub mod Decimals
 pub mod Placed
+pub mod Begun

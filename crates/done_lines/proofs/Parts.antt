@@ -5,7 +5,8 @@ use mathlib.Core.Path.{_≡_}
 use mathlib.Core.List.{List, [], _∷_, _++_, append-assoc}
 use lib.ListN.{length, length-append}
 use Rattle.digits.specs.Digits.{decimal, maskBy}
-use Rattle.number_fields.specs.Fields.{lastField, callLead}
+use Rattle.call_leads.specs.Leads.{callLead}
+use Rattle.number_fields.specs.Fields.{lastField}
 use Rattle.mask_fields.specs.Fields.{maskFields}
 use Rattle.mask_fields.proofs.MaskLengths.{length-mask}
 use Rattle.lines.specs.Lines.{furtherFields, fieldsLine, doneFields}

@@ -1,10 +1,10 @@
 // The line of an accepted call from plain numbers, as bytes in a lent buffer (specification, section 9). `lines` has
 // those of refusals. It is begun only where all of it fits.
+use call_leads::put_lead;
 use digits::byte_digits;
 use encoding::Outcome;
 use mask_fields::put_masks;
 use number_fields::put_last;
-use number_fields::put_lead;
 use plan_sizes::mask_size;
 use refusals::Refusal;
 ghost use mathlib.Core.Path.{_≡_};

@@ -6,7 +6,8 @@ use mathlib.Core.List.{List, [], _∷_, _++_, append-assoc}
 use lib.ListN.{length, length-append}
 use Rattle.digits.specs.Digits.{decimal}
 use Rattle.digits.proofs.Decimals.{some-digit}
-use Rattle.number_fields.specs.Fields.{lastField, callLead}
+use Rattle.call_leads.specs.Leads.{callLead}
+use Rattle.number_fields.specs.Fields.{lastField}
 use Rattle.lines.specs.Lines.{refusedWord, furtherFields, fieldsLine, refusedFields, refusalLine}
 
 -- What stands behind the lead of a refused call.

@@ -14,6 +14,7 @@ use Rattle.lines.specs.Lines.{lineSays, lineBuffer}
 use Rattle.digits.specs.Placed.{placedSize, placedBuffer, fieldSize, fieldBuffer}
 use Rattle.digits.specs.inner.Stored.{Stored}
 use Rattle.digits.proofs.Placed.{all-placed, placed-stored, then-stored, stored-length}
+use Rattle.digits.proofs.Begun.{not-begun, begun}
 
 module _ (bytes buffer : List ℕ) (at needed : ℕ) (flag : Bool) (size : needed ≡ length bytes)
     (test : flag ≡ hasRoom needed (length buffer) at) where
@@ -34,30 +35,20 @@ module _ (lead tail buffer : List ℕ) (at more led : ℕ) (some : 1 ≤ length 
   whole : length lead + more ≡ length (lead ++ tail)
   whole = simp length-append (omega arith)
 
-  refused : led ≡ 0 → hasRoom (length lead + more) (length buffer) at ≡ false
-  refused none = go (hasRoom (length lead + more) (length buffer) at) refl
-    where
-      go : (t : Bool) → hasRoom (length lead + more) (length buffer) at ≡ t → t ≡ false
-      go false e = refl
-      go true e = absurd (let all : led ≡ length lead = rw e at size in omega arith)
-
-  begun : (led ≡ 0 → ⊥) → hasRoom (length lead + more) (length buffer) at ≡ true
-  begun h = go (hasRoom (length lead + more) (length buffer) at) refl
-    where
-      go : (t : Bool) → hasRoom (length lead + more) (length buffer) at ≡ t → t ≡ true
-      go true e = refl
-      go false e = absurd (h (rw e at size))
-
   pub no-line : led ≡ 0 → (b : List ℕ) → b ≡ placedBuffer (length lead + more) lead buffer at
       → (outcomeSays (Outcome.Refused Refusal.Room) ≡ lineSays (lead ++ tail) (length buffer) at) × (b ≡ lineBuffer (lead ++ tail) buffer at)
   no-line none b put =
-      let stays : b ≡ buffer = put ∙ rw (refused none) refl in
-      let no = no-room (lead ++ tail) buffer at (length lead + more) _ whole refl (refused none) in
-      (no .0, stays ∙ no .1)
+      let full = not-begun lead (length buffer) at (length lead + more) some size none in
+      let stays : b ≡ buffer = put ∙ rw full refl in
+      let none-written = no-room (lead ++ tail) buffer at (length lead + more) _ whole refl full in
+      (none-written .0, stays ∙ none-written .1)
 
   module _ (h : led ≡ 0 → ⊥) where
+    has-room : hasRoom (length lead + more) (length buffer) at ≡ true
+    has-room = begun lead (length buffer) at (length lead + more) some size h
+
     pub line-fits : at + (length lead + more) ≤ length buffer
-    line-fits = there-is-room (length lead + more) (length buffer) at (begun h)
+    line-fits = there-is-room (length lead + more) (length buffer) at has-room
 
     pub led-all : led ≡ length lead
     led-all = all-placed lead buffer at (length lead + more) (omega arith) line-fits size
@@ -74,28 +65,21 @@ module _ (lead tail buffer : List ℕ) (at more led : ℕ) (some : 1 ≤ length 
           → (outcomeSays (Outcome.Bytes (led + more)) ≡ lineSays (lead ++ tail) (length buffer) at) × (after ≡ lineBuffer (lead ++ tail) buffer at)
       whole-line next after s =
           rw led-all
-          (room (lead ++ tail) buffer at (length lead + more) _ whole refl next after (begun h) (then-stored lead-stored s))
+          (room (lead ++ tail) buffer at (length lead + more) _ whole refl next after has-room (then-stored lead-stored s))
 
 -- A line of one field.
 module _ (line buffer after : List ℕ) (at size : ℕ) (some : 1 ≤ length line) (e : size ≡ fieldSize line (length buffer) at)
     (put : after ≡ fieldBuffer line buffer at) where
   pub no-field-line : size ≡ 0
       → (outcomeSays (Outcome.Refused Refusal.Room) ≡ lineSays line (length buffer) at) × (after ≡ lineBuffer line buffer at)
-  no-field-line none = go (hasRoom (length line) (length buffer) at) refl
-    where
-      go : (t : Bool) → hasRoom (length line) (length buffer) at ≡ t
-          → (outcomeSays (Outcome.Refused Refusal.Room) ≡ lineSays line (length buffer) at) × (after ≡ lineBuffer line buffer at)
-      go true h = absurd (let all : size ≡ length line = rw h at e in omega arith)
-      go false h = (no-room line buffer at (length line) _ refl refl h .0, put)
+  no-field-line none =
+      (no-room line buffer at (length line) _ refl refl (not-begun line (length buffer) at (length line) some e none) .0, put)
 
   pub field-line : (size ≡ 0 → ⊥)
       → (outcomeSays (Outcome.Bytes size) ≡ lineSays line (length buffer) at) × (after ≡ lineBuffer line buffer at)
-  field-line more = go (hasRoom (length line) (length buffer) at) refl
-    where
-      go : (t : Bool) → hasRoom (length line) (length buffer) at ≡ t
-          → (outcomeSays (Outcome.Bytes size) ≡ lineSays line (length buffer) at) × (after ≡ lineBuffer line buffer at)
-      go true h = (rw (e, h) refl, put)
-      go false h = absurd (more (rw h at e))
+  field-line more =
+      let yes = begun line (length buffer) at (length line) some e more in
+      (rw (e, yes) refl, put)
 
 -- A line that fits is written.
 module _ (bytes buffer : List ℕ) (at : ℕ) (h : at + length bytes ≤ length buffer) where

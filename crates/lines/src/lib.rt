@@ -1,10 +1,10 @@
 // The lines of refusals from plain numbers, as bytes in a lent buffer (specification, section 9): of a call that is
 // refused, and of a fault of the bytes. `done_lines` has the line of an accepted call, `first_lines` a listing's first
 // line, and `listings` has lines from plans, calls and replies. A line is begun only where all of it fits.
+use call_leads::put_lead;
 use digits::byte_digits;
 use encoding::Outcome;
 use number_fields::put_last;
-use number_fields::put_lead;
 use refusals::Refusal;
 ghost use mathlib.Core.Path.{_≡_};
 ghost use lib.ListN.{length};

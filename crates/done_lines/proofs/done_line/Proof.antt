@@ -2,7 +2,8 @@
 use native.Mathlib.Omega.{arith}
 use Rattle.plans.specs.Entries.{maskSizeFor}
 use Rattle.digits.proofs.Placed.{fields-stored}
-use Rattle.number_fields.specs.Fields.{lastField, callLead}
+use Rattle.call_leads.specs.Leads.{callLead}
+use Rattle.number_fields.specs.Fields.{lastField}
 use Rattle.mask_fields.specs.Fields.{maskFields}
 use Rattle.mask_fields.proofs.MaskLengths.{most-bytes}
 use Rattle.lines.proofs.Parts.{some-lead}

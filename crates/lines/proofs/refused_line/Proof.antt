@@ -1,7 +1,7 @@
 -- `refused_line` meets its contract. Assumes nothing.
 use native.Mathlib.Omega.{arith}
 use Rattle.digits.proofs.Placed.{field-stored}
-use Rattle.number_fields.specs.Fields.{callLead}
+use Rattle.call_leads.specs.Leads.{callLead}
 use Rattle.lines.proofs.Parts.{refusedTail, refused-parts, some-lead, refused-tail-length}
 use Rattle.lines.proofs.Room.{no-line, line-fits, led-all, rest-fits, whole-line}
 use borrow.Author.Needs.{needs}

@@ -1,47 +1,52 @@
--- `put_last` meets its contract: the field and the line feed are stored where they fit. Assumes nothing.
+-- `put_last` meets its contract: the field is stored where the line feed fits too, and then that. Assumes nothing.
+use Prim.Native.Nat.{ℕ, _≤_}
 use native.Mathlib.Omega.{arith}
-use Prim.Native.Nat.{ℕ, _+_}
-use mathlib.Core.Path.{_≡_}
-use mathlib.Core.List.{List, append-assoc}
-use lib.ListN.{length, set, length-append}
+use mathlib.Core.Path.{refl}
+use mathlib.Core.List.{List, [], _∷_, _++_, append-assoc}
+use lib.ListN.{length, length-append}
 use Rattle.digits.specs.Digits.{decimal}
-use Rattle.digits.specs.inner.Stored.{Stored}
-use Rattle.digits.proofs.Placed.{one-stored, then-stored, field-placed, field-not-placed}
+use Rattle.digits.proofs.Decimals.{some-digit}
+use Rattle.digits.proofs.Placed.{one-stored}
+use Rattle.digits.proofs.Begun.{nothing-placed, second-fits, both-placed}
 use Rattle.number_fields.specs.Fields.{labelled, lastField}
+use Rattle.number_fields.proofs.Words.{alone}
 use borrow.Author.Needs.{needs}
 use Rattle.number_fields.proofs.put_last.Statement.{statement}
 use Rattle.number_fields.proofs.put_last.Tie as tie
 
-whole-size : (word : List ℕ) (n d : ℕ) → d ≡ length (decimal n) → length word + d + 1 ≡ length (lastField word n)
-whole-size word n d e = simp length-append (omega arith)
-
--- The line feed behind them.
-fed : (word : List ℕ) (n : ℕ) {l m : List ℕ} {at next : ℕ} → Stored (labelled word n) l at next m → Stored (lastField word n) l at (next + 1) (set m next 10)
-fed word n s = rw (← append-assoc) (then-stored s (one-stored _ _ 10))
-
-write-labelled-requires : tie.Need-write-labelled-requires
-write-labelled-requires c κs =
-    let asked = c .before .before in
-    (asked .before .digit-count .ensures .0, omega (arith, asked .has-room .ensures .1 (c .before .if1 .taken)))
-
-slice-write-buffer : tie.Need-slice-write-buffer
-slice-write-buffer c =
-    let asked = c .before .before .before .before .before in
-    let a = asked .before .before .before .before .args in
-    omega (arith, c .before .before .write-labelled .ensures .place, length-append (a .word .now) (decimal (a .n)), asked .before .digit-count .ensures .0, asked .has-room .ensures .1 (c .before .before .before .before .if1 .taken))
+some-byte : (word : List ℕ) (n : ℕ) → 1 ≤ length (labelled word n)
+some-byte word n = simp length-append (omega (arith, some-digit n))
 
 returns : tie.Need-returns
 returns c =
-    let asked = c .before .before .before .before .before in
-    let a = asked .before .before .before .before .args in
-    field-placed (lastField (a .word .now) (a .n)) _ _ _ (whole-size (a .word .now) (a .n) _ (asked .before .digit-count .ensures .0)) _ (asked .has-room .ensures .0)
-    (c .before .before .before .before .if1 .taken) (fed (a .word .now) (a .n) (c .before .before .write-labelled .ensures))
+    let put = c .before .before .before in
+    let a = put .before .before .before .before .args in
+    let field = labelled (a .word .now) (a .n) in
+    rw (← append-assoc (a .word .now) (decimal (a .n)) (10 ∷ []))
+    (alone (field ++ (10 ∷ [])) (a .buffer .now) (a .at) (nothing-placed field (10 ∷ []) (a .buffer .now) (a .at) 1 0 (some-byte (a .word .now) (a .n)) refl (put .put-field .ensures .0) (put .put-field .ensures .1) (c .if1 .taken)))
+
+slice-write-buffer : tie.Need-slice-write-buffer
+slice-write-buffer c =
+    let put = c .before .before .before in
+    let a = put .before .before .before .before .args in
+    omega (
+      arith,
+      second-fits (labelled (a .word .now) (a .n)) (10 ∷ []) (a .buffer .now) (a .at) 1 0 (some-byte (a .word .now) (a .n)) refl (put .put-field .ensures .0) (put .put-field .ensures .1) (c .if1 .left),
+    )
+
+add-buffer : tie.Need-add-buffer
+add-buffer c = omega (arith, slice-write-buffer c)
+
+add-result : tie.Need-add-result
+add-result c = omega (arith, slice-write-buffer c)
 
 returns-2 : tie.Need-returns-2
 returns-2 c =
-    let asked = c .before in
-    let a = asked .before .before .before .before .args in
-    field-not-placed (lastField (a .word .now) (a .n)) _ _ _ (whole-size (a .word .now) (a .n) _ (asked .before .digit-count .ensures .0)) _ (asked .has-room .ensures .0) (c .if1 .left)
+    let put = c .before .before .before in
+    let a = put .before .before .before .before .args in
+    let field = labelled (a .word .now) (a .n) in
+    rw (← append-assoc (a .word .now) (decimal (a .n)) (10 ∷ []))
+    (alone (field ++ (10 ∷ [])) (a .buffer .now) (a .at) (both-placed field (10 ∷ []) (a .buffer .now) (a .at) 1 0 (some-byte (a .word .now) (a .n)) refl (put .put-field .ensures .0) (put .put-field .ensures .1) (c .if1 .left) _ refl (one-stored _ _ 10)))
 
 pub put-last-spec : {M : Type 1} → statement M
 put-last-spec =
@@ -49,10 +54,9 @@ put-last-spec =
     (tie.spec
     (λ c κs. search needs)
     (λ c. search needs)
-    (λ c. search needs)
-    (λ c κs. search needs)
-    write-labelled-requires
-    slice-write-buffer
-    (λ c. search needs)
     returns
+    add-buffer
+    slice-write-buffer
+    add-result
+    (λ c. search needs)
     returns-2)

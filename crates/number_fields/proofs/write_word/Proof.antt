@@ -6,7 +6,7 @@ use native.Mathlib.Omega.{arith}
 use mathlib.Core.Path.{_≡_, refl, sym, _∙_}
 use lib.ListN.{length, drop, length-set}
 use lib.Seq.{sets}
-use Rattle.number_fields.proofs.Stores.{word-turn, word-end}
+use Rattle.number_fields.proofs.Words.{word-turn, word-end}
 use Rattle.number_fields.proofs.write_word.Statement.{statement}
 use Rattle.number_fields.proofs.write_word.Tie as tie
 
@@ -29,10 +29,8 @@ same-length : tie.Need-same-length Inv-loop μ-loop
 same-length c = c .before .loop .inv .1 .0
 
 returns : tie.Need-returns Inv-loop μ-loop
-returns c = record {
-  place = omega arith;
-  stores = sym (word-end _ _ _ _ (c .before .loop .inv .0) (c .loop-test .left)) ∙ c .before .loop .inv .1 .1;
-}
+returns c =
+    sym (word-end _ _ _ _ (c .before .loop .inv .0) (c .loop-test .left)) ∙ c .before .loop .inv .1 .1
 
 pub write-word-spec : {M : Type 1} → statement M
 write-word-spec =
@@ -47,6 +45,5 @@ write-word-spec =
     (λ c. omega arith)
     (λ c. omega arith)
     loop-again
-    (λ c. omega arith)
     same-length
     returns)

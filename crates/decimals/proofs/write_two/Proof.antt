@@ -4,8 +4,8 @@ use native.Mathlib.Omega.{arith}
 use lib.ListN.{length-set}
 use Rattle.digits.proofs.Placed.{two-stored}
 use borrow.Author.Needs.{needs}
-use Rattle.number_fields.proofs.write_two.Statement.{statement}
-use Rattle.number_fields.proofs.write_two.Tie as tie
+use Rattle.decimals.proofs.write_two.Statement.{statement}
+use Rattle.decimals.proofs.write_two.Tie as tie
 
 slice-write-buffer-2 : tie.Need-slice-write-buffer-2
 slice-write-buffer-2 c = simp length-set (omega arith)

@@ -3,8 +3,8 @@ use native.Mathlib.Omega.{arith}
 use mathlib.Core.Path.{refl, sym}
 use Rattle.digits.proofs.Decimals.{decimal-one, decimal-two, length-one, length-two}
 use borrow.Author.Needs.{needs}
-use Rattle.number_fields.proofs.write_lead.Statement.{statement}
-use Rattle.number_fields.proofs.write_lead.Tie as tie
+use Rattle.decimals.proofs.write_lead.Statement.{statement}
+use Rattle.decimals.proofs.write_lead.Tie as tie
 
 write-two-requires : tie.Need-write-two-requires
 write-two-requires c κs = (omega arith, omega (arith, length-two (c .before .before .before .args .n) (omega arith) (omega arith)))

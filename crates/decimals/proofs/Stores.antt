@@ -1,11 +1,10 @@
--- Runs of stores: the last stores first, and a word's bytes. Assumes nothing.
-use Prim.Native.Nat.{ℕ, suc, _+_, _≤_, _<_}
-use native.Mathlib.Numerals.{add-one}
+-- Of two runs of stores the later one first. Assumes nothing.
+use Prim.Native.Nat.{ℕ, suc, _+_, _<_}
 use native.Mathlib.Omega.{arith}
 use mathlib.Core.Path.{_≡_, refl, _∙_}
 use mathlib.Core.List.{List, [], _∷_, _++_}
-use lib.ListN.{length, getD, set, drop}
-use lib.Seq.{sets, set-comm, drop-cons, drop-length}
+use lib.ListN.{length, set}
+use lib.Seq.{sets, set-comm}
 
 set-before : (l : List ℕ) (i j : ℕ) (y : ℕ) (xs : List ℕ) → i < j → set (sets l j xs) i y ≡ sets (set l i y) j xs
 set-before l i j y [] h = refl
@@ -18,13 +17,3 @@ last-first l i [] xs = let e : i + 0 ≡ i = omega arith in rw e
 last-first l i (y ∷ a) xs =
     let e : i + suc (length a) ≡ suc i + length a = omega arith in
     rw (e, set-before l i (suc i + length a) y xs (omega arith)) (last-first (set l i y) (suc i) a xs)
-
--- A turn stores the next byte of a word.
-pub word-turn : (l w : List ℕ) (at i : ℕ) → i < length w
-    → sets (set l (at + i) (getD w i 0)) (at + (i + 1)) (drop (i + 1) w) ≡ sets l (at + i) (drop i w)
-word-turn l w at i h =
-    let s : at + (i + 1) ≡ suc (at + i) = omega arith in
-    rw (s, drop-cons w i 0 h, add-one)
-
-pub word-end : (l w : List ℕ) (at i : ℕ) → i ≤ length w → length w ≤ i → sets l (at + i) (drop i w) ≡ l
-word-end l w at i h k = let e : i ≡ length w = omega arith in rw (e, drop-length)

@@ -6,9 +6,8 @@ use mathlib.Core.List.{List, [], _∷_, _++_}
 use lib.ListN.{length}
 use lib.Seq.{sets, length-sets}
 use Rattle.digits.specs.Digits.{decimal}
-use Rattle.digits.specs.inner.Stored.{Stored}
 use Rattle.digits.proofs.Decimals.{decimal-two-more, length-two-more, some-digit}
-use Rattle.number_fields.proofs.Stores.{last-first}
+use Rattle.decimals.proofs.Stores.{last-first}
 
 -- Of the number n the digits of `rest` are left to store, so many; storing them gives the whole.
 pub record ToStore (n : ℕ) (before : List ℕ) (at : ℕ) (buffer : List ℕ) (rest left : ℕ) : Type 0 where
@@ -42,5 +41,5 @@ module _ (n : ℕ) (l : List ℕ) (at : ℕ) (b : List ℕ) (rest left : ℕ) (h
         stores = rw (e, p, last-first b at (decimal (rest / 100)) ((48 + rest % 100 / 10) ∷ (48 + rest % 100 % 10) ∷ []), ← decimal-two-more rest hundred (h .most)) (h .stores);
       }
 
-  pub last-digits : (a : List ℕ) (size : ℕ) → a ≡ sets b at (decimal rest) → size ≡ length (decimal n) → Stored (decimal n) l at (at + size) a
-  last-digits a size e s = record { place = rw s refl; stores = e ∙ h .stores }
+  pub last-digits : (a : List ℕ) → a ≡ sets b at (decimal rest) → a ≡ sets l at (decimal n)
+  last-digits a e = e ∙ h .stores

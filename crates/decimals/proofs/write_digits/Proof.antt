@@ -4,9 +4,9 @@ use mathlib.Core.Path.{_∙_}
 use lib.Seq.{length-sets}
 use borrow.Author.Needs.{needs}
 use Rattle.digits.specs.Digits.{decimal}
-use Rattle.number_fields.proofs.Backwards.{ToStore, all-to-store, two-at-least, two-digits-less, last-digits}
-use Rattle.number_fields.proofs.write_digits.Statement.{statement}
-use Rattle.number_fields.proofs.write_digits.Tie as tie
+use Rattle.decimals.proofs.Backwards.{ToStore, all-to-store, two-at-least, two-digits-less, last-digits}
+use Rattle.decimals.proofs.write_digits.Statement.{statement}
+use Rattle.decimals.proofs.write_digits.Tie as tie
 
 abbrev Inv-loop : tie.InvT-loop
 Inv-loop n size buffer₀ at rest₀ left₀ buffer rest left = ToStore n buffer₀ at buffer rest left
@@ -44,7 +44,7 @@ same-length c = search needs
 returns : tie.Need-returns Inv-loop μ-loop
 returns c =
     let led = c .before .before in
-    last-digits _ _ _ _ _ _ (led .before .before .before .loop .inv) _ _ (led .write-lead .ensures) (led .before .before .before .before .before .pre .0)
+    last-digits _ _ _ _ _ _ (led .before .before .before .loop .inv) _ (led .write-lead .ensures)
 
 pub write-digits-spec : {M : Type 1} → statement M
 write-digits-spec =
@@ -59,6 +59,5 @@ write-digits-spec =
     (λ c. omega arith)
     loop-again
     write-lead-requires
-    (λ c. omega arith)
     same-length
     returns)
