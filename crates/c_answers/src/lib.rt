@@ -4,13 +4,13 @@ mod bytes;
 
 pub use bytes::told_bytes;
 use c_boards::Told;
-use queries::MaskAnswer;
-use queries::PhaseAnswer;
-use queries::phase_number;
+use query_answers::MaskAnswer;
+use query_answers::PhaseAnswer;
+use query_answers::phase_number;
 use refusals::Refusal;
 ghost use mathlib.Core.Path.{_≡_};
 ghost use Rattle.refusals.specs.Number.{numberOf};
-ghost use Rattle.queries.specs.Queries.{phaseSays, maskSays};
+ghost use Rattle.query_answers.specs.Answers.{phaseSays, maskSays};
 ghost use Rattle.c_boards.specs.Answers.{toldSays};
 
 // A refusal: its number alone, so the value is 0 beside it.

@@ -53,7 +53,7 @@ use Rattle.logs.specs.Records.{fieldsIn, recordFault, readRecord}
 --   answering::answer_in_place  answerBy r and the arrays after it ≡ answered, of the board and the state that it was lent
 --   issuing::issue_in_place  the same with issued, completing::complete_in_place with completed,
 --                            withdrawing::withdraw_in_place with withdrawn, handing_over::handover_in_place with handedOver
---   queries::phase_of              phaseSays r ≡ phaseQuery board state processor
+--   phase_queries::phase_of        phaseSays r ≡ phaseQuery board state processor
 --   wait_queries::direct_waits     maskSays r ≡ waitsQuery board state processor
 --   reach_queries::reach           maskSays r ≡ reachQuery board state processor scratch, the scratch after it ≡ reachScratch ..
 --   board_queries::list_board      outcomeSays r ≡ boardQuery board buffer, the buffer after it ≡ boardBuffer ..

@@ -5,7 +5,6 @@ use mathlib.Core.List.{List}
 use mathlib.Core.Path.{_≡_}
 use lib.ListN.{length}
 use Rattle.masks.specs.Sets.{some, maskOf}
-use Rattle.refusals.specs.Number.{numberOf}
 use Rattle.refusals.specs.Due.{Said, firstOf, said}
 use Rattle.encoding.specs.Buffers.{roomFault, bufferAfter}
 use Rattle.plans.specs.Entries.{slots, maskSizeFor}
@@ -16,25 +15,6 @@ use Rattle.rules.specs.Calls.{factsOf, phasesOf}
 use Rattle.wait_fields.specs.Fields.{stateIn}
 use Rattle.row_words.specs.Words.{wordCount, wordsOf, wordsSize}
 use Rattle.waiting.specs.Waits.{waitsIn}
-use Rattle.queries.specs.declared.Phase.{Phase}
-use Rattle.queries.specs.declared.PhaseAnswer.{PhaseAnswer}
-use Rattle.queries.specs.declared.MaskAnswer.{MaskAnswer}
-
--- Clause 7.1: the states by number.
-abbrev pub phaseNumber : Phase → ℕ
-phaseNumber Phase.Idle = 0
-phaseNumber Phase.Waiting = 1
-phaseNumber Phase.Entitled = 2
-phaseNumber Phase.Holding = 3
-
--- The answers of the queries in numbers.
-abbrev pub phaseSays : PhaseAnswer → Said
-phaseSays (PhaseAnswer.Is ph) = record { number = 0; value = phaseNumber ph }
-phaseSays (PhaseAnswer.Refused r) = record { number = numberOf r; value = 0 }
-
-abbrev pub maskSays : MaskAnswer → Said
-maskSays (MaskAnswer.Mask mask) = record { number = 0; value = mask }
-maskSays (MaskAnswer.Refused r) = record { number = numberOf r; value = 0 }
 
 -- Clauses 7.1 and 4.10: the state of processor p is that of its request, where that counts; else p is idle.
 unfoldable pub stateNumber : Board → State → ℕ → ℕ

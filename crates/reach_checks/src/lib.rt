@@ -1,5 +1,5 @@
 // When a reach is refused. `reach_queries` asks it first. Specification, clauses 7.4 and 7.5.
-use queries::check_processor;
+use query_checks::check_processor;
 use refusals::Verdict;
 use refusals::first_of;
 use room::check_room;

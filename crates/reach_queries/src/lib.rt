@@ -2,7 +2,7 @@
 // Specification, clauses 7.3 and 7.4.
 use plans::ENTRIES;
 use plans::SLOTS;
-use queries::MaskAnswer;
+use query_answers::MaskAnswer;
 use reach_checks::check_reach;
 use reaching::reach_rows;
 use refusals::Verdict;
@@ -18,7 +18,8 @@ ghost use lib.ListN.{length};
 ghost use Rattle.masks.specs.Sets.{maskOf};
 ghost use Rattle.encoding.specs.Buffers.{overwritten};
 ghost use Rattle.plans.specs.Entries.{slots};
-ghost use Rattle.queries.specs.Queries.{maskSays, reaches, scratchSize, reachBytes, reachQuery, reachScratch};
+ghost use Rattle.query_answers.specs.Answers.{maskSays};
+ghost use Rattle.queries.specs.Queries.{reaches, scratchSize, reachBytes, reachQuery, reachScratch};
 ghost use Rattle.queries.specs.Parts.{boardWith, stateWith};
 ghost use Rattle.queries.specs.inner.Rows.{directRows};
 

@@ -2,8 +2,8 @@
 use board_waits::waits_of_all;
 use plans::ENTRIES;
 use plans::SLOTS;
-use queries::MaskAnswer;
-use queries::check_processor;
+use query_answers::MaskAnswer;
+use query_checks::check_processor;
 use refusals::Verdict;
 use settling::Phases;
 use states::Board;
@@ -12,7 +12,8 @@ use states::Terms;
 use states::clean;
 use waiting::waits_of;
 ghost use mathlib.Core.Path.{_≡_};
-ghost use Rattle.queries.specs.Queries.{maskSays, waitsQuery};
+ghost use Rattle.query_answers.specs.Answers.{maskSays};
+ghost use Rattle.queries.specs.Queries.{waitsQuery};
 ghost use Rattle.queries.specs.Parts.{boardWith, stateWith};
 ghost use Rattle.queries.specs.inner.Rows.{directRows};
 

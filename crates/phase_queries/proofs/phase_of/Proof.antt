@@ -1,8 +1,8 @@
 -- `phase_of` meets its contract: it hands the parts over. Assumes nothing.
 use Rattle.queries.specs.Queries.{stateNumber}
 use borrow.Author.Needs.{needs}
-use Rattle.queries.proofs.phase_of.Statement.{statement}
-use Rattle.queries.proofs.phase_of.Tie as tie
+use Rattle.phase_queries.proofs.phase_of.Statement.{statement}
+use Rattle.phase_queries.proofs.phase_of.Tie as tie
 
 returns : tie.Need-returns
 unfolding stateNumber

@@ -1,7 +1,7 @@
 -- `check_processor` meets its contract. Assumes nothing.
 use borrow.Author.Needs.{needs}
-use Rattle.queries.proofs.check_processor.Statement.{statement}
-use Rattle.queries.proofs.check_processor.Tie as tie
+use Rattle.query_checks.proofs.check_processor.Statement.{statement}
+use Rattle.query_checks.proofs.check_processor.Tie as tie
 
 cast-refuse-unless : tie.Need-cast-refuse-unless
 cast-refuse-unless c = search needs

@@ -1,7 +1,7 @@
 -- `phase_number` meets its contract: what it returns is the definition itself. Assumes nothing.
 use borrow.Author.Needs.{needs}
-use Rattle.queries.proofs.phase_number.Statement.{statement}
-use Rattle.queries.proofs.phase_number.Tie as tie
+use Rattle.query_answers.proofs.phase_number.Statement.{statement}
+use Rattle.query_answers.proofs.phase_number.Tie as tie
 
 returns : tie.Need-returns
 returns c = search needs

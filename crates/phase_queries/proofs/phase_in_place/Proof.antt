@@ -1,9 +1,9 @@
 -- `phase_in_place` meets its contract: of a counted processor the masks have the phase. Assumes nothing.
 use Rattle.queries.specs.Queries.{stateNumber}
 use Rattle.queries.proofs.Answers.{accepted-says, refused-says}
 use borrow.Author.Needs.{needs}
-use Rattle.queries.proofs.phase_in_place.Statement.{statement}
-use Rattle.queries.proofs.phase_in_place.Tie as tie
+use Rattle.phase_queries.proofs.phase_in_place.Statement.{statement}
+use Rattle.phase_queries.proofs.phase_in_place.Tie as tie
 
 returns : tie.Need-returns
 unfolding stateNumber

@@ -4,8 +4,8 @@ use mathlib.Core.Bool.{true, false}
 use Rattle.masks.specs.Sets.{bit}
 use Rattle.wait_fields.specs.Fields.{stateIn}
 use borrow.Author.Needs.{needs}
-use Rattle.queries.proofs.phase_at.Statement.{statement}
-use Rattle.queries.proofs.phase_at.Tie as tie
+use Rattle.phase_queries.proofs.phase_at.Statement.{statement}
+use Rattle.phase_queries.proofs.phase_at.Tie as tie
 
 has32-requires : tie.Need-has32-requires
 has32-requires c κs = search needs
