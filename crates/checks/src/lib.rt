@@ -1,5 +1,5 @@
-// When a call of one act is refused, and by which number: specification, clause 4.5, 10 to 15 and 17. The phases are of
-// the requests that count. `handover_checks` has the handover, a call of two acts.
+// When a call that takes a request out is refused, and by which number: specification, clause 4.5, 10, 11, 14, 15 and
+// 17. The phases are of the requests that count. `issue_checks` has the issue, and `handover_checks` the handover.
 use conditions::is_active;
 use conditions::is_counted;
 use conditions::is_in_time;
@@ -13,33 +13,7 @@ use states::Terms;
 ghost use mathlib.Core.Path.{_≡_};
 ghost use Rattle.refusals.specs.Number.{numberOf, verdictNumber};
 ghost use Rattle.refusals.specs.Due.{due};
-ghost use Rattle.states.specs.Faults.{issueFault, takeFault, completeFault, withdrawFault};
-
-// Clause 4.5: 10, 11, 12, 13. It returns at the first: a call that is accepted pays for the tests alone.
-pub fn check_issue(
-    terms: Terms,
-    last: u64,
-    phases: Phases,
-    processor: u8,
-    entry: u8,
-    tick: u64,
-) -> Verdict
-    ensures { λ r. ⌜ verdictNumber r ≡ issueFault terms last phases processor entry tick ⌝ }
-{
-    if !is_in_time(last, tick) {
-        return Verdict::Refused(Refusal::Tick);
-    }
-    if !is_counted(terms, processor) {
-        return Verdict::Refused(Refusal::Processor);
-    }
-    if terms.count <= entry {
-        return Verdict::Refused(Refusal::Entry);
-    }
-    if is_active(phases, processor) {
-        return Verdict::Refused(Refusal::Busy);
-    }
-    Verdict::Accepted
-}
+ghost use Rattle.states.specs.Faults.{takeFault, completeFault, withdrawFault};
 
 // Clause 4.5, for a call that takes the processor's request out: 10, 11, 14, then what is due for its phase.
 fn check_taken(

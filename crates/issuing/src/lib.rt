@@ -4,7 +4,7 @@ use acts::enter;
 use ages::put_last;
 use answers::accepted;
 use answers::refused;
-use checks::check_issue;
+use issue_checks::check_issue;
 use plans::ENTRIES;
 use plans::SLOTS;
 use refusals::Verdict;

@@ -3,8 +3,8 @@ use borrow.Author.Needs.{needs}
 use borrow.Author.Tests.{lt-ltb, le-ltb}
 use Rattle.plans.proofs.Flags.{passes, fails}
 use Rattle.states.specs.Faults.{issueFault}
-use Rattle.checks.proofs.check_issue.Statement.{statement}
-use Rattle.checks.proofs.check_issue.Tie as tie
+use Rattle.issue_checks.proofs.check_issue.Statement.{statement}
+use Rattle.issue_checks.proofs.check_issue.Tie as tie
 
 returns : tie.Need-returns
 unfolding issueFault
