@@ -4,7 +4,6 @@ use native.Mathlib.Omega.{arith}
 use mathlib.Core.Path.{_≡_, refl}
 use mathlib.Core.List.{List, [], _∷_}
 use lib.ListN.{length, set, length-set}
-use lib.Seq.{sets}
 use Rattle.digits.specs.Digits.{decimal}
 use Rattle.digits.specs.Placed.{placedSize, placedBuffer}
 use Rattle.digits.specs.inner.Stored.{Stored}

@@ -1,9 +1,6 @@
 -- `write_digits` meets its contract. The invariant is `ToStore`. Assumes nothing.
 use native.Mathlib.Omega.{arith}
-use mathlib.Core.Path.{_∙_}
-use lib.Seq.{length-sets}
 use borrow.Author.Needs.{needs}
-use Rattle.digits.specs.Digits.{decimal}
 use Rattle.decimals.proofs.Backwards.{ToStore, all-to-store, two-at-least, two-digits-less, last-digits}
 use Rattle.decimals.proofs.write_digits.Statement.{statement}
 use Rattle.decimals.proofs.write_digits.Tie as tie

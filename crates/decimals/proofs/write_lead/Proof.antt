@@ -1,6 +1,6 @@
 -- `write_lead` meets its contract: a number below 100 is its last two digits, or one. Assumes nothing.
 use native.Mathlib.Omega.{arith}
-use mathlib.Core.Path.{refl, sym}
+use mathlib.Core.Path.{refl}
 use Rattle.digits.proofs.Decimals.{decimal-one, decimal-two, length-one, length-two}
 use borrow.Author.Needs.{needs}
 use Rattle.decimals.proofs.write_lead.Statement.{statement}

@@ -3,7 +3,7 @@ use native.Mathlib.Omega.{arith}
 use Rattle.digits.proofs.Placed.{field-stored}
 use Rattle.call_leads.specs.Leads.{callLead}
 use Rattle.lines.proofs.Parts.{refusedTail, refused-parts, some-lead, refused-tail-length}
-use Rattle.lines.proofs.Room.{no-line, line-fits, led-all, rest-fits, whole-line}
+use Rattle.lines.proofs.Room.{no-line, rest-fits, whole-line}
 use borrow.Author.Needs.{needs}
 use Rattle.lines.proofs.refused_line.Statement.{statement}
 use Rattle.lines.proofs.refused_line.Tie as tie

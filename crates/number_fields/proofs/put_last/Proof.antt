@@ -8,7 +8,7 @@ use Rattle.digits.specs.Digits.{decimal}
 use Rattle.digits.proofs.Decimals.{some-digit}
 use Rattle.digits.proofs.Placed.{one-stored}
 use Rattle.digits.proofs.Begun.{nothing-placed, second-fits, both-placed}
-use Rattle.number_fields.specs.Fields.{labelled, lastField}
+use Rattle.number_fields.specs.Fields.{labelled}
 use Rattle.number_fields.proofs.Words.{alone}
 use borrow.Author.Needs.{needs}
 use Rattle.number_fields.proofs.put_last.Statement.{statement}
