@@ -1,5 +1,5 @@
 // The state of a processor: whether it holds, waits or is idle. Nothing is changed. Specification, clause 7.1.
-use masks::has32;
+use masks32::has32;
 use plans::SLOTS;
 use query_answers::Phase;
 use query_answers::PhaseAnswer;
