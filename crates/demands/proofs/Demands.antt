@@ -59,7 +59,7 @@ use Rattle.logs.specs.Records.{fieldsIn, recordFault, readRecord}
 --   board_queries::list_board      outcomeSays r ≡ boardQuery board buffer, the buffer after it ≡ boardBuffer ..
 --   board_queries::list_board_in_place  the same, of the board and the state that it was lent
 --   contention::shared_by    sharedSays r ≡ sharedQuery board first second; what that is on a plan's board, Contention.antt says
---   registers::read          registerSays r ≡ registerRead block offset (register_block::read_register the same, of the block it is lent)
+--   register_reads::read     registerSays r ≡ registerRead block offset (register_block::read_register the same, of the block it is lent)
 --   register_writes::write   changeSays r ≡ registerWrite board state block offset value, in which a refused command changes
 --                            offset 3 alone (register_block::write_register: writtenSays r and the block after it ≡ registerWrite ..)
 --   call_counts::read_count  countSays r ≡ readCount bytes
