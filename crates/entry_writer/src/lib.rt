@@ -14,7 +14,8 @@ ghost use Rattle.plans.specs.Writing.{entryBytes};
 pub fn write_entry(entry: Entry, section: &mut [u8], at: usize)
     ensures { λ _. ⌜
         now (section .exit)
-        ≡ bufferAfter (roomFault entrySize (length (now (section .entry))) at) (entryBytes entry) (now (section .entry)) at
+        ≡ bufferAfter (roomFault entrySize (length (now (section .entry))) at) (entryBytes entry)
+        (now (section .entry)) at
         ⌝ }
 {
     if has_room(ENTRY_BYTES, section.len(), at) {

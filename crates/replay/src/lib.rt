@@ -98,7 +98,8 @@ fn run_records(
         now (out .exit)
         ≡ overwritten (now (out .entry)) 0
         (ran (boardBy terms (now (rows .entry)) (now (lengths .entry)))
-        (stateBy first (now (entries .entry)) (now (since .entry)) (now (earlier .entry))) due (now (bytes .entry)) .lines)
+        (stateBy first (now (entries .entry)) (now (since .entry)) (now (earlier .entry)))
+        due (now (bytes .entry)) .lines)
         ⌝ }
 {
     let mut moment = first;
