@@ -8,7 +8,7 @@ use calls::Call;
 use settling::Phases;
 use states::Board;
 use states::State;
-use states::clean;
+use cleaning::clean;
 ghost use mathlib.Core.Path.{_≡_};
 ghost use Rattle.rules.specs.Calls.{phasesOf, issued, completed, withdrawn, handedOver};
 ghost use Rattle.answering_by_value.specs.Answers.{answerOf};

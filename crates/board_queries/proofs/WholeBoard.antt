@@ -20,7 +20,7 @@ use Rattle.listing_sizes.specs.Sizes.{partSize}
 use Rattle.wait_parts.specs.Parts.{partBytes}
 use Rattle.wait_parts.proofs.Parts.{length-part}
 use Rattle.wait_listing.specs.Listing.{partIn, listBytes, listBuffer}
-use Rattle.listing_sizes.proofs.InTurn.{part-at}
+use Rattle.encoding.proofs.InTurn.{part-at}
 use Rattle.wait_listing.proofs.Stores.{list-agree}
 use Rattle.queries.specs.Queries.{stateNumber, phaseQuery, waitsFor, waitsQuery, maskSizeOf}
 use Rattle.board_queries.specs.WholeBoard.{listed, boardPart, boardBytes, boardBuffer}

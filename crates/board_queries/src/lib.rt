@@ -8,7 +8,7 @@ use states::Board;
 use states::Moment;
 use states::State;
 use states::Terms;
-use states::clean;
+use cleaning::clean;
 ghost use mathlib.Core.Path.{_≡_};
 ghost use mathlib.Core.List.{[]};
 ghost use Rattle.encoding.specs.Buffers.{outcomeSays};

@@ -3,3 +3,4 @@ pub mod Numbers
 pub mod Stores
 pub mod Room
 pub mod Outcomes
+pub mod InTurn

@@ -1,18 +1,10 @@
 // Facing: the processors that one waits for if their requests conflict with its own, by masks of the phases and of the
 // writes. The direct waits use it. Specification, clause 7.2.
 use masks32::has32;
+use masks32::join_if;
 use settling::Phases;
 ghost use mathlib.Core.Path.{_≡_};
-ghost use mathlib.Core.Bool.{cond};
-ghost use lib.Bits.{bitOr};
 ghost use Rattle.facing.specs.Facing.{facedOf};
-
-// The set, joined with another where the test says so.
-pub fn join_if(set: u32, other: u32, test: bool) -> u32
-    ensures { λ r. ⌜ r ≡ cond test (bitOr set other) set ⌝ }
-{
-    if test { set | other } else { set }
-}
 
 // Clause 7.2: the processors that p waits for if their requests conflict with its own, in each of the four cases.
 pub fn facing_of(phases: Phases, writers: u32, earlier: u32, p: u32) -> u32

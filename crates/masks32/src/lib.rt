@@ -2,6 +2,7 @@
 // it changes nothing.
 ghost use mathlib.Core.Path.{_≡_};
 ghost use mathlib.Core.Bool.{cond};
+ghost use lib.Bits.{bitOr};
 ghost use lib.Dec.{ltb};
 ghost use Rattle.masks.specs.Sets.{bit, added, removed, without};
 
@@ -31,4 +32,11 @@ pub fn without32(a: u32, b: u32) -> u32
     ensures { λ r. ⌜ r ≡ without 32 a b ⌝ }
 {
     a & !b
+}
+
+// The set, joined with another where the test says so.
+pub fn join_if(set: u32, other: u32, test: bool) -> u32
+    ensures { λ r. ⌜ r ≡ cond test (bitOr set other) set ⌝ }
+{
+    if test { set | other } else { set }
 }

@@ -9,7 +9,7 @@ use settling::Phases;
 use states::Board;
 use states::State;
 use states::Terms;
-use states::clean;
+use cleaning::clean;
 ghost use mathlib.Core.Path.{_≡_};
 ghost use mathlib.Core.List.{[]};
 ghost use Rattle.wait_fields.specs.Fields.{stateIn};

@@ -1,3 +1,4 @@
+pub mod Words
 pub mod Queries
 pub mod Parts
 pub mod inner

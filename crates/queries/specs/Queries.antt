@@ -13,7 +13,7 @@ use Rattle.states.specs.declared.State.{State}
 use Rattle.states.specs.Faults.{processorFault}
 use Rattle.rules.specs.Calls.{factsOf, phasesOf}
 use Rattle.wait_fields.specs.Fields.{stateIn}
-use Rattle.row_words.specs.Words.{wordCount, wordsOf, wordsSize}
+use Rattle.queries.specs.Words.{wordCount, wordsOf, wordsSize}
 use Rattle.waiting.specs.Waits.{waitsIn}
 
 -- Clauses 7.1 and 4.10: the state of processor p is that of its request, where that counts; else p is idle.

@@ -21,7 +21,7 @@ use Rattle.states.specs.declared.State.{State}
 use Rattle.listing_sizes.specs.Sizes.{listedOf}
 use Rattle.listing_sizes.proofs.Sizes.{mask-size-small}
 use Rattle.reaching.specs.Rows.{rowsThrough}
-use Rattle.row_words.specs.Words.{wordCount, wordsOf, wordsScratch}
+use Rattle.queries.specs.Words.{wordCount, wordsOf, wordsScratch}
 use Rattle.row_words.proofs.Words.{words-agree}
 use Rattle.reaching.proofs.Through.{via, Path, step, over, rows-via, path-via, via-gives}
 use Rattle.queries.specs.Queries.{waitsFor, Chain, direct, through, reaches, maskSizeOf, scratchSize, reachBytes}

@@ -1,5 +1,5 @@
 // Reach in rows: row p is the mask of all that processor p reaches. The queries use it. Specification, clause 7.3.
-use facing::join_if;
+use masks32::join_if;
 use listing_sizes::listed;
 use masks32::has32;
 use plans::SLOTS;

@@ -9,8 +9,8 @@ use lib.Seq.{sets}
 use Rattle.encoding.specs.Numbers.{bytesOf}
 use Rattle.encoding.specs.Buffers.{roomFault, bufferAfter}
 use Rattle.encoding.proofs.Numbers.{length-bytesOf}
-use Rattle.listing_sizes.proofs.InTurn.{in-turn-agree, length-in-turn, turn-stores}
-use Rattle.row_words.specs.Words.{wordCount, wordsSize, wordsOf}
+use Rattle.encoding.proofs.InTurn.{in-turn-agree, length-in-turn, turn-stores}
+use Rattle.queries.specs.Words.{wordCount, wordsSize, wordsOf}
 
 -- Words of at most four bytes take at most 128.
 pub words-small : (k : ℕ) → k ≤ 4 → wordsSize k ≤ 128

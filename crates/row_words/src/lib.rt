@@ -13,7 +13,7 @@ ghost use lib.Seq.{sets};
 ghost use Rattle.refusals.specs.Due.{said};
 ghost use Rattle.encoding.specs.Buffers.{outcomeSays};
 ghost use Rattle.plans.specs.Entries.{maskSizeFor};
-ghost use Rattle.row_words.specs.Words.{wordCount, wordsOf, wordsSize, wordsFault, wordsScratch};
+ghost use Rattle.queries.specs.Words.{wordCount, wordsOf, wordsSize, wordsFault, wordsScratch};
 
 // The most bytes that the words of all rows take: four for each.
 pub const MOST_ROOM: usize = 4 * SLOTS;

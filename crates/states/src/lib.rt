@@ -1,9 +1,6 @@
-// The board that calls go by and the state that they change, and which requests of a state count.
-mod requests;
-
+// The board that calls go by and the state that they change.
 use plans::ENTRIES;
 use plans::SLOTS;
-pub use requests::clean;
 use settling::Phases;
 
 // What a call goes by, of a board, beside the conflict rows and the lengths: the counts, and which entries are writes.

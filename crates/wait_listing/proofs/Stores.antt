@@ -14,8 +14,8 @@ use Rattle.encoding.specs.Buffers.{roomFault, overwritten, bufferAfter}
 use Rattle.encoding.proofs.Room.{room-fits}
 use Rattle.encoding.proofs.Stores.{sets-overwritten}
 use Rattle.listing_sizes.specs.Sizes.{partSize, listSize}
-use Rattle.listing_sizes.specs.InTurn.{inTurn}
-use Rattle.listing_sizes.proofs.InTurn.{in-turn-agree, length-in-turn}
+use Rattle.encoding.specs.InTurn.{inTurn}
+use Rattle.encoding.proofs.InTurn.{in-turn-agree, length-in-turn}
 use Rattle.wait_listing.specs.Listing.{listBytes, listFault, listBuffer}
 
 pub room-for-list : (k count size : ℕ) (verdict : Verdict) → verdictNumber verdict ≡ roomFault (listSize k count) size 0

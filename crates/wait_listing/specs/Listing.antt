@@ -4,7 +4,7 @@ use Prim.Native.Nat.{ℕ}
 use mathlib.Core.List.{List, _∷_}
 use lib.ListN.{length, getD}
 use Rattle.encoding.specs.Buffers.{roomFault, bufferAfter}
-use Rattle.listing_sizes.specs.InTurn.{inTurn}
+use Rattle.encoding.specs.InTurn.{inTurn}
 use Rattle.listing_sizes.specs.Sizes.{listSize}
 use Rattle.settling.specs.declared.Phases.{Phases}
 use Rattle.wait_fields.specs.Fields.{stateIn, entryShown, waitedIn}

@@ -21,7 +21,7 @@ ghost use Rattle.refusals.specs.Due.{said};
 ghost use Rattle.encoding.specs.Buffers.{outcomeSays};
 ghost use Rattle.plans.specs.Entries.{slots, maskSizeFor};
 ghost use Rattle.listing_sizes.specs.Sizes.{listedOf, listSize};
-ghost use Rattle.listing_sizes.specs.InTurn.{inTurn};
+ghost use Rattle.encoding.specs.InTurn.{inTurn};
 ghost use Rattle.wait_listing.specs.Listing.{partIn, listFault, listBuffer};
 
 // Stores the parts of the first count processors, from byte 1.

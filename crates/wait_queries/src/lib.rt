@@ -9,7 +9,7 @@ use settling::Phases;
 use states::Board;
 use states::State;
 use states::Terms;
-use states::clean;
+use cleaning::clean;
 use waiting::waits_of;
 ghost use mathlib.Core.Path.{_≡_};
 ghost use Rattle.query_answers.specs.Answers.{maskSays};

@@ -4,8 +4,8 @@ use Prim.Native.Nat.{ℕ, _*_, _≤_, _<_, _-_}
 use native.Mathlib.Omega.{arith}
 use lib.ListN.{length, getD}
 use lib.Seq.{sets}
-use Rattle.listing_sizes.specs.InTurn.{inTurn}
-use Rattle.row_words.specs.Words.{wordCount, wordsOf}
+use Rattle.encoding.specs.InTurn.{inTurn}
+use Rattle.queries.specs.Words.{wordCount, wordsOf}
 use Rattle.row_words.proofs.Words.{words-small, word-inside, word-stored}
 use borrow.Author.Needs.{needs}
 use Rattle.row_words.proofs.store_rows.Statement.{statement}

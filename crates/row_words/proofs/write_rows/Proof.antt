@@ -7,7 +7,7 @@ use Rattle.encoding.specs.Buffers.{hasRoom}
 use Rattle.encoding.proofs.Room.{with-room, without-room}
 use Rattle.plans.specs.Entries.{maskSizeFor}
 use Rattle.listing_sizes.proofs.Sizes.{mask-size-small}
-use Rattle.row_words.specs.Words.{wordCount, wordsOf, wordsSize}
+use Rattle.queries.specs.Words.{wordCount, wordsOf, wordsSize}
 use Rattle.row_words.proofs.Words.{length-words}
 use borrow.Author.Needs.{needs}
 use Rattle.row_words.proofs.write_rows.Statement.{statement}

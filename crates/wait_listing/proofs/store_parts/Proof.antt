@@ -7,8 +7,8 @@ use lib.Seq.{sets}
 use Rattle.plans.specs.Entries.{slots}
 use Rattle.wait_fields.specs.Fields.{entryShown, waitedIn}
 use Rattle.listing_sizes.specs.Sizes.{partSize, listSize}
-use Rattle.listing_sizes.specs.InTurn.{inTurn}
-use Rattle.listing_sizes.proofs.InTurn.{turn-stores}
+use Rattle.encoding.specs.InTurn.{inTurn}
+use Rattle.encoding.proofs.InTurn.{turn-stores}
 use Rattle.wait_listing.specs.Listing.{partIn}
 use Rattle.wait_parts.proofs.Parts.{length-part}
 use Rattle.listing_sizes.proofs.Sizes.{list-small}

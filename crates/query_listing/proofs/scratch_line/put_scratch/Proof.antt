@@ -2,7 +2,7 @@
 use native.Mathlib.Omega.{arith}
 use Rattle.plans.specs.Entries.{maskSizeFor}
 use Rattle.listing_sizes.proofs.Sizes.{mask-size-small}
-use Rattle.row_words.specs.Words.{wordsSize}
+use Rattle.queries.specs.Words.{wordsSize}
 use Rattle.row_words.proofs.Words.{words-small}
 use borrow.Author.Needs.{needs}
 use Rattle.query_listing.proofs.scratch_line.put_scratch.Statement.{statement}

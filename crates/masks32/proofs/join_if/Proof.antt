@@ -1,7 +1,7 @@
 -- `join_if` meets its contract. Assumes nothing.
 use borrow.Author.Needs.{needs}
-use Rattle.facing.proofs.join_if.Statement.{statement}
-use Rattle.facing.proofs.join_if.Tie as tie
+use Rattle.masks32.proofs.join_if.Statement.{statement}
+use Rattle.masks32.proofs.join_if.Tie as tie
 
 returns : tie.Need-returns
 returns c = rw (c .if1 .taken)

@@ -9,10 +9,10 @@ use native.Mathlib.Numerals.{add-one}
 use native.Mathlib.Omega.{arith}
 use lib.ListN.{length, take, drop, length-append, length-drop}
 use lib.Seq.{sets, length-sets, take-append-le, drop-append-le, take-all, drop-at}
 use Rattle.encoding.specs.Buffers.{roomFault, bufferAfter}
 use Rattle.encoding.proofs.Room.{stored-where-fits}
 use Rattle.encoding.proofs.Stores.{sets-append}
-use Rattle.listing_sizes.specs.InTurn.{inTurn}
+use Rattle.encoding.specs.InTurn.{inTurn}
 
 pub in-turn-more : (n : ℕ) (f : ℕ → List ℕ) → inTurn (n + 1) f ≡ inTurn n f ++ f n
 unfolding inTurn

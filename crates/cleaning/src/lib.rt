@@ -1,14 +1,14 @@
 // Which requests of a state count. Specification, clause 4.10.
-use crate::Terms;
 use known_requests::ALL;
 use known_requests::entries_below;
 use masks32::without32;
 use plans::SLOTS;
 use settling::Phases;
+use states::Terms;
 ghost use mathlib.Core.Path.{_≡_};
 ghost use Rattle.masks.specs.Sets.{maskOf};
 ghost use Rattle.plans.specs.Entries.{slots};
 ghost use Rattle.states.specs.Requests.{hasProcessor, cleaned};
 
 // The processors of the plan.
 fn processors_of(terms: Terms) -> u32

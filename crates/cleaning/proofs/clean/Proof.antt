@@ -1,8 +1,8 @@
 -- `clean` meets its contract, by the law of the requests that count. Assumes nothing.
 use borrow.Author.Needs.{needs}
-use Rattle.states.proofs.Cleaning.{cleaned-masks}
-use Rattle.states.proofs.requests.clean.Statement.{statement}
-use Rattle.states.proofs.requests.clean.Tie as tie
+use Rattle.cleaning.proofs.Cleaning.{cleaned-masks}
+use Rattle.cleaning.proofs.clean.Statement.{statement}
+use Rattle.cleaning.proofs.clean.Tie as tie
 
 returns : tie.Need-returns
 returns c =

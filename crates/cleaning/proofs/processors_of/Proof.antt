@@ -7,9 +7,9 @@ use borrow.Author.Needs.{needs}
 use borrow.Author.Tests.{lt-ltb}
 use Rattle.masks.proofs.Shifts.{one-shifted}
 use Rattle.plans.specs.Entries.{slots}
-use Rattle.states.proofs.Cleaning.{processors-are}
-use Rattle.states.proofs.requests.processors_of.Statement.{statement}
-use Rattle.states.proofs.requests.processors_of.Tie as tie
+use Rattle.cleaning.proofs.Cleaning.{processors-are}
+use Rattle.cleaning.proofs.processors_of.Statement.{statement}
+use Rattle.cleaning.proofs.processors_of.Tie as tie
 
 sub-result : tie.Need-sub-result
 sub-result c = rw (one-shifted 32 (c .before .before .args .terms .processors) (omega arith)) (pow-pos _)

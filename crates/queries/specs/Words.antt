@@ -4,7 +4,7 @@ use mathlib.Core.List.{List}
 use lib.ListN.{length, getD}
 use Rattle.encoding.specs.Numbers.{bytesOf}
 use Rattle.encoding.specs.Buffers.{roomFault, bufferAfter}
-use Rattle.listing_sizes.specs.InTurn.{inTurn}
+use Rattle.encoding.specs.InTurn.{inTurn}
 
 -- Clause 7.4: the numbers f 0, f 1, .. below n as words of k bytes, one after the other.
 unfoldable pub wordsOf : ℕ → ℕ → (ℕ → ℕ) → List ℕ
