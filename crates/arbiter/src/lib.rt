@@ -2,16 +2,19 @@
 // Every core's call goes through `answer`; the reply says who began to hold. `issue`, `complete`, `withdraw` and
 // `handover` are the same by name. The crates `issuing`, `completing`, `withdrawing`, `handing_over` and `answering`
 // have the calls on lent arrays: no copies.
+mod answering_by_value;
+
 pub use answering_by_value::Answered;
 pub use answering_by_value::answer;
-use calls::Call;
-use settling::Phases;
-use states::Board;
-use states::State;
-use cleaning::clean;
+pub use answering_by_value::answer_on;
+use rules::Board;
+use rules::Call;
+use rules::Phases;
+use rules::State;
+use settling::clean;
 ghost use mathlib.Core.Path.{_≡_};
 ghost use Rattle.rules.specs.Calls.{phasesOf, issued, completed, withdrawn, handedOver};
-ghost use Rattle.answering_by_value.specs.Answers.{answerOf};
+ghost use Rattle.arbiter.specs.Answers.{answerOf};
 
 // The phases of the requests that count: who waits, who is entitled and who holds.
 pub fn phases_of(board: Board, state: State) -> Phases

@@ -24,7 +24,7 @@ fn sum_over(bytes: &mut [u8; 707], turns: u64) -> u64
     while turn < turns {
         let i = (turn % 64) as usize;
         bytes[12 + 11 * i] = (turn / 64 % 255 + 1) as u8;
-        let read = plan_reader::read(bytes);
+        let read = plan_bytes::read(bytes);
         let outcome = read.outcome;
         let plan = read.plan;
         let entry = plan.entries[i];
@@ -38,6 +38,6 @@ pub fn sum_of(turns: u64) -> u64
     requires { ⌜ turns < 1000000000 ⌝ }
 {
     let mut bytes = [0; 707];
-    plan_writer::write(plan(16), &mut bytes, 0);
+    plan_bytes::write(plan(16), &mut bytes, 0);
     sum_over(&mut bytes, turns)
 }

@@ -1,10 +1,10 @@
 // Accepted calls, in place, on a board on which the first so many processors are never idle: each turn completes a
 // holder and issues again at once.
 use crate::board::plan;
-use calls::Reply;
-use states::Board;
-use states::Moment;
-use states::State;
+use rules::Board;
+use rules::Moment;
+use rules::Reply;
+use rules::State;
 ghost use Prim.Native.Nat.{_<_, _≤_};
 
 // The next number of a fixed sequence.
@@ -88,7 +88,7 @@ fn sum_from(board: Board, full: State, processors: u8, turns: u64) -> u64
         seed = next(seed);
         let p = holder_from(moment.phases.holding, place(seed, processors)) as u8;
         let e = (seed / 1048576 % 64) as u8;
-        let first = completing::complete_in_place(
+        let first = calls_in_place::complete_in_place(
             terms,
             &rows,
             &lengths,
@@ -100,7 +100,7 @@ fn sum_from(board: Board, full: State, processors: u8, turns: u64) -> u64
             tick,
         );
         let left = first.moment;
-        let second = issuing::issue_in_place(
+        let second = calls_in_place::issue_in_place(
             terms,
             &rows,
             left,

@@ -14,8 +14,8 @@ use Rattle.plans.specs.declared.Plan.{Plan}
 use Rattle.plans.specs.Entries.{mostEntries, isWrite, countedEntries, blankEntry, entryAt}
 use Rattle.conflicts.specs.declared.Conflicts.{Conflicts}
 use Rattle.conflicts.specs.Conflict.{conflictsOf}
-use Rattle.conflicts.proofs.Widening.{entry-at}
-use Rattle.states.specs.declared.Board.{Board}
+use Rattle.conflicts.proofs.WidenedSets.{entry-at}
+use Rattle.rules.specs.declared.states.Board.{Board}
 use Rattle.boards.specs.Fresh.{boardOf}
 
 -- Which counted entries are writes.

@@ -8,9 +8,9 @@ use Rattle.plans.specs.declared.Plan.{Plan}
 use Rattle.plans.specs.Entries.{slots, mostEntries, isWrite, entryAt}
 use Rattle.plans.specs.Acceptance.{planFault}
 use Rattle.conflicts.specs.Conflict.{conflictsOf}
-use Rattle.tabulation.specs.Tabulation.{tabulate}
-use Rattle.states.specs.declared.Board.{Board}
-use Rattle.states.specs.declared.State.{State}
+use Rattle.masks.specs.Tabulation.{tabulate}
+use Rattle.rules.specs.declared.states.Board.{Board}
+use Rattle.rules.specs.declared.states.State.{State}
 
 -- Clauses 4.3 and 1.5: no request is active, and the last accepted tick is 0. A processor has room for one request.
 abbrev pub freshState : State

@@ -1,18 +1,18 @@
 // The fresh arbiter of a plan: its board, made once for all calls, and the state in which nobody is active.
 // Specification, clauses 3.3 and 4.3.
-use acceptance::check;
 use conflicts::conflicts_of;
-use entry_kinds::is_write;
-use masks64::add64;
+use masks::add64;
+use plan_checks::check;
 use plans::ENTRIES;
 use plans::Entry;
 use plans::Plan;
 use plans::SLOTS;
+use plans::is_write;
 use refusals::Verdict;
-use settling::Phases;
-use states::Board;
-use states::State;
-use states::Terms;
+use rules::Board;
+use rules::Phases;
+use rules::State;
+use rules::Terms;
 ghost use mathlib.Core.Path.{_≡_};
 ghost use mathlib.Core.Bool.{cond, _&&_};
 ghost use lib.Dec.{ltb};

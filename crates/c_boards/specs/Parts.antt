@@ -3,10 +3,10 @@
 use Prim.Native.Nat.{ℕ}
 use mathlib.Core.List.{List}
 use lib.ListN.{getD}
-use Rattle.settling.specs.declared.Phases.{Phases}
-use Rattle.states.specs.declared.Terms.{Terms}
-use Rattle.states.specs.declared.Board.{Board}
-use Rattle.states.specs.declared.Moment.{Moment}
+use Rattle.rules.specs.declared.settling.Phases.{Phases}
+use Rattle.rules.specs.declared.states.Terms.{Terms}
+use Rattle.rules.specs.declared.states.Board.{Board}
+use Rattle.rules.specs.declared.states.Moment.{Moment}
 
 -- Clause 11.1: the counts of processors and of entries, and which entries are writes.
 abbrev pub termsBy : ℕ → ℕ → ℕ → Terms

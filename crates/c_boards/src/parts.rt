@@ -1,6 +1,6 @@
 // What a call changes of a state beside its arrays, from and to the caller's memory.
-use settling::Phases;
-use states::Moment;
+use rules::Moment;
+use rules::Phases;
 ghost use mathlib.Core.Path.{_≡_};
 ghost use Rattle.c_boards.specs.Parts.{phasesBy, momentBy};
 

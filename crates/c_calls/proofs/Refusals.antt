@@ -2,10 +2,10 @@
 use Prim.Native.Nat.{ℕ}
 use mathlib.Core.Path.{refl}
 use Rattle.rules.specs.Calls.{phasesOf, putState, takenState, done, settledDone, lateMark, issued, left, completed, withdrawn}
-use Rattle.states.specs.declared.Board.{Board}
-use Rattle.states.specs.declared.State.{State}
-use Rattle.states.specs.Faults.{issueFault, completeFault, withdrawFault}
-use Rattle.c_replies.proofs.Memory.{Stays, ruled-stays}
+use Rattle.rules.specs.declared.states.Board.{Board}
+use Rattle.rules.specs.declared.states.State.{State}
+use Rattle.rules.specs.Faults.{issueFault, completeFault, withdrawFault}
+use Rattle.c_calls.proofs.c_replies.Memory.{Stays, ruled-stays}
 
 pub issue-stays : (b : Board) (s : State) (p e t : ℕ) → Stays (issued b s p e t) s
 unfolding issued settledDone done

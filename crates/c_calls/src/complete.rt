@@ -1,16 +1,16 @@
 // A request is given back, on memory that the caller owns. Specification, section 4.
+use crate::c_replies::Replied;
+use crate::c_replies::finish;
 use c_boards::moment_of;
-use c_replies::Replied;
-use c_replies::finish;
-use completing::complete_in_place;
+use calls_in_place::complete_in_place;
 use plans::ENTRIES;
 use plans::SLOTS;
-use states::Terms;
+use rules::Terms;
 ghost use mathlib.Core.Path.{_≡_};
 ghost use Rattle.rules.specs.Calls.{completed};
 ghost use Rattle.rules.specs.InPlace.{boardBy, stateBy};
 ghost use Rattle.c_boards.specs.Parts.{termsBy, momentBy};
-ghost use Rattle.c_replies.specs.Replies.{answerIn};
+ghost use Rattle.c_calls.specs.Replies.{answerIn};
 
 // Processor gives its request back at a tick. Refused by 10, 11, 14, 15, in that order.
 #[no_mangle]

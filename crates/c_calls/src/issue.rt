@@ -1,17 +1,17 @@
 // A request is made, on memory that the caller owns. Specification, section 4.
+use crate::c_replies::Replied;
+use crate::c_replies::finish;
 use c_boards::moment_of;
-use c_replies::Replied;
-use c_replies::finish;
-use issuing::issue_in_place;
+use calls_in_place::issue_in_place;
 use plans::ENTRIES;
 use plans::SLOTS;
-use states::Terms;
+use rules::Terms;
 ghost use mathlib.Core.Path.{_≡_};
 ghost use mathlib.Core.List.{[]};
 ghost use Rattle.rules.specs.Calls.{issued};
 ghost use Rattle.rules.specs.InPlace.{boardBy, stateBy};
 ghost use Rattle.c_boards.specs.Parts.{termsBy, momentBy};
-ghost use Rattle.c_replies.specs.Replies.{answerIn};
+ghost use Rattle.c_calls.specs.Replies.{answerIn};
 
 // Processor asks for an entry at a tick. Refused by 10, 11, 12, 13, in that order.
 #[no_mangle]

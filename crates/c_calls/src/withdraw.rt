@@ -1,17 +1,17 @@
 // A request leaves the line, on memory that the caller owns. Specification, section 4.
+use crate::c_replies::Replied;
+use crate::c_replies::finish;
 use c_boards::moment_of;
-use c_replies::Replied;
-use c_replies::finish;
+use calls_in_place::withdraw_in_place;
 use plans::ENTRIES;
 use plans::SLOTS;
-use states::Terms;
-use withdrawing::withdraw_in_place;
+use rules::Terms;
 ghost use mathlib.Core.Path.{_≡_};
 ghost use mathlib.Core.List.{[]};
 ghost use Rattle.rules.specs.Calls.{withdrawn};
 ghost use Rattle.rules.specs.InPlace.{boardBy, stateBy};
 ghost use Rattle.c_boards.specs.Parts.{termsBy, momentBy};
-ghost use Rattle.c_replies.specs.Replies.{answerIn};
+ghost use Rattle.c_calls.specs.Replies.{answerIn};
 
 // Processor leaves the line at a tick, with a request that does not hold. Refused by 10, 11, 14, 17, in that order.
 #[no_mangle]

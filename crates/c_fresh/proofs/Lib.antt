@@ -1,1 +1,2 @@
 mod Outcomes
+mod StoreOutcomes

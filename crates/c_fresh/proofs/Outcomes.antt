@@ -9,10 +9,10 @@ use Rattle.encoding.specs.declared.Outcome.{Outcome}
 use Rattle.encoding.specs.Buffers.{outcomeSays}
 use Rattle.plans.specs.declared.Plan.{Plan}
 use Rattle.plans.specs.Reading.{readFault, readSays, planRead}
-use Rattle.states.specs.declared.Board.{Board}
-use Rattle.states.specs.declared.State.{State}
+use Rattle.rules.specs.declared.states.Board.{Board}
+use Rattle.rules.specs.declared.states.State.{State}
 use Rattle.boards.specs.Fresh.{freshBoard, freshState}
-use Rattle.c_stores.specs.Stores.{boardLeft, stateLeft}
+use Rattle.c_fresh.specs.Stores.{boardLeft, stateLeft}
 use Rattle.c_fresh.specs.Fresh.{boardAfter, stateAfterPlan}
 
 board-by-number : (o : Outcome) (p : Plan) (before : Board)

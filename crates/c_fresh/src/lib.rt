@@ -1,11 +1,14 @@
 // A fresh arbiter from the bytes of a plan, into memory that a program in C or Rust owns; and the version of the
 // archive. include/bittmelon.h declares what is exported. Specification, sections 4 and 11.
-use c_answers::told_bytes;
+mod board;
+mod state;
+
+use board::store_board;
 use c_boards::Told;
-use c_stores::store_board;
-use c_stores::store_state;
+use c_boards::told_bytes;
 use plans::ENTRIES;
 use plans::SLOTS;
+use state::store_state;
 ghost use mathlib.Core.Path.{_≡_};
 ghost use Rattle.plans.specs.Reading.{readSays};
 ghost use Rattle.rules.specs.InPlace.{stateBy};
@@ -50,7 +53,7 @@ pub extern "C" fn bittmelon_fresh_parts(
         ≡ stateAfterPlan (now (plan .entry)) (stateBy (momentBy (now (last .entry)) (now (phases .entry)))
         (now (entry .entry)) (now (since .entry)) (now (earlier .entry))) ⌝ }
 {
-    let read = plan_reader::read(plan);
+    let read = plan_bytes::read(plan);
     let outcome = read.outcome;
     let value = read.plan;
     store_board(

@@ -1,24 +1,28 @@
 // The queries on memory that a program in C or Rust owns. Its parts are lent as pointers, and nothing but a lent buffer
 // is changed. include/bittmelon.h declares these functions. Specification, sections 7 and 11.
-use board_queries::list_board_in_place;
-use c_answers::told_bytes;
-use c_answers::told_mask;
-use c_answers::told_phase;
+mod c_contention;
+
 use c_boards::Told;
 use c_boards::moment_of;
 use c_boards::phases_of;
-use phase_queries::phase_in_place;
+use c_boards::told_bytes;
+use c_boards::told_mask;
+use c_boards::told_phase;
+pub use c_contention::SharedTold;
+pub use c_contention::bittmelon_shared_parts;
 use plans::ENTRIES;
 use plans::SLOTS;
-use reach_queries::reach_in_place;
-use states::Terms;
-use wait_queries::direct_waits_in_place;
+use queries::direct_waits_in_place;
+use queries::list_board_in_place;
+use queries::phase_in_place;
+use reach::reach_in_place;
+use rules::Terms;
 ghost use mathlib.Core.Path.{_≡_};
 ghost use mathlib.Core.List.{[]};
 ghost use Rattle.rules.specs.InPlace.{boardBy, stateBy};
 ghost use Rattle.queries.specs.Queries.{phaseQuery, waitsQuery, reachQuery, reachScratch};
 ghost use Rattle.queries.specs.Parts.{boardWith, stateWith};
-ghost use Rattle.board_queries.specs.WholeBoard.{boardQuery, boardBuffer};
+ghost use Rattle.queries.specs.WholeBoard.{boardQuery, boardBuffer};
 ghost use Rattle.c_boards.specs.Parts.{termsBy, phasesBy, momentBy};
 ghost use Rattle.c_boards.specs.Answers.{toldSays};
 

@@ -1,13 +1,13 @@
 // Reads a plan from standard input, and prints for each pair of its entries what they conflict over: the
 // lowest-numbered resource that they share, and how many. A test program: its output is compared with another's.
-use contention::SharedAnswer;
-use contention::shared_by;
+use conflicts::Conflict;
 use encoding::Outcome;
 use libc::STDIN_FILENO;
 use libc::STDOUT_FILENO;
+use queries::SharedAnswer;
+use queries::shared_by;
 use refusals::Refusal;
-use sharing::Conflict;
-use states::Board;
+use rules::Board;
 
 // The bytes of the longest plan.
 const PLAN_ROOM: usize = 707;
@@ -65,7 +65,7 @@ fn print_pairs(board: Board, count: u8) {
 fn main() {
     let mut bytes = [0u8; PLAN_ROOM];
     let filled = io::read_full(STDIN_FILENO, &mut bytes);
-    let read = plan_reader::read(&bytes[..filled]);
+    let read = plan_bytes::read(&bytes[..filled]);
     let outcome = read.outcome;
     match outcome {
         Outcome::Bytes(_) => {

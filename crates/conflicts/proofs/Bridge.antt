@@ -18,8 +18,8 @@ use Rattle.plans.specs.declared.Entry.{Entry}
 use Rattle.plans.specs.declared.Plan.{Plan}
 use Rattle.plans.specs.Entries.{isRead, isWrite, countedEntries, blankEntry, entryAt}
 use Rattle.plans.specs.Acceptance.{planFault}
-use Rattle.widening.specs.Widening.{widen, widenedSet}
-use Rattle.widening.proofs.Names.{broughtTo}
+use Rattle.conflicts.specs.Widening.{widen, widenedSet}
+use Rattle.conflicts.proofs.widening.Names.{broughtTo}
 use Rattle.conflicts.specs.Conflict.{shared, conflict, inConflict}
 use Rattle.conflicts.proofs.Accepted.{write-not-empty}
 

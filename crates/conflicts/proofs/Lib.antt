@@ -1,5 +1,6 @@
-pub mod Widening
+pub mod WidenedSets
 pub mod Pairs
 pub mod Rows
 pub mod Accepted
 pub mod Bridge
+pub mod Over

@@ -13,11 +13,11 @@ use Rattle.masks.proofs.Masks.{mask-next}
 use Rattle.plans.specs.declared.Entry.{Entry}
 use Rattle.plans.specs.declared.Plan.{Plan}
 use Rattle.plans.specs.Entries.{mostEntries, isRead, isWrite, countedEntries, blankEntry, entryAt}
-use Rattle.sharing.specs.Sharing.{sharedBy, Over, over}
-use Rattle.widening.specs.Widening.{widenedSet}
+use Rattle.conflicts.specs.Sharing.{sharedBy, Over, over}
+use Rattle.conflicts.specs.Widening.{widenedSet}
 use Rattle.conflicts.specs.Conflict.{shared, conflict, inConflict, conflictsOf}
-use Rattle.sharing.proofs.Over.{over-is}
-use Rattle.conflicts.proofs.Widening.{entry-at, widened-counted, widened-at}
+use Rattle.conflicts.proofs.Over.{over-is}
+use Rattle.conflicts.proofs.WidenedSets.{entry-at, widened-counted, widened-at}
 
 -- What two entries share, by their widened sets a and b, and whether they conflict.
 abbrev pub pairShares : Entry → ℕ → Entry → ℕ → ℕ

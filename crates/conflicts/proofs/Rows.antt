@@ -11,7 +11,7 @@ use Rattle.masks.proofs.Masks.{bit-mask-at, mask-below}
 use Rattle.plans.specs.declared.Plan.{Plan}
 use Rattle.plans.specs.Entries.{mostEntries}
 use Rattle.conflicts.specs.Conflict.{inConflict, conflictsOf}
-use Rattle.tabulation.proofs.Tabulate.{getD-tabulate, getD-tabulate-past}
+use Rattle.masks.proofs.Tabulate.{getD-tabulate, getD-tabulate-past}
 
 module _ (p : Plan) where
   pub row-is : (i : ℕ) → i < mostEntries → getD (conflictsOf p .rows) i 0 ≡ maskOf mostEntries (inConflict p i)

@@ -5,12 +5,12 @@ use mathlib.Core.List.{List}
 use lib.Bits.{bitAnd}
 use lib.Dec.{eqb, ltb}
 use Rattle.masks.specs.Sets.{maskOf}
-use Rattle.tabulation.specs.Tabulation.{tabulate}
+use Rattle.masks.specs.Tabulation.{tabulate}
 use Rattle.plans.specs.declared.Entry.{Entry}
 use Rattle.plans.specs.declared.Plan.{Plan}
 use Rattle.plans.specs.Entries.{mostEntries, isRead, isWrite, countedEntries, entryAt}
-use Rattle.sharing.specs.Sharing.{sharedBy}
-use Rattle.widening.specs.Widening.{widenedSet}
+use Rattle.conflicts.specs.Sharing.{sharedBy}
+use Rattle.conflicts.specs.Widening.{widenedSet}
 use Rattle.conflicts.specs.declared.Conflicts.{Conflicts}
 
 -- Clause 3.2: what stands between two entries of a plan.

@@ -1,1 +1,3 @@
 pub mod Conflict
+pub mod Sharing
+pub mod Widening

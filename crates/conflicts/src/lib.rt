@@ -1,8 +1,13 @@
 // Which entries of a plan conflict: worked out once for all pairs of entries, and read by settling.
-use masks64::add64;
+mod sharing;
+mod widening;
+
+use masks::add64;
 use plans::ENTRIES;
 use plans::Entry;
 use plans::Plan;
+pub use sharing::Conflict;
+pub use sharing::conflict_by;
 use sharing::is_conflict;
 use sharing::pair_conflict;
 use widening::widened_set;
@@ -12,7 +17,7 @@ ghost use Prim.Native.Nat.{_<_};
 ghost use lib.Dec.{ltb};
 ghost use Rattle.masks.specs.Sets.{added, maskOf};
 ghost use Rattle.plans.specs.Entries.{mostEntries, countedEntries, entryAt};
-ghost use Rattle.widening.specs.Widening.{widenedSet};
+ghost use Rattle.conflicts.specs.Widening.{widenedSet};
 ghost use Rattle.conflicts.specs.Conflict.{inConflict, conflictsOf};
 
 // Bit j of row i: entries i and j conflict. The names of each entry; the widened set of each write, and of each read

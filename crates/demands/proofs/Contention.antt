@@ -15,16 +15,16 @@ use Rattle.plans.specs.declared.Plan.{Plan}
 use Rattle.plans.specs.Entries.{mostEntries, isRead, isWrite, countedEntries, entryAt}
 use Rattle.plans.specs.Acceptance.{planFault}
 use Rattle.plans.proofs.Accepted.{accepted-count}
-use Rattle.sharing.specs.Sharing.{sharedBy, Over, over}
-use Rattle.sharing.proofs.Over.{over-is}
-use Rattle.widening.specs.Widening.{widenedSet}
+use Rattle.conflicts.specs.Sharing.{sharedBy, Over, over}
+use Rattle.conflicts.proofs.Over.{over-is}
+use Rattle.conflicts.specs.Widening.{widenedSet}
 use Rattle.conflicts.specs.Conflict.{shared, conflict, inConflict, conflictsOf}
 use Rattle.conflicts.proofs.Accepted.{read-or-write}
-use Rattle.tabulation.proofs.Tabulate.{getD-tabulate}
-use Rattle.conflicts.proofs.Widening.{widened-at}
+use Rattle.masks.proofs.Tabulate.{getD-tabulate}
+use Rattle.conflicts.proofs.WidenedSets.{widened-at}
 use Rattle.boards.specs.Fresh.{boardOf}
 use Rattle.runs.proofs.refinement.Board.{write-on-board, conflict-on-board}
-use Rattle.contention.specs.Contention.{sharedIn, SharedSaid, sharedOf, sharedQuery}
+use Rattle.queries.specs.Contention.{sharedIn, SharedSaid, sharedOf, sharedQuery}
 
 counted-on-board : (p : Plan) (k : ℕ) → k < p .count → ltb k (boardOf p .terms .count) ≡ true
 unfolding boardOf

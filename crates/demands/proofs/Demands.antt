@@ -6,8 +6,8 @@ pub use Rattle.plans.proofs.RoundTrip.{written-in-buffer, written-back}
 pub use Rattle.runs.proofs.Handover.{leaves-what-both-leave, grants-of-both, entitlements-of-both}
 pub use Rattle.demands.proofs.Handover.{handover-grants, handover-entitles}
 pub use Rattle.runs.proofs.refinement.WholeRuns.{whole-runs}
-pub use Rattle.freedom.proofs.Freedom.{no-deadlock}
-pub use Rattle.board_queries.proofs.WholeBoard.{part-is-queries}
+pub use Rattle.runs.proofs.Freedom.{no-deadlock}
+pub use Rattle.queries.proofs.WholeBoard.{part-is-queries}
 pub use Rattle.register_runs.proofs.Runs.{pending-are-grants, grant-stays, line-is-right, calls-of-run, register-runs}
 use Prim.Native.Nat.{ℕ, _<_}
 use mathlib.Core.Path.{_≡_, refl, _∙_}
@@ -20,18 +20,18 @@ use Rattle.plans.specs.declared.Plan.{Plan}
 use Rattle.plans.specs.Acceptance.{planFault}
 use Rattle.plans.specs.Reading.{readFault, readSays, planIn, planRead, blankPlan}
 use Rattle.plans.specs.Writing.{planBytes, writeFault, writeSays, writtenBuffer}
-use Rattle.calls.specs.declared.Call.{Call}
-use Rattle.calls.specs.Replies.{refusedWith}
-use Rattle.states.specs.declared.Board.{Board}
-use Rattle.states.specs.declared.State.{State}
-use Rattle.states.specs.Faults.{processorFault, issueFault, completeFault, withdrawFault, handoverFault}
+use Rattle.rules.specs.declared.calls.Call.{Call}
+use Rattle.rules.specs.Replies.{refusedWith}
+use Rattle.rules.specs.declared.states.Board.{Board}
+use Rattle.rules.specs.declared.states.State.{State}
+use Rattle.rules.specs.Faults.{processorFault, issueFault, completeFault, withdrawFault, handoverFault}
 use Rattle.rules.specs.Calls.{Answer, phasesOf, putState, takenState, settledDone, lateMark, ruled, issued, left, completed, withdrawn, both, handedOver, answered}
 use Rattle.boards.specs.Fresh.{boardOf, blankBoard, freshBoard}
 use Rattle.rules.specs.InPlace.{boardBy, stateBy}
 use Rattle.queries.specs.Queries.{reachFault, reachBytes, reachQuery, reachScratch}
-use Rattle.wait_listing.specs.Listing.{listFault, listBuffer}
-use Rattle.board_queries.specs.WholeBoard.{boardBytes, boardFault, boardQuery, boardBuffer}
-use Rattle.record_calls.specs.Verbs.{noFields}
+use Rattle.board_list.specs.Listing.{listFault, listBuffer}
+use Rattle.queries.specs.WholeBoard.{boardBytes, boardFault, boardQuery, boardBuffer}
+use Rattle.logs.specs.Verbs.{noFields}
 use Rattle.logs.specs.Records.{fieldsIn, recordFault, readRecord}
 
 -- Demand 1. What meets no refusal condition is carried out to the end; everything else is refused by the number due in

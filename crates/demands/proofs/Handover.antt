@@ -9,14 +9,14 @@ use Rattle.masks.specs.Sets.{bit}
 use Rattle.plans.specs.declared.Plan.{Plan}
 use Rattle.plans.specs.Entries.{slots}
 use Rattle.plans.specs.Acceptance.{planFault}
-use Rattle.calls.specs.declared.Call.{Call}
-use Rattle.settling.specs.declared.Phases.{Phases}
-use Rattle.states.specs.Faults.{handoverFault}
+use Rattle.rules.specs.declared.calls.Call.{Call}
+use Rattle.rules.specs.declared.settling.Phases.{Phases}
+use Rattle.rules.specs.Faults.{handoverFault}
 use Rattle.rules.specs.Calls.{Answer, phasesOf, answered}
 use Rattle.boards.specs.Fresh.{boardOf}
 use Rattle.runs.proofs.Handover.{grants-exactly, entitles-exactly}
-use Rattle.freedom.specs.Freedom.{reachedBy}
-use Rattle.freedom.proofs.Reached.{reached}
+use Rattle.runs.specs.Freedom.{reachedBy}
+use Rattle.runs.proofs.Reached.{reached}
 
 -- The phases before the handover, and its answer.
 abbrev pub before : Plan → List Call → Phases

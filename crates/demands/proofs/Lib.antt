@@ -1,3 +1,4 @@
 pub mod Demands
 pub mod Contention
 pub mod Handover
+pub mod Logs

@@ -1,4 +1,5 @@
 pub mod Table
-pub mod Decimals
+pub mod DecimalDigits
 pub mod Placed
 pub mod Begun
+pub mod Stores

@@ -1,12 +1,14 @@
 // Numbers as digits of ASCII: the table of the digits of every byte, and how many digits a number has. `listings`
 // stores them.
+mod decimals;
+mod tables;
+
+pub use decimals::put_decimal;
 use tables::HEX_PAIRS;
 ghost use mathlib.Core.Path.{_≡_};
 ghost use Prim.Native.Nat.{_≤_, _<_};
 ghost use lib.ListN.{length, getD};
 ghost use Rattle.digits.specs.Digits.{decimal, hexPairs};
-
-mod tables;
 
 // Clause 9.9: the table of the two hexadecimal digits of every byte. A constant is stored anew wherever it is named, so
 // whoever writes many lines takes the table once, and lends it.

@@ -1,11 +1,11 @@
 // The figures of a plan: the longest that a read and a write wait.
-use entry_kinds::counted_of;
-use entry_kinds::is_read;
-use entry_kinds::is_write;
 use plans::ENTRIES;
 use plans::Entry;
 use plans::Figures;
 use plans::Plan;
+use plans::counted_of;
+use plans::is_read;
+use plans::is_write;
 ghost use mathlib.Core.Path.{_≡_};
 ghost use mathlib.Core.Bool.{cond};
 ghost use Prim.Native.Nat.{_-_, _<_, _≤_, max};

@@ -5,13 +5,13 @@ use mathlib.Core.List.{List}
 use Rattle.refusals.specs.declared.Refusal.{Refusal}
 use Rattle.refusals.specs.Number.{numberOf}
 use Rattle.refusals.proofs.Numbers.{number-not-zero}
-use Rattle.calls.specs.declared.Reply.{Reply}
-use Rattle.calls.specs.declared.Call.{Call}
-use Rattle.calls.specs.Replies.{Response, replySays}
+use Rattle.rules.specs.declared.calls.Reply.{Reply}
+use Rattle.rules.specs.declared.calls.Call.{Call}
+use Rattle.rules.specs.Replies.{Response, replySays}
 use Rattle.plans.specs.Entries.{maskSizeFor}
 use Rattle.digits.specs.Digits.{hexPairs}
 use Rattle.digits.proofs.Table.{mask-digits}
-use Rattle.lines.specs.Lines.{doneFields, refusedFields}
+use Rattle.listings.specs.PlainLines.{doneFields, refusedFields}
 use Rattle.listings.specs.Lines.{replyFields, callLine, callLineBy}
 
 -- What a reply has behind the processor.

@@ -1,3 +1,4 @@
 pub mod Fields
 pub mod LongestFirst
 pub mod LongestCall
+pub mod Room

@@ -9,15 +9,15 @@ use mathlib.Core.List.{[], _∷_}
 use lib.Dec.{eqb}
 use lib.ListN.{length}
 use Rattle.plans.specs.Entries.{maskSizeFor}
-use Rattle.calls.specs.declared.Call.{Call}
-use Rattle.calls.specs.Calls.{callSays}
-use Rattle.calls.specs.Replies.{Response}
+use Rattle.rules.specs.declared.calls.Call.{Call}
+use Rattle.rules.specs.CallNumbers.{callSays}
+use Rattle.rules.specs.Replies.{Response}
 use Rattle.digits.specs.Digits.{decimal, hexMask}
-use Rattle.lines.specs.Lines.{refusedWord, furtherFields, refusalLine}
+use Rattle.listings.specs.PlainLines.{refusedWord, furtherFields, refusalLine}
 use Rattle.listings.specs.Lines.{replyFields, letterOf, callLine}
-use Rattle.digits.proofs.Decimals.{few-digits, most-digits}
-use Rattle.mask_fields.proofs.MaskLengths.{least-bytes, most-bytes, length-hex}
-use Rattle.lines.proofs.Lengths.{done-length, refused-length, length-fields, length-refusal}
+use Rattle.digits.proofs.DecimalDigits.{few-digits, most-digits}
+use Rattle.line_fields.proofs.MaskLengths.{least-bytes, most-bytes, length-hex}
+use Rattle.listings.proofs.lines.Lengths.{done-length, refused-length, length-fields, length-refusal}
 
 -- A reply takes so many bytes more than its late mark, or two more than its number has digits.
 reply-most : (n : ℕ) → 2 ≤ n → (reply : Response) (k : ℕ) → length (decimal (reply .number)) ≤ 2 + k → length (decimal (reply .late)) ≤ k

@@ -18,10 +18,10 @@ use Rattle.plans.specs.Figures.{longest, readFigure, writeFigure}
 use Rattle.plans.proofs.Fits.{Fits-plan, Fit-entries}
 use Rattle.plans.proofs.Faults.{within-most}
 use Rattle.digits.specs.Digits.{digits, decimal}
-use Rattle.lines.specs.Lines.{furtherFields}
+use Rattle.listings.specs.PlainLines.{furtherFields}
 use Rattle.listings.specs.Lines.{firstLine}
-use Rattle.digits.proofs.Decimals.{few-digits, most-digits}
-use Rattle.lines.proofs.Lengths.{length-numbers}
+use Rattle.digits.proofs.DecimalDigits.{few-digits, most-digits}
+use Rattle.listings.proofs.lines.Lengths.{length-numbers}
 
 -- ---- the figures of a plan
 

@@ -6,11 +6,11 @@ use lib.Dec.{eqb}
 use Rattle.plans.specs.declared.Plan.{Plan}
 use Rattle.plans.specs.Entries.{maskSizeFor}
 use Rattle.plans.specs.Figures.{readFigure, writeFigure}
-use Rattle.calls.specs.declared.Call.{Call}
-use Rattle.calls.specs.Calls.{callSays}
-use Rattle.calls.specs.Replies.{Response}
+use Rattle.rules.specs.declared.calls.Call.{Call}
+use Rattle.rules.specs.CallNumbers.{callSays}
+use Rattle.rules.specs.Replies.{Response}
 use Rattle.digits.specs.Digits.{hexMask, maskBy}
-use Rattle.lines.specs.Lines.{numbersLine, doneFields, refusedFields, fieldsLine}
+use Rattle.listings.specs.PlainLines.{numbersLine, doneFields, refusedFields, fieldsLine}
 
 -- Clause 9.6: the first line has the plan's counts and its two figures.
 unfoldable pub firstLine : Plan → List ℕ

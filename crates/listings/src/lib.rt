@@ -1,9 +1,16 @@
 // The first line of a listing, from its plan, and the line of a refusal, as bytes in a lent buffer (specification,
 // section 9). `call_lines` has the line of a call and its reply, which is defined here too. `lockreplay` prints them.
+mod call_lines;
+mod done_lines;
+mod first_lines;
+mod lines;
+
+pub use call_lines::call_line_by;
 use encoding::Outcome;
 use figures::figures_of;
 use first_lines::numbers_line;
 use lines::fault_line;
+pub use lines::line_size;
 use plans::Plan;
 use refusals::Refusal;
 use refusals::number;
@@ -11,7 +18,7 @@ ghost use mathlib.Core.Path.{_≡_};
 ghost use lib.ListN.{length};
 ghost use Rattle.refusals.specs.Number.{numberOf};
 ghost use Rattle.encoding.specs.Buffers.{outcomeSays};
-ghost use Rattle.lines.specs.Lines.{refusalLine, lineSays, lineBuffer};
+ghost use Rattle.listings.specs.PlainLines.{refusalLine, lineSays, lineBuffer};
 ghost use Rattle.listings.specs.Lines.{firstLine};
 
 // Clause 9.6: the first line, of any plan value.

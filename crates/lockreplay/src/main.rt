@@ -2,28 +2,28 @@
 // `log_ends` and `replay`: no contract can say what is read or written, so the work is done on slices there.
 // `whole_listing/specs/Arrivals.antt` has the same turns over the same buffers as a definition, which is proved to be
 // the listing.
-use call_counts::COUNT_BYTES;
 use encoding::Outcome;
-use fronts::bring_to_front;
-use fronts::copy_in;
 use libc::STDERR_FILENO;
 use libc::STDIN_FILENO;
 use libc::STDOUT_FILENO;
-use lines::line_size;
-use log_ends::count;
-use log_ends::finish;
+use listings::line_size;
 use log_input::Fed;
+use log_input::bring_to_front;
+use log_input::copy_in;
+use log_input::due_size;
 use log_input::fill_plan;
 use log_input::fill_to;
-use log_openings::Begun;
-use log_openings::begin;
+use logs::COUNT_BYTES;
 use logs::CountAnswer;
 use logs::RECORD_BYTES;
-use needed_input::due_size;
+use replay::Begun;
 use replay::RanBlock;
+use replay::begin;
+use replay::count;
+use replay::finish;
 use replay::run;
-use states::Board;
-use states::State;
+use rules::Board;
+use rules::State;
 use whole_listing::BLOCK_ROOM;
 use whole_listing::LINES_ROOM;
 use whole_listing::PLAN_ROOM;

@@ -1,5 +1,5 @@
 // Reads into a lent buffer, behind the bytes that it has.
-use needed_input::is_short;
+use crate::needed_input::is_short;
 ghost use mathlib.Core.Path.{_≡_};
 ghost use Prim.Native.Nat.{_+_, _≤_, min};
 ghost use lib.ListN.{length, take};

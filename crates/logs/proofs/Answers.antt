@@ -6,10 +6,10 @@ use lib.ListN.{length}
 use Rattle.refusals.specs.declared.Refusal.{Refusal}
 use Rattle.refusals.specs.Number.{numberOf}
 use Rattle.encoding.proofs.Room.{enough-length}
-use Rattle.calls.specs.declared.Call.{Call}
-use Rattle.calls.specs.Calls.{callSays, callOf}
-use Rattle.record_calls.specs.declared.RecordAnswer.{RecordAnswer}
-use Rattle.record_calls.specs.Verbs.{recordSays}
+use Rattle.rules.specs.declared.calls.Call.{Call}
+use Rattle.rules.specs.CallNumbers.{callSays, callOf}
+use Rattle.logs.specs.declared.record_calls.RecordAnswer.{RecordAnswer}
+use Rattle.logs.specs.Verbs.{recordSays}
 use Rattle.logs.specs.declared.CountAnswer.{CountAnswer}
 use Rattle.logs.specs.Records.{countSize, countSays, readCount, fieldsIn, recordFault, readRecord}
 

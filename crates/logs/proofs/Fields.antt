@@ -7,7 +7,7 @@ use lib.Dec.{lit<}
 use lib.ListN.{length, getD, take, drop}
 use Rattle.encoding.specs.Numbers.{number}
 use Rattle.encoding.proofs.Numbers.{part-number}
-use Rattle.record_calls.specs.Verbs.{recorded}
+use Rattle.logs.specs.Verbs.{recorded}
 use Rattle.logs.specs.declared.CountAnswer.{CountAnswer}
 use Rattle.logs.specs.Records.{countSays, readCount, fieldsIn, recordFault, readRecord}
 

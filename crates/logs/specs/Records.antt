@@ -8,8 +8,8 @@ use Rattle.refusals.specs.Number.{numberOf}
 use Rattle.refusals.specs.Due.{Said, due, firstOf, said}
 use Rattle.encoding.specs.Numbers.{number}
 use Rattle.encoding.specs.Buffers.{shortFault}
-use Rattle.calls.specs.Calls.{Fields}
-use Rattle.record_calls.specs.Verbs.{Recorded, recordDue, verbFault}
+use Rattle.rules.specs.CallNumbers.{Fields}
+use Rattle.logs.specs.Verbs.{Recorded, recordDue, verbFault}
 use Rattle.logs.specs.declared.CountAnswer.{CountAnswer}
 
 -- Clauses 9.1 and 9.2: the bytes of the number of calls, and those of a call.

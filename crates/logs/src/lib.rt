@@ -1,12 +1,18 @@
 // A call's record in a log: its 8 bytes (specification, section 9). `call_counts` has the call count before the records
 // and the end behind them, which are defined here too. `lockreplay` reads a log record by record, so each function
 // looks only at the bytes from its record on.
-use number_reads::read_number;
-use record_calls::RecordAnswer;
+mod call_counts;
+mod record_calls;
+
+pub use call_counts::COUNT_BYTES;
+pub use call_counts::check_tail;
+pub use call_counts::read_count;
+use encoding::read_number;
+pub use record_calls::RecordAnswer;
 use record_calls::call_by;
 use refusals::Refusal;
 ghost use mathlib.Core.Path.{_≡_};
-ghost use Rattle.record_calls.specs.Verbs.{recordSays};
+ghost use Rattle.logs.specs.Verbs.{recordSays};
 ghost use Rattle.logs.specs.Records.{readRecord};
 
 // The bytes that a call's record takes. Its tick stands from the fourth byte on.

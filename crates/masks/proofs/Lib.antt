@@ -12,3 +12,4 @@ pub mod Gathers
 pub mod Tests
 pub mod Stores
 pub mod Counts
+pub mod Tabulate

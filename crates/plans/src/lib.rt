@@ -2,7 +2,15 @@
 // `acceptance` says which values are taken, `figures` works out the two figures of a plan, and `plan_reader` and
 // `plan_writer` carry plans from and to bytes; the definitions of all of that stand here. The functions that several
 // of these call are in `entry_kinds` and `plan_sizes`.
+mod entry_kinds;
+mod plan_sizes;
+
 use encoding::Outcome;
+pub use entry_kinds::counted_of;
+pub use entry_kinds::is_read;
+pub use entry_kinds::is_write;
+pub use plan_sizes::mask_size;
+pub use plan_sizes::plan_size;
 
 // The most processors of a plan: so many requests a state holds.
 pub const SLOTS: usize = 32;

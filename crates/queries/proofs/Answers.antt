@@ -16,15 +16,15 @@ use Rattle.refusals.proofs.Numbers.{first-accepted, due-accepted, number-not-ze
 use Rattle.encoding.specs.Buffers.{roomFault}
 use Rattle.encoding.proofs.Room.{room-fits}
 use Rattle.plans.specs.Entries.{slots}
-use Rattle.tabulation.specs.Tabulation.{tabulate}
-use Rattle.settling.specs.declared.Phases.{Phases}
-use Rattle.states.specs.declared.Terms.{Terms}
-use Rattle.states.specs.declared.Board.{Board}
-use Rattle.states.specs.declared.State.{State}
-use Rattle.states.specs.Requests.{hasProcessor}
-use Rattle.states.specs.Faults.{processorFault}
+use Rattle.masks.specs.Tabulation.{tabulate}
+use Rattle.rules.specs.declared.settling.Phases.{Phases}
+use Rattle.rules.specs.declared.states.Terms.{Terms}
+use Rattle.rules.specs.declared.states.Board.{Board}
+use Rattle.rules.specs.declared.states.State.{State}
+use Rattle.rules.specs.CountedRequests.{hasProcessor}
+use Rattle.rules.specs.Faults.{processorFault}
 use Rattle.rules.specs.Calls.{factsOf, phasesOf}
-use Rattle.waiting.specs.Waits.{waitsIn, waitsOf}
+use Rattle.waits.specs.Waits.{waitsIn, waitsOf}
 use Rattle.queries.specs.Queries.{waitsFor, scratchSize}
 use Rattle.queries.specs.inner.Rows.{directRows}
 

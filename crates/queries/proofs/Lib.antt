@@ -1,1 +1,4 @@
 pub mod Answers
+pub mod Waits
+pub mod Chains
+pub mod WholeBoard

@@ -1,10 +1,10 @@
 -- The parts of a board and a state that a single query reads.
 use Prim.Native.Nat.{ℕ}
 use mathlib.Core.List.{List, []}
-use Rattle.settling.specs.declared.Phases.{Phases}
-use Rattle.states.specs.declared.Terms.{Terms}
-use Rattle.states.specs.declared.Board.{Board}
-use Rattle.states.specs.declared.State.{State}
+use Rattle.rules.specs.declared.settling.Phases.{Phases}
+use Rattle.rules.specs.declared.states.Terms.{Terms}
+use Rattle.rules.specs.declared.states.Board.{Board}
+use Rattle.rules.specs.declared.states.State.{State}
 use Rattle.rules.specs.InPlace.{boardBy, stateBy}
 
 -- The board of these terms and conflict rows. No query of one processor reads its other parts.

@@ -8,13 +8,13 @@ use Rattle.masks.specs.Sets.{some, maskOf}
 use Rattle.refusals.specs.Due.{Said, firstOf, said}
 use Rattle.encoding.specs.Buffers.{roomFault, bufferAfter}
 use Rattle.plans.specs.Entries.{slots, maskSizeFor}
-use Rattle.states.specs.declared.Board.{Board}
-use Rattle.states.specs.declared.State.{State}
-use Rattle.states.specs.Faults.{processorFault}
+use Rattle.rules.specs.declared.states.Board.{Board}
+use Rattle.rules.specs.declared.states.State.{State}
+use Rattle.rules.specs.Faults.{processorFault}
 use Rattle.rules.specs.Calls.{factsOf, phasesOf}
-use Rattle.wait_fields.specs.Fields.{stateIn}
+use Rattle.board_list.specs.Fields.{stateIn}
 use Rattle.queries.specs.Words.{wordCount, wordsOf, wordsSize}
-use Rattle.waiting.specs.Waits.{waitsIn}
+use Rattle.waits.specs.Waits.{waitsIn}
 
 -- Clauses 7.1 and 4.10: the state of processor p is that of its request, where that counts; else p is idle.
 unfoldable pub stateNumber : Board → State → ℕ → ℕ

@@ -1,2 +1,24 @@
 // What a viewer asks of a state, as definitions (specs/): who holds and who waits, for whom, and for whom by a chain.
 // `phase_queries`, `wait_queries` and `reach_queries` answer it, and `board_queries` the whole board at once.
+mod board_queries;
+mod contention;
+mod phase_queries;
+mod query_answers;
+mod query_checks;
+mod wait_queries;
+
+pub use board_queries::list_board;
+pub use board_queries::list_board_in_place;
+pub use contention::SharedAnswer;
+pub use contention::shared_by;
+pub use contention::shared_on;
+pub use phase_queries::phase_in_place;
+pub use phase_queries::phase_of;
+pub use query_answers::MaskAnswer;
+pub use query_answers::Phase;
+pub use query_answers::PhaseAnswer;
+pub use query_answers::phase_number;
+pub use query_checks::check_processor;
+pub use wait_queries::direct_rows;
+pub use wait_queries::direct_waits;
+pub use wait_queries::direct_waits_in_place;

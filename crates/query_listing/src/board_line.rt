@@ -2,11 +2,11 @@
 // before.
 use crate::text::Page;
 use crate::text::put_bytes;
-use board_queries::list_board;
-use listing_sizes::list_size;
+use board_list::list_size;
 use plans::SLOTS;
-use states::Board;
-use states::State;
+use queries::list_board;
+use rules::Board;
+use rules::State;
 
 // The bytes of the longest list, and of what is behind it.
 const MOST: usize = 17 + 10 * SLOTS;

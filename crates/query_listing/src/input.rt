@@ -1,7 +1,7 @@
 // The log as it arrives, by value: no more is waited for than is needed to go on. A failed read is reported here.
-use fronts::bring_to_front;
 use libc::STDIN_FILENO;
 use log_input::Fed;
+use log_input::bring_to_front;
 use log_input::fill_plan;
 use log_input::fill_to;
 

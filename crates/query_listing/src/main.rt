@@ -8,23 +8,23 @@ mod scratch_line;
 mod text;
 
 use board_line::put_list;
-use call_counts::COUNT_BYTES;
 use encoding::Outcome;
 use input::INPUT_ROOM;
 use input::Input;
 use input::after;
 use input::opening;
-use lines::line_size;
-use log_openings::Begun;
+use listings::line_size;
+use log_input::due_size;
+use logs::COUNT_BYTES;
 use logs::CountAnswer;
 use logs::RECORD_BYTES;
-use needed_input::due_size;
 use plans::SLOTS;
 use query_line::query_line;
+use replay::Begun;
 use replay::RanBlock;
+use rules::Board;
+use rules::State;
 use scratch_line::put_scratch;
-use states::Board;
-use states::State;
 use text::PAGE_ROOM;
 use text::Page;
 use text::front;
@@ -106,7 +106,7 @@ fn show(line: Outcome, out: [u8; PAGE_ROOM], over: bool) {
 fn print_end(left: u16, input: Input) {
     let mut out = [0u8; PAGE_ROOM];
     let bytes = input.bytes;
-    let line = log_ends::finish(left, front(&bytes, input.have), &mut out);
+    let line = replay::finish(left, front(&bytes, input.have), &mut out);
     show(line, out, input.over);
 }
 
@@ -128,7 +128,7 @@ fn print_calls(board: Board, state: State, calls: u16, input: Input) {
 fn print_count(input: Input) -> CountAnswer {
     let mut out = [0u8; PAGE_ROOM];
     let bytes = input.bytes;
-    let counted = log_ends::count(front(&bytes, input.have), &mut out);
+    let counted = replay::count(front(&bytes, input.have), &mut out);
     let line = counted.line;
     show(line, out, input.over);
     counted.calls
@@ -150,7 +150,7 @@ fn print_rest(board: Board, state: State, input: Input) {
 fn print_plan(input: Input) -> Begun {
     let mut out = [0u8; PAGE_ROOM];
     let bytes = input.bytes;
-    let begun = log_openings::begin(front(&bytes, input.have), &mut out);
+    let begun = replay::begin(front(&bytes, input.have), &mut out);
     let line = begun.line;
     show(line, out, input.over);
     begun

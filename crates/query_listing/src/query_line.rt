@@ -5,17 +5,17 @@ use crate::text::put;
 use crate::text::put_decimal;
 use crate::text::put_hex;
 use crate::text::put_word;
-use phase_queries::phase_of;
-use plan_sizes::mask_size;
-use query_answers::MaskAnswer;
-use query_answers::PhaseAnswer;
-use query_answers::phase_number;
-use reach_queries::reach;
+use plans::mask_size;
+use queries::MaskAnswer;
+use queries::PhaseAnswer;
+use queries::direct_waits;
+use queries::phase_number;
+use queries::phase_of;
+use reach::MOST_ROOM;
+use reach::reach;
 use refusals::Refusal;
-use row_words::MOST_ROOM;
-use states::Board;
-use states::State;
-use wait_queries::direct_waits;
+use rules::Board;
+use rules::State;
 
 fn put_refusal(line: Line, refusal: Refusal) -> Line {
     put_decimal(put_word(line, b" refused "), refusals::number(refusal))

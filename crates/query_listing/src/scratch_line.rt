@@ -2,11 +2,11 @@
 // filled with 170 before.
 use crate::text::Page;
 use crate::text::put_bytes;
-use reach_queries::reach;
-use row_words::MOST_ROOM;
-use row_words::room_of;
-use states::Board;
-use states::State;
+use reach::MOST_ROOM;
+use reach::reach;
+use reach::room_of;
+use rules::Board;
+use rules::State;
 
 // The bytes of the longest scratch, and of what is behind it.
 const MOST: usize = MOST_ROOM + 16;

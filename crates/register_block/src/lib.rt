@@ -1,17 +1,23 @@
 // The register block as a driver knows it: lent to a call, and changed by it. Each function takes the block apart,
 // calls the one by value, and puts the block back. The arbiter's state goes in by value and comes back.
-use commands::Written;
+mod command_calls;
+mod command_registers;
+mod commands;
+mod register_writes;
+
+pub use commands::Change;
+pub use commands::Written;
 use plans::ENTRIES;
-use register_reads::read;
-use register_writes::write;
+pub use register_writes::write;
 use registers::Block;
 use registers::ReadAnswer;
-use states::State;
-use states::Terms;
+use registers::read;
+use rules::State;
+use rules::Terms;
 ghost use mathlib.Core.Path.{_≡_};
 ghost use Rattle.rules.specs.InPlace.{boardBy};
 ghost use Rattle.registers.specs.Registers.{registerRead, registerSays};
-ghost use Rattle.commands.specs.Commands.{registerWrite, writtenSays};
+ghost use Rattle.register_block.specs.Commands.{registerWrite, writtenSays};
 
 // Reads an offset of the block. Refused by 18.
 pub fn read_register(block: &Block, offset: u8) -> ReadAnswer

@@ -1,16 +1,16 @@
 // A driver's own block, lent to the functions that read and write it.
-use commands::Change;
 use plans::ENTRIES;
+use register_block::Change;
 use register_block::read_register;
 use register_block::write_register;
 use registers::Block;
 use registers::ReadAnswer;
-use states::State;
-use states::Terms;
+use rules::State;
+use rules::Terms;
 ghost use mathlib.Core.Path.{_≡_};
 ghost use Rattle.rules.specs.InPlace.{boardBy};
 ghost use Rattle.registers.specs.Registers.{registerRead, registerSays};
-ghost use Rattle.commands.specs.Commands.{registerWrite, changeSays};
+ghost use Rattle.register_block.specs.Commands.{registerWrite, changeSays};
 
 pub fn write_lent(
     terms: Terms,

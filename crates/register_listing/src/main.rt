@@ -8,8 +8,8 @@ mod text;
 use driver::read_lent;
 use driver::write_lent;
 use encoding::Outcome;
-use fronts::bring_to_front;
 use libc::STDIN_FILENO;
+use log_input::bring_to_front;
 use log_input::fill_plan;
 use log_input::fill_to;
 use plans::Plan;
@@ -18,8 +18,8 @@ use refusals::Verdict;
 use registers::BLOCK;
 use registers::Block;
 use registers::ReadAnswer;
-use states::Board;
-use states::State;
+use rules::Board;
+use rules::State;
 use text::Line;
 use text::empty_line;
 use text::print;
@@ -159,7 +159,7 @@ fn opened(plan: Plan) -> Kept {
 fn print_listing(input: Input) {
     let bytes = input.bytes;
     let end = input.have % COUNTS;
-    let read = plan_reader::read(&bytes[..end]);
+    let read = plan_bytes::read(&bytes[..end]);
     let outcome = read.outcome;
     match outcome {
         Outcome::Bytes(size) => {

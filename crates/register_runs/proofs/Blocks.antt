@@ -15,13 +15,13 @@ use Rattle.masks.proofs.Masks.{mask-below, bit-mask-at}
 use Rattle.encoding.specs.Numbers.{number, bytesOf}
 use Rattle.encoding.proofs.Bytes.{AreBytes}
 use Rattle.encoding.proofs.Numbers.{number-bytesOf, bytes-bytesOf}
-use Rattle.calls.specs.Replies.{Response, refusedWith}
+use Rattle.rules.specs.Replies.{Response, refusedWith}
 use Rattle.registers.specs.declared.Block.{Block}
 use Rattle.registers.specs.declared.Register.{Register}
 use Rattle.registers.specs.declared.Register.the-variants.{Pending}
 use Rattle.registers.specs.Registers.{registerAt, refusalIn, lateIn, grantedIn, entitledIn, pendingIn, raised, lineOf, withLine}
-use Rattle.register_stores.specs.Stores.{cleared, newByte, stored}
-use Rattle.command_registers.specs.Registers.{withMask, joined, acceptedBlock, refusedBlock, repliedBlock}
+use Rattle.registers.specs.Stores.{cleared, newByte, stored}
+use Rattle.register_block.specs.Registers.{withMask, joined, acceptedBlock, refusedBlock, repliedBlock}
 use Rattle.register_runs.specs.Steps.{replyIn}
 use Rattle.register_runs.proofs.Bytes.{bit-number, getD-slice, listed, by-elements}
 use Rattle.register_runs.proofs.Replies.{Holdable}

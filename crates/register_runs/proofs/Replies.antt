@@ -6,12 +6,12 @@ use mathlib.Core.Bool.{Bool, true, false, cond, true≢false}
 use lib.Dec.{eqb, lit<}
 use Rattle.masks.proofs.Masks.{mask-below-width}
 use Rattle.plans.specs.Entries.{slots}
-use Rattle.calls.specs.declared.Call.{Call}
-use Rattle.calls.specs.Replies.{Response, refusedWith}
-use Rattle.settling.specs.declared.Phases.{Phases}
-use Rattle.states.specs.declared.Board.{Board}
-use Rattle.states.specs.declared.State.{State}
-use Rattle.states.specs.Faults.{issueFault, handoverFault}
+use Rattle.rules.specs.declared.calls.Call.{Call}
+use Rattle.rules.specs.Replies.{Response, refusedWith}
+use Rattle.rules.specs.declared.settling.Phases.{Phases}
+use Rattle.rules.specs.declared.states.Board.{Board}
+use Rattle.rules.specs.declared.states.State.{State}
+use Rattle.rules.specs.Faults.{issueFault, handoverFault}
 use Rattle.rules.specs.Calls.{Answer, phasesOf, putState, takenState, done, ruled, settledDone, issued, left, completed, withdrawn, both, handedOver, answered}
 
 -- A reply that registers can hold.

@@ -13,16 +13,16 @@ use Rattle.encoding.specs.Numbers.{number}
 use Rattle.encoding.proofs.Bytes.{AreBytes, bytes-none, bytes-cons}
 use Rattle.plans.specs.declared.Plan.{Plan}
 use Rattle.plans.specs.Acceptance.{planFault}
-use Rattle.calls.specs.declared.Call.{Call}
-use Rattle.calls.specs.Replies.{Response}
-use Rattle.states.specs.declared.Board.{Board}
-use Rattle.states.specs.declared.State.{State}
+use Rattle.rules.specs.declared.calls.Call.{Call}
+use Rattle.rules.specs.Replies.{Response}
+use Rattle.rules.specs.declared.states.Board.{Board}
+use Rattle.rules.specs.declared.states.State.{State}
 use Rattle.rules.specs.Calls.{answered}
 use Rattle.boards.specs.Fresh.{boardOf, freshState}
 use Rattle.registers.specs.declared.Block.{Block}
 use Rattle.registers.specs.Registers.{pendingIn, raised, lineOf}
-use Rattle.command_calls.specs.Calls.{commandCall}
-use Rattle.commands.specs.Commands.{WriteAnswer, registerWrite}
+use Rattle.register_block.specs.Calls.{commandCall}
+use Rattle.register_block.specs.Commands.{WriteAnswer, registerWrite}
 use Rattle.runs.specs.Events.{Event, events, stateAfter}
 use Rattle.runs.proofs.refinement.WholeRuns.{whole-runs}
 use Rattle.register_runs.specs.Steps.{Step, reads, writes, calls, Device, freshDevice, stepped, after, carries, grants, clears, unanswered, callsIn, callsOf, replyIn, seenIn, seenOf}

@@ -6,16 +6,16 @@ use mathlib.Core.Bool.{Bool, true, false, cond, _&&_, _||_}
 use native.Mathlib.Omega.{arith}
 use lib.Dec.{eqb, ltb, leb}
 use borrow.Author.Tests.{eqb-true, eqb-false, ltb-true, ltb-false, lt-ltb, le-leb, lt-leb, eq-eqb, ne-eqb}
-use Rattle.states.specs.declared.Board.{Board}
-use Rattle.states.specs.declared.State.{State}
+use Rattle.rules.specs.declared.states.Board.{Board}
+use Rattle.rules.specs.declared.states.State.{State}
 use Rattle.rules.specs.Calls.{answered}
 use Rattle.registers.specs.declared.Block.{Block}
 use Rattle.registers.specs.declared.Register.{Register}
 use Rattle.registers.specs.declared.Register.the-variants.{Command, Argument, Answer, Pending, Enabled, Line, Unlisted}
 use Rattle.registers.specs.Registers.{registerAt}
-use Rattle.register_stores.specs.Stores.{stored}
-use Rattle.command_calls.specs.Calls.{commandCall}
-use Rattle.commands.specs.Commands.{unmoved, carriedOut, commanded, writtenTo, registerWrite}
+use Rattle.registers.specs.Stores.{stored}
+use Rattle.register_block.specs.Calls.{commandCall}
+use Rattle.register_block.specs.Commands.{unmoved, carriedOut, commanded, writtenTo, registerWrite}
 use Rattle.register_runs.specs.Steps.{carries}
 use Rattle.register_runs.proofs.Blocks.{pending-place}
 

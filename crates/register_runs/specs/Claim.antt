@@ -6,7 +6,7 @@ use mathlib.Core.List.{List, _∷_, _++_}
 use lib.ListN.{length, getD}
 use Rattle.masks.specs.Sets.{bit}
 use Rattle.plans.specs.declared.Plan.{Plan}
-use Rattle.states.specs.declared.Board.{Board}
+use Rattle.rules.specs.declared.states.Board.{Board}
 use Rattle.boards.specs.Fresh.{boardOf, freshState}
 use Rattle.registers.specs.Registers.{pendingIn, lineOf}
 use Rattle.runs.specs.Events.{events, stateAfter}

@@ -5,16 +5,16 @@ use mathlib.Core.List.{List, [], _∷_, _++_}
 use lib.Dec.{eqb, ltb, leb}
 use lib.ListN.{replicate}
 use Rattle.masks.specs.Sets.{bit}
-use Rattle.calls.specs.declared.Call.{Call}
-use Rattle.calls.specs.Replies.{Response, refusedWith}
-use Rattle.states.specs.declared.Board.{Board}
-use Rattle.states.specs.declared.State.{State}
+use Rattle.rules.specs.declared.calls.Call.{Call}
+use Rattle.rules.specs.Replies.{Response, refusedWith}
+use Rattle.rules.specs.declared.states.Board.{Board}
+use Rattle.rules.specs.declared.states.State.{State}
 use Rattle.rules.specs.Calls.{answered}
 use Rattle.boards.specs.Fresh.{freshState}
 use Rattle.registers.specs.declared.Block.{Block}
 use Rattle.registers.specs.Registers.{refusalIn, lateIn, grantedIn, entitledIn}
-use Rattle.command_calls.specs.Calls.{commandCall}
-use Rattle.commands.specs.Commands.{registerWrite}
+use Rattle.register_block.specs.Calls.{commandCall}
+use Rattle.register_block.specs.Commands.{registerWrite}
 use Rattle.runs.specs.Events.{Event}
 
 -- Clause 10.11: a step is a read, a write, or a direct call of the arbiter on the same state.

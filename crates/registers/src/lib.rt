@@ -1,9 +1,15 @@
 // The register block of the arbiter: 32 bytes, and the numbers and the line in them. What stands at which offset and what
 // a read gives is defined here too, and `register_reads` has the functions. Writes are in the crates `register_stores`
 // and `commands`.
-use masks64::meet64;
-use number_reads::read_number;
+mod register_reads;
+mod register_stores;
+
+use encoding::read_number;
+use masks::meet64;
 use refusals::Refusal;
+pub use register_reads::read;
+pub use register_reads::register_at;
+pub use register_stores::store;
 ghost use mathlib.Core.Path.{_≡_};
 ghost use Prim.Native.Nat.{_^_, _<_};
 ghost use Rattle.registers.specs.Registers.{tickIn, pendingIn, enabledIn, lineOf, withLine};

@@ -12,15 +12,15 @@ use lib.Dec.{eqb, ltb}
 use lib.ListN.{length, take, drop, length-append, length-drop, take-append-drop}
 use lib.Seq.{drop-drop, take-all}
 use Rattle.masks.proofs.Truth.{and-left, and-right}
-use Rattle.states.specs.declared.Board.{Board}
-use Rattle.states.specs.declared.State.{State}
+use Rattle.rules.specs.declared.states.Board.{Board}
+use Rattle.rules.specs.declared.states.State.{State}
 use Rattle.encoding.specs.Buffers.{overwritten}
 use Rattle.digits.specs.Digits.{hexPairs}
-use Rattle.lines.specs.Lines.{lineFault, lineBuffer}
-use Rattle.lines.proofs.Room.{fitting-line, fitting-buffer}
-use Rattle.carrying_out.specs.Steps.{Stands, stands}
-use Rattle.replay_records.specs.Records.{recordStep}
-use Rattle.budgets.specs.Budgets.{lineRoom}
+use Rattle.listings.specs.PlainLines.{lineFault, lineBuffer}
+use Rattle.listings.proofs.Room.{fitting-line, fitting-buffer}
+use Rattle.replay.specs.Steps.{Stands, stands}
+use Rattle.replay.specs.Records.{recordStep}
+use Rattle.replay.specs.Budgets.{lineRoom}
 use Rattle.replay.specs.declared.RanBlock.{RanBlock}
 use Rattle.replay.specs.Blocks.{Ran, ran, ranBlock}
 use Rattle.replay.proofs.Records.{step, step-room, front, remaining, step-then-more}

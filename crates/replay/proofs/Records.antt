@@ -10,18 +10,18 @@ use borrow.Author.Tests.{eqb-true}
 use mir.Val.{boolByte}
 use lib.Dec.{eqb}
 use lib.ListN.{length, drop}
-use Rattle.states.specs.declared.Board.{Board}
-use Rattle.states.specs.declared.State.{State}
+use Rattle.rules.specs.declared.states.Board.{Board}
+use Rattle.rules.specs.declared.states.State.{State}
 use Rattle.rules.specs.Calls.{answered}
 use Rattle.logs.specs.Records.{recordSize, recordFault}
 use Rattle.digits.specs.Digits.{hexPairs}
-use Rattle.lines.specs.Lines.{refusalLine}
+use Rattle.listings.specs.PlainLines.{refusalLine}
 use Rattle.listings.specs.Lines.{callLine}
 use Rattle.listings.proofs.Fields.{line-by-table}
 use Rattle.listings.proofs.LongestCall.{any-plans-call, any-refusal}
-use Rattle.carrying_out.specs.Steps.{Step, callStep}
-use Rattle.replay_records.specs.Records.{callIn, recordStep}
-use Rattle.budgets.specs.Budgets.{lineRoom}
+use Rattle.replay.specs.Steps.{Step, callStep}
+use Rattle.replay.specs.Records.{callIn, recordStep}
+use Rattle.replay.specs.Budgets.{lineRoom}
 use Rattle.replay.specs.Blocks.{Ran, oneMore, ran}
 
 -- The record is a call, or it is refused.

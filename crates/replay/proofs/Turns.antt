@@ -7,13 +7,13 @@ use native.Mathlib.Omega.{arith}
 use lib.ListN.{length, take, drop, length-append}
 use lib.Seq.{length-take-le, take-at, drop-at, drop-drop}
 use Rattle.encoding.specs.Buffers.{overwritten}
-use Rattle.states.specs.declared.Board.{Board}
-use Rattle.states.specs.declared.State.{State}
+use Rattle.rules.specs.declared.states.Board.{Board}
+use Rattle.rules.specs.declared.states.State.{State}
 use Rattle.rules.specs.Calls.{answered}
 use Rattle.rules.specs.InPlace.{boardBy}
-use Rattle.answers.proofs.Verdicts.{call-reads}
+use Rattle.calls_in_place.proofs.Verdicts.{call-reads}
 use Rattle.logs.specs.Records.{recordSize}
-use Rattle.replay_records.specs.Records.{callIn}
+use Rattle.replay.specs.Records.{callIn}
 use Rattle.replay.specs.Blocks.{ran}
 
 -- Some bytes and then some more, from a position.

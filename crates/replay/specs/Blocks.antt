@@ -4,14 +4,14 @@ use mathlib.Core.Bool.{Bool, true, false, cond}
 use mathlib.Core.List.{List, [], _++_}
 use lib.Dec.{eqb}
 use lib.ListN.{length, drop}
-use Rattle.states.specs.declared.Board.{Board}
-use Rattle.states.specs.declared.State.{State}
+use Rattle.rules.specs.declared.states.Board.{Board}
+use Rattle.rules.specs.declared.states.State.{State}
 use Rattle.rules.specs.Calls.{answered}
 use Rattle.logs.specs.Records.{recordSize, recordFault}
-use Rattle.lines.specs.Lines.{refusalLine}
+use Rattle.listings.specs.PlainLines.{refusalLine}
 use Rattle.listings.specs.Lines.{callLine}
-use Rattle.replay_records.specs.Records.{callIn}
-use Rattle.budgets.specs.Budgets.{budgetOf}
+use Rattle.replay.specs.Records.{callIn}
+use Rattle.replay.specs.Budgets.{budgetOf}
 use Rattle.replay.specs.declared.RanBlock.{RanBlock}
 
 -- The lines of some records, the state after them, how many calls were carried out, and whether a refusal ended it.

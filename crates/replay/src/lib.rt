@@ -1,16 +1,27 @@
 // The calls of a log to their lines, block by block: what `lockreplay` does between reading and writing (specification,
 // section 9). The bytes of a log come in blocks of any size, and each block's lines go into a lent buffer.
 // `replay_records` has a record, and `log_openings` and `log_ends` have the lines before and after the calls.
+mod budgets;
+mod carrying_out;
+mod log_ends;
+mod log_openings;
+mod replay_records;
+
 use budgets::budget_of;
 use digits::hex_pairs;
+pub use log_ends::CallCount;
+pub use log_ends::count;
+pub use log_ends::finish;
+pub use log_openings::Begun;
+pub use log_openings::begin;
 use logs::RECORD_BYTES;
 use plans::ENTRIES;
 use plans::SLOTS;
 use replay_records::replay_record;
-use states::Board;
-use states::Moment;
-use states::State;
-use states::Terms;
+use rules::Board;
+use rules::Moment;
+use rules::State;
+use rules::Terms;
 ghost use mathlib.Core.Path.{_≡_};
 ghost use Prim.Native.Nat.{_*_, _≤_};
 ghost use lib.ListN.{length};
@@ -18,7 +29,7 @@ ghost use Rattle.encoding.specs.Buffers.{overwritten};
 ghost use Rattle.rules.specs.InPlace.{boardBy, stateBy};
 ghost use Rattle.logs.specs.Records.{recordSize};
 ghost use Rattle.digits.specs.Digits.{hexPairs};
-ghost use Rattle.budgets.specs.Budgets.{lineRoom};
+ghost use Rattle.replay.specs.Budgets.{lineRoom};
 ghost use Rattle.replay.specs.Blocks.{ran, budget, ranBlock};
 ghost use Rattle.replay.specs.inner.Parts.{ranBy};
 

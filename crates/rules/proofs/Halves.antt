@@ -14,15 +14,15 @@ use Rattle.masks.specs.Sets.{bit, maskOf}
 use Rattle.masks.proofs.Masks.{bit-mask-at}
 use Rattle.masks.proofs.Truth.{and-left, and-right}
 use Rattle.plans.specs.Entries.{slots}
-use Rattle.settling.specs.declared.Phases.{Phases}
-use Rattle.settling.specs.Requests.{Facts, isWriter, against, unsatisfied, active, entitledWrite, holdingWrite}
-use Rattle.settling.specs.Settling.{test1, test2, test3, test4, step1, step2, step3, step4, settled}
-use Rattle.settling.proofs.Active.{active-held, active-entitled}
-use Rattle.states.specs.declared.Terms.{Terms}
-use Rattle.states.specs.declared.Board.{Board}
-use Rattle.states.specs.declared.State.{State}
-use Rattle.states.specs.Requests.{hasProcessor, inPlan, isWaiting, isEntitled, isHolding, cleaned}
-use Rattle.states.specs.Faults.{tickFault, processorFault, issueFault, completeFault, handoverFault}
+use Rattle.rules.specs.declared.settling.Phases.{Phases}
+use Rattle.rules.specs.Requests.{Facts, isWriter, against, unsatisfied, active, entitledWrite, holdingWrite}
+use Rattle.rules.specs.Settling.{test1, test2, test3, test4, step1, step2, step3, step4, settled}
+use Rattle.rules.proofs.Active.{active-held, active-entitled}
+use Rattle.rules.specs.declared.states.Terms.{Terms}
+use Rattle.rules.specs.declared.states.Board.{Board}
+use Rattle.rules.specs.declared.states.State.{State}
+use Rattle.rules.specs.CountedRequests.{hasProcessor, inPlan, isWaiting, isEntitled, isHolding, cleaned}
+use Rattle.rules.specs.Faults.{tickFault, processorFault, issueFault, completeFault, handoverFault}
 use Rattle.rules.specs.Acts.{takenOut}
 use Rattle.rules.specs.Calls.{Answer, phasesOf, factsOf, takenState, done, ruled, settledDone, lateMark, left, completed}
 

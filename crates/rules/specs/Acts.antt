@@ -6,9 +6,9 @@ use lib.Dec.{eqb}
 use lib.ListN.{getD}
 use Rattle.masks.specs.Sets.{bit, maskOf}
 use Rattle.plans.specs.Entries.{slots}
-use Rattle.tabulation.specs.Tabulation.{tabulate}
-use Rattle.settling.specs.declared.Phases.{Phases}
-use Rattle.settling.specs.Requests.{active}
+use Rattle.masks.specs.Tabulation.{tabulate}
+use Rattle.rules.specs.declared.settling.Phases.{Phases}
+use Rattle.rules.specs.Requests.{active}
 
 -- Clauses 4.4 and 5.1: the phases with processor p's request put in, waiting.
 unfoldable pub putIn : Phases → ℕ → Phases

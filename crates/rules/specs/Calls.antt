@@ -5,15 +5,15 @@ use lib.Dec.{eqb, ltb}
 use lib.ListN.{getD, set}
 use Rattle.masks.specs.Sets.{bit, maskOf}
 use Rattle.plans.specs.Entries.{slots}
-use Rattle.calls.specs.declared.Call.{Call}
-use Rattle.calls.specs.Replies.{Response, refusedWith}
-use Rattle.settling.specs.declared.Phases.{Phases}
-use Rattle.settling.specs.Requests.{Facts, factsBy}
-use Rattle.settling.specs.Settling.{settled}
-use Rattle.states.specs.declared.Board.{Board}
-use Rattle.states.specs.declared.State.{State}
-use Rattle.states.specs.Requests.{cleaned}
-use Rattle.states.specs.Faults.{issueFault, completeFault, withdrawFault, handoverFault}
+use Rattle.rules.specs.declared.calls.Call.{Call}
+use Rattle.rules.specs.Replies.{Response, refusedWith}
+use Rattle.rules.specs.declared.settling.Phases.{Phases}
+use Rattle.rules.specs.Requests.{Facts, factsBy}
+use Rattle.rules.specs.Settling.{settled}
+use Rattle.rules.specs.declared.states.Board.{Board}
+use Rattle.rules.specs.declared.states.State.{State}
+use Rattle.rules.specs.CountedRequests.{cleaned}
+use Rattle.rules.specs.Faults.{issueFault, completeFault, withdrawFault, handoverFault}
 use Rattle.rules.specs.Acts.{putIn, putLast, takenOut, began, became, stamped}
 
 -- What settling goes by, of a board and a state.

@@ -1,11 +1,11 @@
 -- Calls in place: the parts of a board and of a state that they are lent, and the answer that they leave.
 use Prim.Native.Nat.{ℕ}
 use mathlib.Core.List.{List, []}
-use Rattle.calls.specs.Replies.{replySays}
-use Rattle.states.specs.declared.Terms.{Terms}
-use Rattle.states.specs.declared.Board.{Board}
-use Rattle.states.specs.declared.State.{State}
-use Rattle.states.specs.declared.Moment.{Moment}
+use Rattle.rules.specs.Replies.{replySays}
+use Rattle.rules.specs.declared.states.Terms.{Terms}
+use Rattle.rules.specs.declared.states.Board.{Board}
+use Rattle.rules.specs.declared.states.State.{State}
+use Rattle.rules.specs.declared.states.Moment.{Moment}
 use Rattle.rules.specs.declared.Changed.{Changed}
 use Rattle.rules.specs.Calls.{Answer}
 

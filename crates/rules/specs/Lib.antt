@@ -1,3 +1,10 @@
 pub mod Acts
 pub mod Calls
 pub mod InPlace
+pub mod CallNumbers
+pub mod Replies
+pub mod Requests
+pub mod Settling
+pub mod inner
+pub mod CountedRequests
+pub mod Faults

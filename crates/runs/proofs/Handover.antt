@@ -7,10 +7,10 @@ use lib.Dec.{eqb}
 use Rattle.masks.specs.Sets.{bit}
 use Rattle.masks.proofs.Masks.{bit-mask-at}
 use Rattle.plans.specs.Entries.{slots}
-use Rattle.settling.specs.Requests.{unsatisfied}
-use Rattle.states.specs.declared.Board.{Board}
-use Rattle.states.specs.declared.State.{State}
-use Rattle.states.specs.Faults.{handoverFault}
+use Rattle.rules.specs.Requests.{unsatisfied}
+use Rattle.rules.specs.declared.states.Board.{Board}
+use Rattle.rules.specs.declared.states.State.{State}
+use Rattle.rules.specs.Faults.{handoverFault}
 use Rattle.rules.specs.Calls.{Answer, phasesOf, issued, completed, lateMark, both, handedOver}
 use Rattle.rules.proofs.Halves.{halves-accepted}
 use Rattle.runs.proofs.history.Verdicts.{completed-satisfied}

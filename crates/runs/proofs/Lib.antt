@@ -5,3 +5,7 @@ pub mod HandedOver
 pub mod columns
 pub mod history
 pub mod refinement
+pub mod Reached
+pub mod Falling
+pub mod Holders
+pub mod Freedom

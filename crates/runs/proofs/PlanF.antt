@@ -7,14 +7,14 @@ use Rattle.masks.specs.Sets.{bit, some, maskOf}
 use Rattle.plans.specs.declared.Entry.{Entry}
 use Rattle.plans.specs.declared.Plan.{Plan}
 use Rattle.plans.specs.Entries.{blankEntry}
-use Rattle.widening.specs.Widening.{widen, widenedSet}
+use Rattle.conflicts.specs.Widening.{widen, widenedSet}
 use Rattle.conflicts.specs.Conflict.{shared, conflict, inConflict, conflictsOf}
-use Rattle.tabulation.specs.Tabulation.{tabulate}
-use Rattle.calls.specs.declared.Call.{Call}
-use Rattle.calls.specs.Replies.{Response, refusedWith}
-use Rattle.settling.specs.Settling.{test1, step1, test2, step2, test3, step3, test4, step4, settled}
-use Rattle.states.specs.Requests.{isHolding, isEntitled, isWaiting, cleaned}
-use Rattle.states.specs.Faults.{issueFault, completeFault}
+use Rattle.masks.specs.Tabulation.{tabulate}
+use Rattle.rules.specs.declared.calls.Call.{Call}
+use Rattle.rules.specs.Replies.{Response, refusedWith}
+use Rattle.rules.specs.Settling.{test1, step1, test2, step2, test3, step3, test4, step4, settled}
+use Rattle.rules.specs.CountedRequests.{isHolding, isEntitled, isWaiting, cleaned}
+use Rattle.rules.specs.Faults.{issueFault, completeFault}
 use Rattle.rules.specs.Acts.{putIn, putLast, takenOut, stamped}
 use Rattle.rules.specs.Calls.{putState, takenState, done, settledDone, issued, left, completed}
 use Rattle.boards.specs.Fresh.{boardOf, freshState}

@@ -9,7 +9,7 @@ use Rattle.plans.specs.declared.Plan.{Plan}
 use Rattle.plans.specs.Entries.{isWrite, entryAt}
 use Rattle.plans.specs.Figures.{readFigure, writeFigure}
 use Rattle.conflicts.specs.Conflict.{inConflict}
-use Rattle.calls.specs.declared.Call.{Call}
+use Rattle.rules.specs.declared.calls.Call.{Call}
 use Rattle.boards.specs.Fresh.{boardOf, freshState}
 use Rattle.runs.specs.Events.{events}
 use Rattle.runs.specs.History.{Request, History, nothing, arrival, countedIn, holds, holdOf, waitOf}

@@ -4,9 +4,9 @@ use mathlib.Core.Bool.{Bool, true, false, cond, not, _&&_}
 use mathlib.Core.List.{List, [], _∷_, _++_, map}
 use lib.Dec.{eqb}
 use Rattle.masks.specs.Sets.{bit}
-use Rattle.calls.specs.declared.Call.{Call}
-use Rattle.calls.specs.Calls.{tickOf}
-use Rattle.calls.specs.Replies.{Response}
+use Rattle.rules.specs.declared.calls.Call.{Call}
+use Rattle.rules.specs.CallNumbers.{tickOf}
+use Rattle.rules.specs.Replies.{Response}
 use Rattle.runs.specs.Events.{Event}
 
 -- The tick of something that may not have happened.

@@ -1,3 +1,4 @@
 pub mod Events
 pub mod History
 pub mod Claim
+pub mod Freedom

@@ -1,6 +1,2 @@
-pub mod Active
-pub mod FourSteps
-pub mod Known
-pub mod Quiet
-pub mod Idle
-pub mod AtOnce
+pub mod Processors
+pub mod Lookups

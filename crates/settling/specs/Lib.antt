@@ -1,3 +1,1 @@
-pub mod Requests
-pub mod Settling
-pub mod inner
+pub mod Opposition

@@ -1,9 +1,12 @@
-// The phases of a state, and the rules of settling: which requests become entitled, and which begin to hold, when a
-// request was put in or taken out. `settlement` carries them out. Specification, section 5.
+// The four steps of settling, carried out on masks, and which requests count. Specification, section 5 and clause 4.10.
+mod conflict_walks;
+mod counted_requests;
+mod known_requests;
+mod settle_phases;
+mod steps;
 
-// The phases of all processors: bit p of a mask is processor p.
-pub struct Phases {
-    pub waiting: u32,
-    pub entitled: u32,
-    pub holding: u32,
-}
+pub use conflict_walks::those_in;
+pub use counted_requests::clean;
+pub use known_requests::ALL;
+pub use known_requests::all_below;
+pub use settle_phases::settle;

@@ -31,7 +31,7 @@ fn figure_or_zero(outcome: Outcome, figure: u32) -> u32
 pub extern "C" fn bittmelon_plan_refusal(bytes: &[u8]) -> u32
     ensures { λ r. ⌜ r ≡ planRefusal (now (bytes .entry)) ⌝ }
 {
-    let read = plan_reader::read(bytes);
+    let read = plan_bytes::read(bytes);
     let outcome = read.outcome;
     number_of(outcome)
 }
@@ -41,7 +41,7 @@ pub extern "C" fn bittmelon_plan_refusal(bytes: &[u8]) -> u32
 pub extern "C" fn bittmelon_read_figure(bytes: &[u8]) -> u32
     ensures { λ r. ⌜ r ≡ planReadFigure (now (bytes .entry)) ⌝ }
 {
-    let read = plan_reader::read(bytes);
+    let read = plan_bytes::read(bytes);
     let outcome = read.outcome;
     let plan = read.plan;
     let figures = figures::figures_of(plan);
@@ -53,7 +53,7 @@ pub extern "C" fn bittmelon_read_figure(bytes: &[u8]) -> u32
 pub extern "C" fn bittmelon_write_figure(bytes: &[u8]) -> u32
     ensures { λ r. ⌜ r ≡ planWriteFigure (now (bytes .entry)) ⌝ }
 {
-    let read = plan_reader::read(bytes);
+    let read = plan_bytes::read(bytes);
     let outcome = read.outcome;
     let plan = read.plan;
     let figures = figures::figures_of(plan);

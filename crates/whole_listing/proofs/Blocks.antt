@@ -8,13 +8,13 @@ use native.Mathlib.Omega.{arith}
 use borrow.Author.Tests.{eqb-true, eqb-false, leb-true, leb-false, le-leb, lt-leb}
 use lib.Dec.{eqb, leb}
 use lib.ListN.{length, drop, length-drop}
-use Rattle.states.specs.declared.Board.{Board}
-use Rattle.states.specs.declared.State.{State}
+use Rattle.rules.specs.declared.states.Board.{Board}
+use Rattle.rules.specs.declared.states.State.{State}
 use Rattle.logs.specs.Records.{recordSize}
-use Rattle.needed_input.specs.Stages.{dueSize}
-use Rattle.budgets.specs.Budgets.{lineRoom}
+use Rattle.log_input.specs.Stages.{dueSize}
+use Rattle.replay.specs.Budgets.{lineRoom}
 use Rattle.replay.specs.Blocks.{Ran, ran, budget, goingOn}
-use Rattle.log_ends.specs.Ends.{endLine}
+use Rattle.replay.specs.Ends.{endLine}
 use Rattle.whole_listing.specs.Rooms.{blockRoom, linesRoom}
 use Rattle.whole_listing.specs.Arrivals.{together, Arrived, fed, waited, callThere, inBlocks}
 use Rattle.whole_listing.proofs.Waits.{Fed, fed-until-enough, after-wait, all-at-hand}

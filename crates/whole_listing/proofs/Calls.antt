@@ -11,13 +11,13 @@ use lib.Dec.{eqb, leb}
 use lib.ListN.{length, take, drop, getD, length-append, length-drop, List·getD-append}
 use lib.Seq.{slice, drop-drop, drop-append-le, take-append-le}
 use Rattle.masks.proofs.Truth.{or-right}
-use Rattle.states.specs.declared.Board.{Board}
-use Rattle.states.specs.declared.State.{State}
+use Rattle.rules.specs.declared.states.Board.{Board}
+use Rattle.rules.specs.declared.states.State.{State}
 use Rattle.logs.specs.Records.{recordSize, fieldsIn, recordFault, tailFault}
-use Rattle.lines.specs.Lines.{refusalLine}
-use Rattle.needed_input.specs.Stages.{dueSize}
+use Rattle.listings.specs.PlainLines.{refusalLine}
+use Rattle.log_input.specs.Stages.{dueSize}
 use Rattle.replay.specs.Blocks.{Ran, oneMore, ran, goingOn}
-use Rattle.log_ends.specs.Ends.{faultLine, endFault, endLine}
+use Rattle.replay.specs.Ends.{faultLine, endFault, endLine}
 use Rattle.replay.proofs.Records.{Found, found, lineIn, stateIn, ran-call, ran-refused}
 use Rattle.whole_listing.specs.Listing.{callsListing}
 use Rattle.whole_listing.specs.SoFar.{callsSoFar}

@@ -19,7 +19,7 @@ use Rattle.plans.specs.Acceptance.{within, processorsFault, resourcesFault, cou
 use Rattle.plans.specs.Reading.{entryIn, entriesIn, sectionFault, readFault, blankPlan, planIn, readSays, planRead}
 use Rattle.plans.proofs.Faults.{counts-at-most, read-fault, read-length}
 use Rattle.plans.proofs.Accepted.{taken}
-use Rattle.needed_input.specs.Stages.{isShort}
+use Rattle.log_input.specs.Stages.{isShort}
 use Rattle.whole_listing.specs.Rooms.{planRoom}
 
 -- ---- numbers that are not 1

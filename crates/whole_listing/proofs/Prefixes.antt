@@ -11,9 +11,9 @@ use lib.ListN.{length, drop, length-append}
 use lib.Seq.{drop-append-le}
 use Rattle.encoding.proofs.Room.{enough-at}
 use Rattle.plans.specs.Reading.{readFault, readSays, planRead}
-use Rattle.states.specs.declared.Board.{Board}
-use Rattle.states.specs.declared.State.{State}
-use Rattle.calls.specs.Calls.{Fields, callOf}
+use Rattle.rules.specs.declared.states.Board.{Board}
+use Rattle.rules.specs.declared.states.State.{State}
+use Rattle.rules.specs.CallNumbers.{Fields, callOf}
 use Rattle.rules.specs.Calls.{answered}
 use Rattle.boards.specs.Fresh.{boardOf, freshState}
 use Rattle.logs.specs.Records.{countSize, recordSize, readCount, recordFault}

@@ -15,13 +15,13 @@ use Rattle.encoding.proofs.Room.{enough-at}
 use Rattle.plans.specs.declared.Plan.{Plan}
 use Rattle.plans.specs.Reading.{readFault, readSays, planRead}
 use Rattle.plans.proofs.RoundTrip.{read-is-accepted}
-use Rattle.states.specs.declared.Board.{Board}
-use Rattle.states.specs.declared.State.{State}
+use Rattle.rules.specs.declared.states.Board.{Board}
+use Rattle.rules.specs.declared.states.State.{State}
 use Rattle.boards.specs.Fresh.{boardOf, freshBoard, freshState}
 use Rattle.logs.specs.Records.{countSize, readCount}
-use Rattle.lines.specs.Lines.{refusalLine}
+use Rattle.listings.specs.PlainLines.{refusalLine}
 use Rattle.listings.specs.Lines.{firstLine}
-use Rattle.needed_input.specs.Stages.{isShort}
+use Rattle.log_input.specs.Stages.{isShort}
 use Rattle.whole_listing.specs.Rooms.{planRoom, blockRoom}
 use Rattle.whole_listing.specs.Listing.{listingOf}
 use Rattle.whole_listing.specs.SoFar.{listingSoFar}

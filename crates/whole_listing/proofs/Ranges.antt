@@ -15,10 +15,10 @@ use Rattle.encoding.proofs.Room.{room-fits}
 use Rattle.encoding.proofs.Outcomes.{bytes-said}
 use Rattle.plans.specs.Reading.{readSays}
 use Rattle.plans.proofs.RoundTrip.{read-inside}
-use Rattle.states.specs.declared.Board.{Board}
-use Rattle.states.specs.declared.State.{State}
+use Rattle.rules.specs.declared.states.Board.{Board}
+use Rattle.rules.specs.declared.states.State.{State}
 use Rattle.logs.specs.Records.{recordSize}
-use Rattle.lines.specs.Lines.{lineSays}
+use Rattle.listings.specs.PlainLines.{lineSays}
 use Rattle.replay.specs.declared.RanBlock.{RanBlock}
 use Rattle.replay.specs.Blocks.{ran, budget, ranBlock}
 use Rattle.replay.proofs.Records.{Found, found, stateIn, ran-call, ran-refused}

@@ -12,12 +12,12 @@ use Rattle.encoding.specs.Buffers.{overwritten}
 use Rattle.encoding.proofs.Room.{fits-room}
 use Rattle.plans.specs.Reading.{readFault, planRead}
 use Rattle.logs.specs.Records.{readCount}
-use Rattle.lines.specs.Lines.{refusalLine, lineSays, lineBuffer}
+use Rattle.listings.specs.PlainLines.{refusalLine, lineSays, lineBuffer}
 use Rattle.listings.proofs.LongestFirst.{any-first}
 use Rattle.listings.proofs.LongestCall.{any-refusal}
 use Rattle.replay.specs.Blocks.{Ran, ranBlock}
-use Rattle.log_openings.specs.Openings.{openingLine}
-use Rattle.log_ends.specs.Ends.{faultLine, countLine, endFault, endLine}
+use Rattle.replay.specs.Openings.{openingLine}
+use Rattle.replay.specs.Ends.{faultLine, countLine, endFault, endLine}
 use Rattle.whole_listing.specs.Rooms.{linesRoom}
 
 -- What is shown of a line with room is the line.

@@ -7,13 +7,13 @@ use mathlib.Core.List.{List, [], _++_}
 use lib.Dec.{eqb, leb}
 use lib.ListN.{length, drop}
 use Rattle.plans.specs.Reading.{readFault, readSays, planRead}
-use Rattle.states.specs.declared.Board.{Board}
-use Rattle.states.specs.declared.State.{State}
+use Rattle.rules.specs.declared.states.Board.{Board}
+use Rattle.rules.specs.declared.states.State.{State}
 use Rattle.boards.specs.Fresh.{boardOf, freshState}
 use Rattle.logs.specs.Records.{countSize, readCount}
-use Rattle.lines.specs.Lines.{refusalLine}
+use Rattle.listings.specs.PlainLines.{refusalLine}
 use Rattle.listings.specs.Lines.{firstLine}
-use Rattle.needed_input.specs.Stages.{isShort}
+use Rattle.log_input.specs.Stages.{isShort}
 use Rattle.whole_listing.specs.Listing.{countedListing, listingOf}
 use Rattle.whole_listing.specs.SoFar.{countedSoFar, listingSoFar}
 use Rattle.whole_listing.specs.Arrivals.{planThere, countThere}

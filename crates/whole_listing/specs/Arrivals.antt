@@ -6,14 +6,14 @@ use mathlib.Core.List.{List, [], _∷_, _++_}
 use lib.Dec.{eqb, leb}
 use lib.ListN.{length, take, drop}
 use Rattle.plans.specs.Reading.{readSays, planRead}
-use Rattle.states.specs.declared.Board.{Board}
-use Rattle.states.specs.declared.State.{State}
+use Rattle.rules.specs.declared.states.Board.{Board}
+use Rattle.rules.specs.declared.states.State.{State}
 use Rattle.boards.specs.Fresh.{freshState, freshBoard}
 use Rattle.logs.specs.Records.{countSize, recordSize, readCount}
-use Rattle.needed_input.specs.Stages.{isShort, dueSize}
+use Rattle.log_input.specs.Stages.{isShort, dueSize}
 use Rattle.replay.specs.Blocks.{ran, budget, goingOn}
-use Rattle.log_openings.specs.Openings.{openingLine}
-use Rattle.log_ends.specs.Ends.{countLine, endLine}
+use Rattle.replay.specs.Openings.{openingLine}
+use Rattle.replay.specs.Ends.{countLine, endLine}
 use Rattle.whole_listing.specs.Rooms.{planRoom, blockRoom, linesRoom}
 
 -- The pieces of an input, one after the other.

@@ -5,15 +5,15 @@ use mathlib.Core.List.{List, _++_}
 use lib.Dec.{eqb}
 use lib.ListN.{drop}
 use Rattle.plans.specs.Reading.{readFault, readSays, planRead}
-use Rattle.states.specs.declared.Board.{Board}
-use Rattle.states.specs.declared.State.{State}
+use Rattle.rules.specs.declared.states.Board.{Board}
+use Rattle.rules.specs.declared.states.State.{State}
 use Rattle.rules.specs.Calls.{answered}
 use Rattle.boards.specs.Fresh.{boardOf, freshState}
 use Rattle.logs.specs.Records.{countSize, recordSize, readCount, recordFault, tailFault}
-use Rattle.lines.specs.Lines.{refusalLine}
+use Rattle.listings.specs.PlainLines.{refusalLine}
 use Rattle.listings.specs.Lines.{firstLine, callLine}
-use Rattle.replay_records.specs.Records.{callIn}
-use Rattle.log_ends.specs.Ends.{faultLine}
+use Rattle.replay.specs.Records.{callIn}
+use Rattle.replay.specs.Ends.{faultLine}
 
 -- Clauses 9.4 and 9.5: the lines of n calls in the bytes s. A record that is refused ends the listing, and the calls
 -- before it stay carried out. Behind the last call, 2 for a tail.

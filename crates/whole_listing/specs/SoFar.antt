@@ -6,16 +6,16 @@ use mathlib.Core.List.{List, [], _++_}
 use lib.Dec.{eqb, leb}
 use lib.ListN.{length, drop}
 use Rattle.plans.specs.Reading.{readFault, readSays, planRead}
-use Rattle.states.specs.declared.Board.{Board}
-use Rattle.states.specs.declared.State.{State}
+use Rattle.rules.specs.declared.states.Board.{Board}
+use Rattle.rules.specs.declared.states.State.{State}
 use Rattle.rules.specs.Calls.{answered}
 use Rattle.boards.specs.Fresh.{boardOf, freshState}
 use Rattle.logs.specs.Records.{countSize, recordSize, readCount, recordFault, tailFault}
-use Rattle.lines.specs.Lines.{refusalLine}
+use Rattle.listings.specs.PlainLines.{refusalLine}
 use Rattle.listings.specs.Lines.{firstLine, callLine}
-use Rattle.needed_input.specs.Stages.{isShort}
-use Rattle.replay_records.specs.Records.{callIn}
-use Rattle.log_ends.specs.Ends.{faultLine}
+use Rattle.log_input.specs.Stages.{isShort}
+use Rattle.replay.specs.Records.{callIn}
+use Rattle.replay.specs.Ends.{faultLine}
 
 -- Some bytes begin with others.
 pub record Begins (whole front : List ℕ) : Type 0 where

@@ -7,10 +7,10 @@ use lib.ListN.{length, take, length-set}
 use borrow.Author.Needs.{needs}
 use Rattle.plans.specs.declared.Entry.{Entry}
 use Rattle.plans.specs.Entries.{mostEntries, entryAt}
-use Rattle.tabulation.specs.Tabulation.{tabulate}
-use Rattle.tabulation.proofs.Tabulate.{fill-more, filled-whole}
+use Rattle.masks.specs.Tabulation.{tabulate}
+use Rattle.masks.proofs.Tabulate.{fill-more, filled-whole}
 use Rattle.boards.specs.Fresh.{boardOf}
-use Rattle.conflicts.proofs.Widening.{counted-field}
+use Rattle.conflicts.proofs.WidenedSets.{counted-field}
 use Rattle.boards.proofs.lengths_of.Statement.{statement}
 use Rattle.boards.proofs.lengths_of.Tie as tie
 

@@ -2,7 +2,7 @@
 use mathlib.Core.List.{[]}
 use mathlib.Core.Path.{ap, _∙_}
 use Rattle.rules.specs.InPlace.{boardBy, stateBy}
-use Rattle.board_queries.specs.WholeBoard.{boardBuffer}
+use Rattle.queries.specs.WholeBoard.{boardBuffer}
 use Rattle.c_boards.specs.Parts.{termsBy}
 use borrow.Author.Needs.{needs}
 use Rattle.c_queries.proofs.bittmelon_list_parts.Statement.{statement}

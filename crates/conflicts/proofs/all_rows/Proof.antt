@@ -8,8 +8,8 @@ use lib.ListN.{length, take, length-set}
 use Rattle.masks.specs.Sets.{maskOf}
 use Rattle.plans.specs.Entries.{mostEntries}
 use Rattle.conflicts.specs.Conflict.{inConflict, conflictsOf}
-use Rattle.tabulation.specs.Tabulation.{tabulate}
-use Rattle.tabulation.proofs.Tabulate.{fill-more, filled-whole}
+use Rattle.masks.specs.Tabulation.{tabulate}
+use Rattle.masks.proofs.Tabulate.{fill-more, filled-whole}
 use borrow.Author.Needs.{needs}
 use Rattle.conflicts.proofs.all_rows.Statement.{statement}
 use Rattle.conflicts.proofs.all_rows.Tie as tie

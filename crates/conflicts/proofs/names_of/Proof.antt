@@ -8,9 +8,9 @@ use borrow.Author.Needs.{needs}
 use Rattle.plans.specs.Entries.{mostEntries, entryAt}
 use Rattle.plans.specs.declared.Entry.{Entry}
 use Rattle.conflicts.specs.Conflict.{conflictsOf}
-use Rattle.tabulation.specs.Tabulation.{tabulate}
-use Rattle.tabulation.proofs.Tabulate.{fill-more, filled-whole}
-use Rattle.conflicts.proofs.Widening.{counted-field}
+use Rattle.masks.specs.Tabulation.{tabulate}
+use Rattle.masks.proofs.Tabulate.{fill-more, filled-whole}
+use Rattle.conflicts.proofs.WidenedSets.{counted-field}
 use Rattle.conflicts.proofs.names_of.Statement.{statement}
 use Rattle.conflicts.proofs.names_of.Tie as tie
 

@@ -7,9 +7,9 @@ use borrow.Author.Needs.{needs}
 use lib.ListN.{length, take, length-set}
 use Rattle.plans.specs.Entries.{mostEntries}
 use Rattle.conflicts.specs.Conflict.{conflictsOf}
-use Rattle.tabulation.specs.Tabulation.{tabulate}
-use Rattle.conflicts.proofs.Widening.{widenedAt}
-use Rattle.tabulation.proofs.Tabulate.{fill-more, filled-whole}
+use Rattle.masks.specs.Tabulation.{tabulate}
+use Rattle.conflicts.proofs.WidenedSets.{widenedAt}
+use Rattle.masks.proofs.Tabulate.{fill-more, filled-whole}
 use borrow.Author.Needs.{needs}
 use Rattle.conflicts.proofs.widen_all.Statement.{statement}
 use Rattle.conflicts.proofs.widen_all.Tie as tie

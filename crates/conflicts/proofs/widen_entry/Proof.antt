@@ -1,7 +1,7 @@
 -- `widen_entry` meets its contract: the test of the count decides. Assumes nothing.
 use borrow.Author.Tests.{le-ltb}
 use borrow.Author.Needs.{needs}
-use Rattle.conflicts.proofs.Widening.{widened-counted}
+use Rattle.conflicts.proofs.WidenedSets.{widened-counted}
 use Rattle.conflicts.proofs.widen_entry.Statement.{statement}
 use Rattle.conflicts.proofs.widen_entry.Tie as tie
 

@@ -1,6 +1,6 @@
 -- `byte_digits` meets its contract. Assumes nothing.
 use native.Mathlib.Omega.{arith}
-use Rattle.digits.proofs.Decimals.{most-digits}
+use Rattle.digits.proofs.DecimalDigits.{most-digits}
 use borrow.Author.Needs.{needs}
 use Rattle.digits.proofs.byte_digits.Statement.{statement}
 use Rattle.digits.proofs.byte_digits.Tie as tie

@@ -5,7 +5,7 @@ use native.Mathlib.Omega.{arith}
 use mathlib.Core.Path.{_≡_}
 use lib.ListN.{length}
 use Rattle.digits.specs.Digits.{decimal}
-use Rattle.digits.proofs.Decimals.{length-four-more, most-digits}
+use Rattle.digits.proofs.DecimalDigits.{length-four-more, most-digits}
 use Rattle.digits.proofs.digit_count.Statement.{statement}
 use Rattle.digits.proofs.digit_count.Tie as tie
 

@@ -2,7 +2,7 @@
 use Prim.Native.Nat.{_/_}
 use native.Mathlib.Omega.{arith}
 use mathlib.Core.Path.{sym}
-use Rattle.digits.proofs.Decimals.{length-one, length-two, length-two-more}
+use Rattle.digits.proofs.DecimalDigits.{length-one, length-two, length-two-more}
 use Rattle.digits.proofs.few_digits.Statement.{statement}
 use Rattle.digits.proofs.few_digits.Tie as tie
 

@@ -1,7 +1,7 @@
 -- `lockreplay::close` shows a line that is there. Assumes nothing.
 use native.Mathlib.Omega.{arith}
 use lib.ListN.{length}
-use Rattle.log_ends.specs.Ends.{endLine}
+use Rattle.replay.specs.Ends.{endLine}
 use Rattle.whole_listing.proofs.Ranges.{line-within}
 use borrow.Author.Needs.{needs}
 use Rattle.lockreplay.proofs.close.Statement.{statement}

@@ -9,7 +9,7 @@ use Rattle.encoding.specs.Buffers.{outcomeSays}
 use Rattle.encoding.proofs.Outcomes.{bytes-said}
 use Rattle.plans.specs.Reading.{readSays}
 use Rattle.plans.proofs.RoundTrip.{read-inside}
-use Rattle.log_openings.specs.Openings.{openingLine}
+use Rattle.replay.specs.Openings.{openingLine}
 use Rattle.whole_listing.proofs.Ranges.{line-within}
 use borrow.Author.Needs.{needs}
 use Rattle.lockreplay.proofs.replay_log.Statement.{statement}

@@ -1,7 +1,7 @@
 -- `lockreplay::take_count` shows a line that is there. Assumes nothing.
 use native.Mathlib.Omega.{arith}
 use lib.ListN.{length}
-use Rattle.log_ends.specs.Ends.{countLine}
+use Rattle.replay.specs.Ends.{countLine}
 use Rattle.whole_listing.proofs.Ranges.{line-within}
 use borrow.Author.Needs.{needs}
 use Rattle.lockreplay.proofs.take_count.Statement.{statement}

@@ -3,9 +3,9 @@ use Prim.Native.Nat.{ℕ}
 use mathlib.Core.List.{List}
 use Rattle.masks.specs.Sets.{maskOf}
 use Rattle.plans.specs.Entries.{slots}
-use Rattle.tabulation.specs.Tabulation.{tabulate}
-use Rattle.states.specs.declared.Board.{Board}
-use Rattle.states.specs.declared.State.{State}
+use Rattle.masks.specs.Tabulation.{tabulate}
+use Rattle.rules.specs.declared.states.Board.{Board}
+use Rattle.rules.specs.declared.states.State.{State}
 use Rattle.queries.specs.Queries.{waitsFor}
 
 -- The direct waits of every processor.

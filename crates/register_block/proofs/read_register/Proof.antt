@@ -44,10 +44,10 @@ use Rattle.registers.proofs.Block as T
 use Rattle.registers.proofs.Block.Laws as T′
 use Rattle.registers.proofs.ReadAnswer as S
 use Rattle.registers.proofs.ReadAnswer.Laws as S′
-use Rattle.register_reads.proofs.read as read
-use Rattle.register_reads.proofs.read.Symbol as read-def
-use Rattle.register_reads.proofs.read.Symbol.{name as #register_reads·read}
-use Rattle.register_reads.proofs.read.Met as read-thm
+use Rattle.registers.proofs.read as read
+use Rattle.registers.proofs.read.Symbol as read-def
+use Rattle.registers.proofs.read.Symbol.{name as #register_reads·read}
+use Rattle.registers.proofs.read.Met as read-thm
 use Rattle.register_block.proofs.read_register.Key.{name as #register_block·read-register}
 use Rattle.register_block.proofs.read_register as here
 use Rattle.register_block.proofs.read_register.Statement as stated

@@ -41,26 +41,26 @@ use denote.Triple.Table.{entered, cited}
 use denote.Triple.Walked.{says, Stays, stay-ref, stay-none, stay-none-ref, walkOf, AllGo, goes-ref, goes-none, goes-none-ref, Walks, ends-at, walked, walk-meets}
 use denote.Triple.Clauses.{ensured, lasts}
 use denote.Exit.{yes}
-use Rattle.states.specs.declared.Terms.{Terms}
-use Rattle.states.specs.declared.State.{State}
+use Rattle.rules.specs.declared.states.Terms.{Terms}
+use Rattle.rules.specs.declared.states.State.{State}
 use Rattle.rules.specs.InPlace.{boardBy}
 use Rattle.registers.specs.declared.Block.{Block}
-use Rattle.commands.specs.declared.Change.{Change}
-use Rattle.commands.specs.Commands.{registerWrite, changeSays}
-use Rattle.states.proofs.Terms as TT
-use Rattle.states.proofs.Terms.Laws as TT′
-use Rattle.states.proofs.State as ST
-use Rattle.states.proofs.State.Laws as ST′
+use Rattle.register_block.specs.declared.commands.Change.{Change}
+use Rattle.register_block.specs.Commands.{registerWrite, changeSays}
+use Rattle.rules.proofs.states.Terms as TT
+use Rattle.rules.proofs.states.Terms.Laws as TT′
+use Rattle.rules.proofs.states.State as ST
+use Rattle.rules.proofs.states.State.Laws as ST′
 use Rattle.registers.proofs.Block as B
 use Rattle.registers.proofs.Block.Laws as B′
-use Rattle.commands.proofs.Change as D
-use Rattle.commands.proofs.Change.Laws as D′
-use Rattle.commands.proofs.Written as R
-use Rattle.commands.proofs.Written.Laws as R′
-use Rattle.register_writes.proofs.write as write
-use Rattle.register_writes.proofs.write.Symbol as write-def
-use Rattle.register_writes.proofs.write.Symbol.{name as #register_writes·write}
-use Rattle.register_writes.proofs.write.Met as write-thm
+use Rattle.register_block.proofs.commands.Change as D
+use Rattle.register_block.proofs.commands.Change.Laws as D′
+use Rattle.register_block.proofs.commands.Written as R
+use Rattle.register_block.proofs.commands.Written.Laws as R′
+use Rattle.register_block.proofs.register_writes.write as write
+use Rattle.register_block.proofs.register_writes.write.Symbol as write-def
+use Rattle.register_block.proofs.register_writes.write.Symbol.{name as #register_writes·write}
+use Rattle.register_block.proofs.register_writes.write.Met as write-thm
 use Rattle.register_block.proofs.write_register.Key.{name as #register_block·write-register}
 use Rattle.register_block.proofs.write_register as here
 use Rattle.register_block.proofs.write_register.Statement as stated

@@ -6,9 +6,9 @@ use mathlib.Core.Bool.{Bool, false, cond}
 use lib.ListN.{getD}
 use Rattle.masks.specs.Sets.{bit}
 use Rattle.plans.specs.Entries.{slots}
-use Rattle.settling.specs.Requests.{conflicts}
-use Rattle.states.specs.declared.Board.{Board}
-use Rattle.states.specs.declared.State.{State}
+use Rattle.rules.specs.Requests.{conflicts}
+use Rattle.rules.specs.declared.states.Board.{Board}
+use Rattle.rules.specs.declared.states.State.{State}
 use Rattle.rules.specs.Calls.{factsOf}
 use Rattle.boards.specs.Fresh.{freshState}
 use Rattle.runs.specs.History.{Act}

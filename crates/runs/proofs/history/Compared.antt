@@ -9,8 +9,8 @@ use borrow.Author.Tests.{eq-eqb, ne-eqb}
 use Rattle.masks.specs.Sets.{bit}
 use Rattle.masks.proofs.Masks.{bit-mask-at}
 use Rattle.plans.specs.Entries.{slots}
-use Rattle.states.specs.declared.Board.{Board}
-use Rattle.states.specs.declared.State.{State}
+use Rattle.rules.specs.declared.states.Board.{Board}
+use Rattle.rules.specs.declared.states.State.{State}
 use Rattle.rules.specs.Acts.{began, became}
 use Rattle.rules.specs.Calls.{factsOf, both}
 use Rattle.runs.specs.History.{Act, puts, takes}

@@ -10,13 +10,13 @@ use borrow.Author.Tests.{ne-eqb}
 use Rattle.masks.specs.Sets.{bit, maskOf}
 use Rattle.refusals.specs.Due.{due}
 use Rattle.plans.specs.Entries.{slots}
-use Rattle.calls.specs.declared.Call.{Call}
-use Rattle.calls.specs.Calls.{tickOf}
-use Rattle.calls.specs.Replies.{refusedWith}
-use Rattle.settling.specs.Requests.{unsatisfied, active}
-use Rattle.states.specs.declared.Board.{Board}
-use Rattle.states.specs.declared.State.{State}
-use Rattle.states.specs.Faults.{issueFault, takeFault, completeFault, withdrawFault, handoverFault}
+use Rattle.rules.specs.declared.calls.Call.{Call}
+use Rattle.rules.specs.CallNumbers.{tickOf}
+use Rattle.rules.specs.Replies.{refusedWith}
+use Rattle.rules.specs.Requests.{unsatisfied, active}
+use Rattle.rules.specs.declared.states.Board.{Board}
+use Rattle.rules.specs.declared.states.State.{State}
+use Rattle.rules.specs.Faults.{issueFault, takeFault, completeFault, withdrawFault, handoverFault}
 use Rattle.rules.specs.Acts.{became}
 use Rattle.rules.specs.Calls.{phasesOf, putState, takenState, Answer, done, ruled, settledDone, issued, lateMark, left, completed, withdrawn, both, handedOver, answered}
 use Rattle.rules.proofs.Halves.{halves-accepted}

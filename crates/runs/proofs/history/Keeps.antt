@@ -7,7 +7,7 @@ use native.Mathlib.Nat.{le-trans}
 use native.Mathlib.Omega.{arith}
 use lib.ListN.{length}
 use Rattle.plans.specs.Entries.{slots}
-use Rattle.states.specs.declared.State.{State}
+use Rattle.rules.specs.declared.states.State.{State}
 use Rattle.runs.specs.History.{When, never, at, happened, tickOr, Request, History, holdOf, waitOf}
 use Rattle.runs.specs.Claim.{request}
 use Rattle.runs.proofs.history.Cases.{below-or-past}

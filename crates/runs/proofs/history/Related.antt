@@ -9,8 +9,8 @@ use native.Mathlib.Omega.{arith}
 use lib.ListN.{length, length-map, List·getD-append}
 use lib.Seq.{getD-append-seam}
 use Rattle.plans.specs.Entries.{slots}
-use Rattle.states.specs.declared.Board.{Board}
-use Rattle.states.specs.declared.State.{State}
+use Rattle.rules.specs.declared.states.Board.{Board}
+use Rattle.rules.specs.declared.states.State.{State}
 use Rattle.boards.specs.Fresh.{freshState}
 use Rattle.runs.specs.History.{never, Request, History, Act, puts, takes, arrival, acting, granting, ending, nothing, waitOf}
 use Rattle.runs.specs.Claim.{request}

@@ -8,10 +8,10 @@ use native.Mathlib.Omega.{arith}
 use lib.ListN.{length, getD}
 use borrow.Author.Tests.{ne-eqb}
 use Rattle.masks.specs.Sets.{bit}
-use Rattle.calls.specs.declared.Call.{Call}
-use Rattle.calls.specs.Calls.{tickOf}
-use Rattle.states.specs.declared.Board.{Board}
-use Rattle.states.specs.declared.State.{State}
+use Rattle.rules.specs.declared.calls.Call.{Call}
+use Rattle.rules.specs.CallNumbers.{tickOf}
+use Rattle.rules.specs.declared.states.Board.{Board}
+use Rattle.rules.specs.declared.states.State.{State}
 use Rattle.rules.specs.Calls.{both, answered}
 use Rattle.boards.specs.Fresh.{freshState}
 use Rattle.runs.specs.Events.{events}

@@ -8,7 +8,7 @@ use native.Mathlib.Omega.{arith}
 use lib.ListN.{getD}
 use borrow.Author.Tests.{eq-eqb, ne-eqb}
 use Rattle.plans.specs.Entries.{slots}
-use Rattle.states.specs.declared.State.{State}
+use Rattle.rules.specs.declared.states.State.{State}
 use Rattle.runs.specs.History.{When, never, at, happened, Request, puts, takes, arrival, granting, ending}
 use Rattle.runs.specs.History
 use Rattle.runs.proofs.history.Cases.{by-processor}

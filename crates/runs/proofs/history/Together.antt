@@ -8,8 +8,8 @@ use lib.Dec.{ltb}
 use Rattle.masks.specs.Sets.{bit, maskOf}
 use Rattle.masks.proofs.Masks.{bit-mask}
 use Rattle.plans.specs.Entries.{slots}
-use Rattle.states.specs.declared.Board.{Board}
-use Rattle.states.specs.declared.State.{State}
+use Rattle.rules.specs.declared.states.Board.{Board}
+use Rattle.rules.specs.declared.states.State.{State}
 use Rattle.runs.specs.History.{When, never, at, Request, History, Act, puts, takes, arrival, allActing, granting, ending}
 use Rattle.runs.proofs.history.Spans.{timed}
 use Rattle.runs.proofs.history.Related.{afterAct}

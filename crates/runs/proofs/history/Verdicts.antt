@@ -8,11 +8,11 @@ use Rattle.refusals.specs.Due.{due, firstOf}
 use Rattle.refusals.proofs.Numbers.{first-accepted, due-accepted}
 use Rattle.masks.proofs.Truth.{and-left, and-right}
 use Rattle.plans.specs.Entries.{slots}
-use Rattle.settling.specs.declared.Phases.{Phases}
-use Rattle.settling.specs.Requests.{unsatisfied, active}
-use Rattle.states.specs.declared.Terms.{Terms}
-use Rattle.states.specs.Requests.{hasProcessor}
-use Rattle.states.specs.Faults.{tickFault, processorFault, issueFault, takeFault, completeFault}
+use Rattle.rules.specs.declared.settling.Phases.{Phases}
+use Rattle.rules.specs.Requests.{unsatisfied, active}
+use Rattle.rules.specs.declared.states.Terms.{Terms}
+use Rattle.rules.specs.CountedRequests.{hasProcessor}
+use Rattle.rules.specs.Faults.{tickFault, processorFault, issueFault, takeFault, completeFault}
 
 -- What all calls check of their tick and processor.
 pub record Admissible (terms : Terms) (last p t : ℕ) : Type 0 where

@@ -9,7 +9,7 @@ use Rattle.plans.specs.declared.Plan.{Plan}
 use Rattle.plans.specs.Entries.{mostEntries, isWrite, entryAt}
 use Rattle.plans.specs.Acceptance.{planFault}
 use Rattle.plans.proofs.Accepted.{accepted-count}
-use Rattle.calls.specs.declared.Call.{Call}
+use Rattle.rules.specs.declared.calls.Call.{Call}
 use Rattle.boards.specs.Fresh.{boardOf, freshState}
 use Rattle.runs.specs.History.{nothing, holdOf}
 use Rattle.runs.specs.Claim.{historyOf, request, KeepToLengths, WaitAtMost, GroupRuns}

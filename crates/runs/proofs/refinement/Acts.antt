@@ -13,12 +13,12 @@ use Rattle.masks.specs.Sets.{bit, maskOf}
 use Rattle.masks.proofs.Masks.{bit-mask-at}
 use Rattle.masks.proofs.Truth.{and-left, and-right}
 use Rattle.plans.specs.Entries.{slots}
-use Rattle.tabulation.proofs.Tabulate.{length-tabulate, getD-tabulate}
-use Rattle.settling.specs.declared.Phases.{Phases}
-use Rattle.settling.specs.Requests.{Facts}
-use Rattle.settling.specs.Settling.{settled}
-use Rattle.states.specs.declared.Board.{Board}
-use Rattle.states.specs.declared.State.{State}
+use Rattle.masks.proofs.Tabulate.{length-tabulate, getD-tabulate}
+use Rattle.rules.specs.declared.settling.Phases.{Phases}
+use Rattle.rules.specs.Requests.{Facts}
+use Rattle.rules.specs.Settling.{settled}
+use Rattle.rules.specs.declared.states.Board.{Board}
+use Rattle.rules.specs.declared.states.State.{State}
 use Rattle.rules.specs.Acts.{putIn, putLast, takenOut, began, stamped}
 use Rattle.rules.specs.Calls.{factsOf}
 use Rattle.runs.specs.History.{Act, puts, takes}

@@ -8,9 +8,9 @@ use native.Mathlib.Nat.{le-trans}
 use Rattle.plans.specs.declared.Plan.{Plan}
 use Rattle.plans.specs.Entries.{slots}
 use Rattle.plans.specs.Acceptance.{planFault}
-use Rattle.settling.specs.Requests.{isWriter}
-use Rattle.states.specs.declared.Board.{Board}
-use Rattle.states.specs.declared.State.{State}
+use Rattle.rules.specs.Requests.{isWriter}
+use Rattle.rules.specs.declared.states.Board.{Board}
+use Rattle.rules.specs.declared.states.State.{State}
 use Rattle.rules.specs.Calls.{factsOf}
 use Rattle.boards.specs.Fresh.{boardOf, freshState}
 use Rattle.runs.specs.History.{Act}

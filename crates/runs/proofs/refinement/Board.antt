@@ -18,14 +18,14 @@ use Rattle.plans.specs.Entries.{mostEntries, blankEntry, isWrite, countedEntrie
 use Rattle.plans.specs.Acceptance.{planFault}
 use Rattle.plans.proofs.Accepted.{accepted-count}
 use Rattle.conflicts.specs.Conflict.{conflictsOf, inConflict}
-use Rattle.tabulation.proofs.Tabulate.{getD-tabulate, getD-tabulate-past}
+use Rattle.masks.proofs.Tabulate.{getD-tabulate, getD-tabulate-past}
 use Rattle.conflicts.proofs.Bridge.{both-counted, conflict-symmetric, reads-never-conflict, read-bridges-writes}
 use Rattle.conflicts.proofs.Rows.{bit-row, row-below}
 use Rattle.conflicts.proofs.Accepted.{read-or-write}
-use Rattle.settling.specs.Requests.{isWriter, conflicts}
+use Rattle.rules.specs.Requests.{isWriter, conflicts}
 use Rattle.boards.specs.Fresh.{boardOf}
-use Rattle.states.specs.declared.Board.{Board}
-use Rattle.states.specs.declared.State.{State}
+use Rattle.rules.specs.declared.states.Board.{Board}
+use Rattle.rules.specs.declared.states.State.{State}
 use Rattle.rules.specs.Calls.{factsOf}
 use Rattle.runs.proofs.history.Cases.{below-or-past}
 use Rattle.runs.specs.Claim.{Closed, LengthsAtMost}

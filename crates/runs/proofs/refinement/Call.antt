@@ -3,11 +3,11 @@ use Prim.Native.Nat.{ℕ, _<_}
 use mathlib.Core.Path.{_≡_, sym, subst, _∙_}
 use mathlib.Core.Bool.{Bool}
 use Rattle.plans.specs.Entries.{slots}
-use Rattle.settling.specs.declared.Phases.{Phases}
-use Rattle.settling.specs.Requests.{Facts}
-use Rattle.settling.specs.Settling.{step1, step2, step3, settled}
-use Rattle.states.specs.declared.Board.{Board}
-use Rattle.states.specs.declared.State.{State}
+use Rattle.rules.specs.declared.settling.Phases.{Phases}
+use Rattle.rules.specs.Requests.{Facts}
+use Rattle.rules.specs.Settling.{step1, step2, step3, settled}
+use Rattle.rules.specs.declared.states.Board.{Board}
+use Rattle.rules.specs.declared.states.State.{State}
 use Rattle.rules.specs.Calls.{factsOf}
 use Rattle.runs.specs.History.{Act, puts, takes}
 use Rattle.runs.proofs.history.Cases.{by-processor}

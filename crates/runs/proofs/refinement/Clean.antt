@@ -8,9 +8,9 @@ use borrow.Author.Tests.{lt-ltb}
 use Rattle.masks.proofs.Masks.{is-mask}
 use Rattle.masks.proofs.Places.{bit-zero}
 use Rattle.plans.specs.Entries.{slots}
-use Rattle.states.specs.declared.Board.{Board}
-use Rattle.states.specs.declared.State.{State}
-use Rattle.states.specs.Requests.{inPlan, isHolding, isEntitled, isWaiting, cleaned}
+use Rattle.rules.specs.declared.states.Board.{Board}
+use Rattle.rules.specs.declared.states.State.{State}
+use Rattle.rules.specs.CountedRequests.{inPlan, isHolding, isEntitled, isWaiting, cleaned}
 use Rattle.rules.specs.Calls.{phasesOf}
 use Rattle.boards.specs.Fresh.{freshState}
 use Rattle.runs.proofs.columns.Columns.{Phase, idle}

@@ -10,9 +10,9 @@ use borrow.Author.Tests.{eqb-true, eq-eqb, ne-eqb}
 use Rattle.masks.specs.Sets.{bit, maskOf}
 use Rattle.masks.proofs.Masks.{mask-below, bit-mask-at}
 use Rattle.plans.specs.Entries.{slots}
-use Rattle.tabulation.proofs.Tabulate.{getD-tabulate}
-use Rattle.settling.specs.declared.Phases.{Phases}
-use Rattle.settling.specs.Requests.{Facts, factsBy, isEarlier, active}
+use Rattle.masks.proofs.Tabulate.{getD-tabulate}
+use Rattle.rules.specs.declared.settling.Phases.{Phases}
+use Rattle.rules.specs.Requests.{Facts, factsBy, isEarlier, active}
 use Rattle.rules.specs.Acts.{putIn, putLast, takenOut}
 use Rattle.runs.proofs.history.Cases.{by-processor, getD-set}
 use Rattle.runs.proofs.columns.Columns.{idle, waiting, Requests, PutIn, TakenOut}

@@ -7,8 +7,8 @@ use mathlib.Core.Logic.{inl, inr, ⊎-elim}
 use Rattle.masks.specs.Sets.{bit}
 use Rattle.masks.proofs.Truth.{or-cases, or-left, or-right}
 use Rattle.plans.specs.Entries.{slots}
-use Rattle.settling.specs.declared.Phases.{Phases}
-use Rattle.settling.specs.Requests.{Facts, entryOf, isWriter, isEarlier, conflicts, unsatisfied, active}
+use Rattle.rules.specs.declared.settling.Phases.{Phases}
+use Rattle.rules.specs.Requests.{Facts, entryOf, isWriter, isEarlier, conflicts, unsatisfied, active}
 use Rattle.runs.proofs.columns.Columns.{Phase, Requests}
 use Rattle.runs.proofs.columns.Phases.{clash, Unsatisfied}
 

@@ -10,9 +10,9 @@ use Rattle.masks.proofs.Masks.{mask-below, bit-mask-at}
 use Rattle.masks.proofs.Some.{some-found, some-none-at}
 use Rattle.masks.proofs.Truth.{and-left, and-right, and-both, or-cases, or-left, or-right}
 use Rattle.plans.specs.Entries.{slots}
-use Rattle.settling.specs.declared.Phases.{Phases}
-use Rattle.settling.specs.Requests.{Facts, isEarlier, isWriter, conflicts, against, unsatisfied, unsatisfiedWrite, holdingRead, holdingWrite, entitledRead, entitledWrite, waitingRead, waitingWrite}
-use Rattle.settling.specs.Settling.{hold, entitle, test1, test2, test3, test4, step1, step2, step3, step4}
+use Rattle.rules.specs.declared.settling.Phases.{Phases}
+use Rattle.rules.specs.Requests.{Facts, isEarlier, isWriter, conflicts, against, unsatisfied, unsatisfiedWrite, holdingRead, holdingWrite, entitledRead, entitledWrite, waitingRead, waitingWrite}
+use Rattle.rules.specs.Settling.{hold, entitle, test1, test2, test3, test4, step1, step2, step3, step4}
 use Rattle.runs.proofs.columns.Columns.{Phase, waiting, entitled, holding, Requests, Exists, None, In, EarlierUnsatisfied, Step1, Step2, Step3, Step4}
 use Rattle.runs.proofs.columns.Phases.{clash, true-not-false}
 use Rattle.runs.proofs.refinement.First.{Stopped}

@@ -12,7 +12,7 @@ use Rattle.plans.specs.Entries.{blankEntry, isRead, isWrite, countedEntries, en
 use Rattle.plans.specs.Acceptance.{planFault}
 use Rattle.plans.specs.Figures.{longest, longestRead, longestWrite}
 use Rattle.conflicts.proofs.Accepted.{read-or-write}
-use Rattle.calls.specs.declared.Call.{Call}
+use Rattle.rules.specs.declared.calls.Call.{Call}
 use Rattle.runs.specs.Claim.{Closed, LengthsAtMost, everyEntry, GroupRuns, WholeRuns}
 use Rattle.runs.proofs.history.Whole.{whole-run}
 use Rattle.runs.proofs.refinement.Arbiter.{plan-arbiter}

@@ -4,7 +4,7 @@ use borrow.Author.Needs.{needs}
 use Rattle.rules.specs.Calls.{completed}
 use Rattle.rules.specs.InPlace.{boardBy, stateBy}
 use Rattle.c_boards.specs.Parts.{termsBy, momentBy}
-use Rattle.c_replies.proofs.Memory.{answered, from-memory}
+use Rattle.c_calls.proofs.c_replies.Memory.{answered, from-memory}
 use Rattle.c_calls.proofs.Refusals.{complete-stays}
 use Rattle.c_calls.proofs.complete.bittmelon_complete_parts.Statement.{statement}
 use Rattle.c_calls.proofs.complete.bittmelon_complete_parts.Tie as tie

@@ -3,7 +3,7 @@ use Prim.Native.Nat.{_≤_, _-_, min}
 use mathlib.Core.Path.{_≡_, refl, _∙_}
 use native.Mathlib.Omega.{arith}
 use lib.ListN.{length, take}
-use Rattle.fronts.proofs.Copies.{front-kept}
+use Rattle.log_input.proofs.front_bytes.Copies.{front-kept}
 use Rattle.log_input.proofs.reads.fill_to.Statement.{statement}
 use Rattle.log_input.proofs.reads.fill_to.Tie as tie
 

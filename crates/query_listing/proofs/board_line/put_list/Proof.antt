@@ -2,8 +2,8 @@
 use Prim.Native.Nat.{_≤_}
 use native.Mathlib.Omega.{arith}
 use Rattle.plans.specs.Entries.{slots, maskSizeFor}
-use Rattle.listing_sizes.specs.Sizes.{listedOf}
-use Rattle.listing_sizes.proofs.Sizes.{mask-size-small, list-small}
+use Rattle.board_list.specs.Sizes.{listedOf}
+use Rattle.board_list.proofs.Sizes.{mask-size-small, list-small}
 use borrow.Author.Needs.{needs}
 use Rattle.query_listing.proofs.board_line.put_list.Statement.{statement}
 use Rattle.query_listing.proofs.board_line.put_list.Tie as tie

@@ -1,6 +1,6 @@
 -- `put_waits` does not run over: a mask has at most four bytes. Assumes nothing.
 use native.Mathlib.Omega.{arith}
-use Rattle.listing_sizes.proofs.Sizes.{mask-size-small}
+use Rattle.board_list.proofs.Sizes.{mask-size-small}
 use borrow.Author.Needs.{needs}
 use Rattle.query_listing.proofs.query_line.put_waits.Statement.{statement}
 use Rattle.query_listing.proofs.query_line.put_waits.Tie as tie

@@ -1,9 +1,9 @@
 -- `put_scratch` does not run over: no scratch needs more than 128 bytes. Assumes nothing.
 use native.Mathlib.Omega.{arith}
 use Rattle.plans.specs.Entries.{maskSizeFor}
-use Rattle.listing_sizes.proofs.Sizes.{mask-size-small}
+use Rattle.board_list.proofs.Sizes.{mask-size-small}
 use Rattle.queries.specs.Words.{wordsSize}
-use Rattle.row_words.proofs.Words.{words-small}
+use Rattle.reach.proofs.Words.{words-small}
 use borrow.Author.Needs.{needs}
 use Rattle.query_listing.proofs.scratch_line.put_scratch.Statement.{statement}
 use Rattle.query_listing.proofs.scratch_line.put_scratch.Tie as tie

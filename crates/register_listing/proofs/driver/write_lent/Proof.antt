@@ -43,23 +43,23 @@ use denote.Triple.Table.{entered, cited}
 use denote.Triple.Walked.{says, Stays, stay-none, stay-none-ref, walkOf, AllGo, goes-none, goes-none-ref, Walks, ends-at, walked, walk-meets}
 use denote.Triple.Clauses.{ensured, lasts}
 use denote.Exit.{yes}
-use Rattle.states.specs.declared.Terms.{Terms}
-use Rattle.states.specs.declared.State.{State}
+use Rattle.rules.specs.declared.states.Terms.{Terms}
+use Rattle.rules.specs.declared.states.State.{State}
 use Rattle.rules.specs.InPlace.{boardBy}
 use Rattle.registers.specs.declared.Block.{Block}
-use Rattle.commands.specs.declared.Change.{Change}
-use Rattle.commands.specs.declared.Written.{Written}
-use Rattle.commands.specs.Commands.{registerWrite, writtenSays}
-use Rattle.states.proofs.Terms as TT
-use Rattle.states.proofs.Terms.Laws as TT′
-use Rattle.states.proofs.State as ST
-use Rattle.states.proofs.State.Laws as ST′
+use Rattle.register_block.specs.declared.commands.Change.{Change}
+use Rattle.register_block.specs.declared.commands.Written.{Written}
+use Rattle.register_block.specs.Commands.{registerWrite, writtenSays}
+use Rattle.rules.proofs.states.Terms as TT
+use Rattle.rules.proofs.states.Terms.Laws as TT′
+use Rattle.rules.proofs.states.State as ST
+use Rattle.rules.proofs.states.State.Laws as ST′
 use Rattle.registers.proofs.Block as B
 use Rattle.registers.proofs.Block.Laws as B′
-use Rattle.commands.proofs.Change as D
-use Rattle.commands.proofs.Change.Laws as D′
-use Rattle.commands.proofs.Written as R
-use Rattle.commands.proofs.Written.Laws as R′
+use Rattle.register_block.proofs.commands.Change as D
+use Rattle.register_block.proofs.commands.Change.Laws as D′
+use Rattle.register_block.proofs.commands.Written as R
+use Rattle.register_block.proofs.commands.Written.Laws as R′
 use Rattle.register_block.proofs.write_register as write
 use Rattle.register_block.proofs.write_register.Symbol as write-def
 use Rattle.register_block.proofs.write_register.Symbol.{name as #register_block·write-register}

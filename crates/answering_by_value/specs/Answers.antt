@@ -1,8 +1,0 @@
--- What the arbiter answered by value, in numbers. Specification, section 4.
-use Rattle.calls.specs.Replies.{replySays}
-use Rattle.rules.specs.Calls.{Answer}
-use Rattle.answering_by_value.specs.declared.Answered.{Answered}
-
--- Clauses 4.7 and 4.9: the reply in numbers, and the state after it.
-abbrev pub answerOf : Answered → Answer
-answerOf a = record { reply = replySays (a .reply); state = a .state }

@@ -1,0 +1,72 @@
+// Any call, with the state by value: it goes in, and comes back with the answer. The board is lent or by value.
+use calls_in_place::answer_in_place;
+use plans::ENTRIES;
+use rules::Board;
+use rules::Call;
+use rules::Moment;
+use rules::Reply;
+use rules::State;
+use rules::Terms;
+ghost use mathlib.Core.Path.{_≡_};
+ghost use Rattle.rules.specs.Calls.{answered};
+ghost use Rattle.rules.specs.InPlace.{boardBy};
+ghost use Rattle.arbiter.specs.Answers.{answerOf};
+
+// On a refusal the state is the one given.
+pub struct Answered {
+    pub reply: Reply,
+    pub state: State,
+}
+
+// The answer to any call, on a board of which the rows and the lengths are lent: who makes many calls copies no board.
+pub fn answer_on(
+    terms: Terms,
+    rows: &[u64; ENTRIES],
+    lengths: &[u16; ENTRIES],
+    state: State,
+    call: Call,
+) -> Answered
+    ensures { λ r. ⌜ answerOf r ≡ answered (boardBy terms (now (rows .entry)) (now (lengths .entry))) state call ⌝ }
+{
+    let phases = state.phases;
+    let given = Moment {
+        last: state.last,
+        phases: phases,
+    };
+    let mut entries = state.entry;
+    let mut since = state.since;
+    let mut earlier = state.earlier;
+    let changed = answer_in_place(
+        terms,
+        rows,
+        lengths,
+        given,
+        &mut entries,
+        &mut since,
+        &mut earlier,
+        call,
+    );
+    let reply = changed.reply;
+    let moment = changed.moment;
+    let after = moment.phases;
+    Answered {
+        reply: reply,
+        state: State {
+            last: moment.last,
+            phases: after,
+            since: since,
+            earlier: earlier,
+            entry: entries,
+        },
+    }
+}
+
+// The answer to any call.
+pub fn answer(board: Board, state: State, call: Call) -> Answered
+    ensures { λ r. ⌜ answerOf r ≡ answered board state call ⌝ }
+{
+    let terms = board.terms;
+    let rows = board.rows;
+    let lengths = board.lengths;
+    answer_on(terms, &rows, &lengths, state, call)
+}

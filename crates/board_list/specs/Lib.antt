@@ -1,0 +1,4 @@
+pub mod Fields
+pub mod Sizes
+pub mod Parts
+pub mod Listing

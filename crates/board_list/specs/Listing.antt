@@ -1,0 +1,28 @@
+-- The wait listing: which part a processor has, and all bytes. The phases are of the requests that count.
+-- Specification, section 7.
+use Prim.Native.Nat.{ℕ}
+use mathlib.Core.List.{List, _∷_}
+use lib.ListN.{length, getD}
+use Rattle.encoding.specs.Buffers.{roomFault, bufferAfter}
+use Rattle.encoding.specs.InTurn.{inTurn}
+use Rattle.board_list.specs.Sizes.{listSize}
+use Rattle.rules.specs.declared.settling.Phases.{Phases}
+use Rattle.board_list.specs.Fields.{stateIn, entryShown, waitedIn}
+use Rattle.board_list.specs.Parts.{partBytes}
+
+-- The part of processor p, with the direct waits of all in a list.
+unfoldable pub partIn : ℕ → Phases → ℕ → List ℕ → List ℕ → List ℕ → ℕ → List ℕ
+partIn k ph last entry since waits p =
+    partBytes k (stateIn ph p) (entryShown ph entry p) (waitedIn ph last since p) (getD waits p 0)
+
+-- Clause 7.7: the list of m processors: their count, then the part of each.
+unfoldable pub listBytes : ℕ → (ℕ → List ℕ) → List ℕ
+listBytes m part = m ∷ inTurn m part
+
+-- Clauses 7.9 and 8.1: 16 for a buffer that is too short.
+unfoldable pub listFault : ℕ → ℕ → List ℕ → ℕ
+listFault k m buffer = roomFault (listSize k m) (length buffer) 0
+
+-- Clause 7.9: the buffer after it. Bytes behind the list stay, and on a refusal all do.
+unfoldable pub listBuffer : ℕ → ℕ → (ℕ → List ℕ) → List ℕ → List ℕ
+listBuffer k m part buffer = bufferAfter (listFault k m buffer) (listBytes m part) buffer 0

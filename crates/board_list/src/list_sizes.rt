@@ -1,0 +1,28 @@
+// The size of the wait listing: which processors are listed, and how many bytes that takes. Specification, clauses 4.10
+// and 7.7.
+use plans::SLOTS;
+use plans::mask_size;
+ghost use mathlib.Core.Path.{_≡_};
+ghost use Rattle.plans.specs.Entries.{maskSizeFor};
+ghost use Rattle.board_list.specs.Sizes.{listedOf, listSize};
+
+// The bytes of a part before its mask.
+pub const HEAD_BYTES: usize = 6;
+
+// Clause 4.10: the processors that are listed: the plan's, and no more than a state has places for.
+pub fn listed(processors: u8) -> usize
+    ensures { λ r. ⌜ r ≡ listedOf processors ⌝ }
+{
+    if (processors as usize) < SLOTS {
+        processors as usize
+    } else {
+        SLOTS
+    }
+}
+
+// Clause 7.7: how many bytes the list of a board with so many processors takes.
+pub fn list_size(processors: u8) -> usize
+    ensures { λ r. ⌜ r ≡ listSize (maskSizeFor processors) (listedOf processors) ⌝ }
+{
+    1 + (HEAD_BYTES + mask_size(processors)) * listed(processors)
+}

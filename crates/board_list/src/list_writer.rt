@@ -1,0 +1,93 @@
+// The wait listing: the whole board in bytes, from the phases that count and the direct waits of all. The queries use
+// it. Specification, clauses 7.7 to 7.9.
+use crate::list_fields::entry_at;
+use crate::list_fields::state_at;
+use crate::list_fields::waited_at;
+use crate::list_parts::store_part;
+use crate::list_sizes::HEAD_BYTES;
+use crate::list_sizes::list_size;
+use crate::list_sizes::listed;
+use encoding::Outcome;
+use encoding::check_room;
+use plans::SLOTS;
+use plans::mask_size;
+use refusals::Verdict;
+use rules::Phases;
+ghost use mathlib.Core.Path.{_≡_};
+ghost use Prim.Native.Nat.{_≤_};
+ghost use lib.ListN.{length};
+ghost use lib.Seq.{sets};
+ghost use Rattle.refusals.specs.Due.{said};
+ghost use Rattle.encoding.specs.Buffers.{outcomeSays};
+ghost use Rattle.plans.specs.Entries.{slots, maskSizeFor};
+ghost use Rattle.board_list.specs.Sizes.{listedOf, listSize};
+ghost use Rattle.encoding.specs.InTurn.{inTurn};
+ghost use Rattle.board_list.specs.Listing.{partIn, listFault, listBuffer};
+
+// Stores the parts of the first count processors, from byte 1.
+fn store_parts(
+    size: usize,
+    count: usize,
+    phases: Phases,
+    last: u64,
+    entries: &[u8; SLOTS],
+    since: &[u64; SLOTS],
+    waits: &[u32; SLOTS],
+    buffer: &mut [u8],
+)
+    requires { ⌜ (size ≤ 4) × (count ≤ slots) × (listSize size count ≤ length (now buffer)) ⌝ }
+    ensures { λ _. ⌜ now (buffer .exit) ≡ sets (now (buffer .entry)) 1
+        (inTurn count
+        (partIn size phases last (now (entries .entry)) (now (since .entry)) (now (waits .entry)))) ⌝ }
+{
+    let mut i: usize = 0;
+    while i < count {
+        let p = i as u32;
+        let state = state_at(phases, p);
+        let entry = entry_at(phases, entries[i], p);
+        let waited = waited_at(phases, last, since[i], p);
+        store_part(
+            size as u8,
+            state,
+            entry,
+            waited,
+            waits[i],
+            buffer,
+            1 + (HEAD_BYTES + size) * i,
+        );
+        i += 1;
+    }
+}
+
+// Writes the list from the start of the buffer and answers how many bytes it took; those behind it stay. Refuses by 16
+// a buffer that is too short, and then writes nothing.
+pub fn write(
+    processors: u8,
+    phases: Phases,
+    last: u64,
+    entries: &[u8; SLOTS],
+    since: &[u64; SLOTS],
+    waits: &[u32; SLOTS],
+    buffer: &mut [u8],
+) -> Outcome
+    ensures outcome { λ r. ⌜ outcomeSays r ≡ said
+        (listFault (maskSizeFor processors) (listedOf processors) (now (buffer .entry)))
+        (listSize (maskSizeFor processors) (listedOf processors)) ⌝ }
+    ensures bytes { λ _. ⌜ now (buffer .exit) ≡ listBuffer (maskSizeFor processors) (listedOf processors)
+        (partIn (maskSizeFor processors) phases last
+        (now (entries .entry)) (now (since .entry)) (now (waits .entry)))
+        (now (buffer .entry)) ⌝ }
+{
+    let size = mask_size(processors);
+    let count = listed(processors);
+    let needed = list_size(processors);
+    let verdict = check_room(needed, buffer.len(), 0);
+    match verdict {
+        Verdict::Accepted => {
+            buffer[0] = count as u8;
+            store_parts(size, count, phases, last, entries, since, waits, buffer);
+            Outcome::Bytes(needed)
+        }
+        Verdict::Refused(refusal) => Outcome::Refused(refusal),
+    }
+}

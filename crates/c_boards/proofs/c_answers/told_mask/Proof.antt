@@ -1,0 +1,13 @@
+-- `told_mask` meets its contract: a mask or a refusal, in numbers. Assumes nothing.
+use borrow.Author.Needs.{needs}
+use Rattle.c_boards.proofs.c_answers.told_mask.Statement.{statement}
+use Rattle.c_boards.proofs.c_answers.told_mask.Tie as tie
+
+returns : tie.Need-returns
+returns c = rw (c .before .answer .given .1)
+
+returns-2 : tie.Need-returns-2
+returns-2 c = rw (c .before .before .answer2 .given .1) (c .told-refusal .ensures)
+
+pub told-mask-spec : {M : Type 1} → statement M
+told-mask-spec = tie.close (tie.spec (λ c. search needs) (λ c. search needs) (λ c. search needs) (λ c κs. search needs) returns returns-2)

@@ -1,0 +1,24 @@
+-- `bittmelon_handover_parts` meets its contract: a handover in place, told in numbers; its moment is stored where it
+-- was carried out. Assumes nothing.
+use borrow.Author.Needs.{needs}
+use Rattle.rules.specs.Calls.{handedOver}
+use Rattle.rules.specs.InPlace.{boardBy, stateBy}
+use Rattle.c_boards.specs.Parts.{termsBy, momentBy}
+use Rattle.c_calls.proofs.c_replies.Memory.{answered, from-memory}
+use Rattle.c_calls.proofs.c_handing_over.Refusals.{handover-stays}
+use Rattle.c_calls.proofs.c_handing_over.bittmelon_handover_parts.Statement.{statement}
+use Rattle.c_calls.proofs.c_handing_over.bittmelon_handover_parts.Tie as tie
+
+returns : tie.Need-returns
+returns c =
+    let called = c .before .before .before in
+    let read = called .before .before .before .before in
+    let a = read .before .before .before .args in
+    let b = boardBy (termsBy (a .processors) (a .entries) (a .writes)) (a .rows .now) (a .lengths .now) in
+    let s = stateBy (momentBy (a .last .now) (a .phases .now)) (a .entry .now) (a .since .now) (a .earlier .now) in
+    answered _ s (handover-stays b s (a .processor) (a .requested) (a .tick)) _ (called .handover-in-place .result) _ _ _ _ _ (c .finish .ensures .0) (c .finish .ensures .1)
+    (from-memory (λ s. handedOver b s (a .processor) (a .requested) (a .tick)) _ _ _ (a .entry .now) (a .since .now) (a .earlier .now) _ (read .moment-of .ensures)
+    (called .handover-in-place .ensures))
+
+pub bittmelon-handover-parts-spec : {M : Type 1} → statement M
+bittmelon-handover-parts-spec = tie.close (tie.spec (λ c κs. search needs) (λ c κs. search needs) (λ c κs. search needs) returns)

@@ -1,0 +1,42 @@
+// What a call in place returns: of a call that was carried out its answer, and of a refused one the refusal, with the
+// moment as it was given.
+use refusals::Refusal;
+use requests::Carried;
+use rules::Changed;
+use rules::Moment;
+use rules::Reply;
+ghost use mathlib.Core.Path.{_≡_};
+ghost use mathlib.Core.List.{List};
+ghost use Prim.Native.Nat.{ℕ};
+ghost use Rattle.refusals.specs.Number.{numberOf};
+ghost use Rattle.requests.specs.Carried.{carriedSays};
+ghost use Rattle.rules.specs.Replies.{refusedWith};
+ghost use Rattle.rules.specs.InPlace.{stateBy, answerBy};
+
+pub fn accepted(carried: Carried, tick: u64) -> Changed
+    ensures { λ r. ⌜ ((entry : List ℕ) (since : List ℕ) (earlier : List ℕ)
+        → answerBy r entry since earlier ≡ carriedSays carried tick entry since earlier) ⌝ }
+{
+    let phases = carried.phases;
+    Changed {
+        reply: Reply::Done {
+            granted: carried.granted,
+            entitled: carried.entitled,
+            late: carried.late,
+        },
+        moment: Moment {
+            last: tick,
+            phases: phases,
+        },
+    }
+}
+
+pub fn refused(refusal: Refusal, moment: Moment) -> Changed
+    ensures { λ r. ⌜ ((entry : List ℕ) (since : List ℕ) (earlier : List ℕ) → answerBy r entry since earlier
+        ≡ record { reply = refusedWith (numberOf refusal); state = stateBy moment entry since earlier }) ⌝ }
+{
+    Changed {
+        reply: Reply::Refused(refusal),
+        moment: moment,
+    }
+}

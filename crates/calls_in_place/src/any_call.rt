@@ -1,0 +1,94 @@
+// Any call on the arrays of a state, in place.
+use crate::completing::complete_in_place;
+use crate::handing_over::handover_in_place;
+use crate::issuing::issue_in_place;
+use crate::withdrawing::withdraw_in_place;
+use plans::ENTRIES;
+use plans::SLOTS;
+use rules::Call;
+use rules::Changed;
+use rules::Moment;
+use rules::Terms;
+ghost use mathlib.Core.Path.{_≡_};
+ghost use Rattle.rules.specs.Calls.{answered};
+ghost use Rattle.rules.specs.InPlace.{boardBy, stateBy, answerBy};
+
+// The answer to any call, on the three arrays of a state. The terms, the rows and the lengths are a board's, and the
+// moment is what else the state has. What it returns and what it leaves in the arrays are the answer of `answer`.
+pub fn answer_in_place(
+    terms: Terms,
+    rows: &[u64; ENTRIES],
+    lengths: &[u16; ENTRIES],
+    moment: Moment,
+    entries: &mut [u8; SLOTS],
+    since: &mut [u64; SLOTS],
+    earlier: &mut [u32; SLOTS],
+    call: Call,
+) -> Changed
+    ensures { λ r. ⌜ answerBy r (now (entries .exit)) (now (since .exit)) (now (earlier .exit))
+        ≡ answered (boardBy terms (now (rows .entry)) (now (lengths .entry)))
+        (stateBy moment (now (entries .entry)) (now (since .entry)) (now (earlier .entry))) call ⌝ }
+{
+    match call {
+        Call::Issue {
+            processor,
+            entry,
+            tick,
+        } => {
+            issue_in_place(
+                terms,
+                rows,
+                moment,
+                entries,
+                since,
+                earlier,
+                processor,
+                entry,
+                tick,
+            )
+        }
+        Call::Complete { processor, tick } => {
+            complete_in_place(
+                terms,
+                rows,
+                lengths,
+                moment,
+                entries,
+                since,
+                earlier,
+                processor,
+                tick,
+            )
+        }
+        Call::Withdraw { processor, tick } => {
+            withdraw_in_place(
+                terms,
+                rows,
+                moment,
+                entries,
+                since,
+                earlier,
+                processor,
+                tick,
+            )
+        }
+        Call::Handover {
+            processor,
+            entry,
+            tick,
+        } => {
+            handover_in_place(
+                terms,
+                rows,
+                lengths,
+                moment,
+                entries,
+                since,
+                earlier,
+                processor,
+                entry,
+                tick,
+            )
+        }
+    }
+}

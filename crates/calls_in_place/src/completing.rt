@@ -1,0 +1,60 @@
+// A completion, carried out on the arrays of a state that the caller lends: no copies. It is checked; then the request
+// is taken out, and the answer has who began to hold and who became entitled. Specification, clauses 4.4 to 4.10.
+use crate::answers::accepted;
+use crate::answers::refused;
+use call_checks::check_complete;
+use plans::ENTRIES;
+use plans::SLOTS;
+use refusals::Verdict;
+use requests::late_mark;
+use requests::leave;
+use requests::length_at;
+use rules::Changed;
+use rules::Moment;
+use rules::Terms;
+use settling::clean;
+ghost use mathlib.Core.Path.{_≡_};
+ghost use Rattle.rules.specs.Calls.{completed};
+ghost use Rattle.rules.specs.InPlace.{boardBy, stateBy, answerBy};
+
+// Processor gives its request back at a tick. Refused by 10, 11, 14, 15, in that order.
+pub fn complete_in_place(
+    terms: Terms,
+    rows: &[u64; ENTRIES],
+    lengths: &[u16; ENTRIES],
+    moment: Moment,
+    entries: &[u8; SLOTS],
+    since: &mut [u64; SLOTS],
+    earlier: &[u32; SLOTS],
+    processor: u8,
+    tick: u64,
+) -> Changed
+    ensures { λ r. ⌜ answerBy r (now (entries .entry)) (now (since .exit)) (now (earlier .entry))
+        ≡ completed (boardBy terms (now (rows .entry)) (now (lengths .entry)))
+        (stateBy moment (now (entries .entry)) (now (since .entry)) (now (earlier .entry))) processor tick ⌝ }
+{
+    let given = moment.phases;
+    let before = clean(terms, *entries, given);
+    let verdict = check_complete(terms, moment.last, before, processor, tick);
+    match verdict {
+        Verdict::Accepted => {}
+        Verdict::Refused(refusal) => {
+            return refused(refusal, moment);
+        }
+    }
+    let length = length_at(lengths, entries[processor as usize]);
+    let late = late_mark(length, since[processor as usize], tick);
+    let writes = terms.writes;
+    let carried = leave(
+        rows,
+        writes,
+        entries,
+        since,
+        earlier,
+        before,
+        processor,
+        tick,
+        late,
+    );
+    accepted(carried, tick)
+}

@@ -1,0 +1,59 @@
+// An issue, carried out on the arrays of a state that the caller lends: no copies. It is checked; then the request is
+// put in, and the answer has who began to hold and who became entitled. Specification, clauses 4.4 to 4.10.
+use crate::answers::accepted;
+use crate::answers::refused;
+use call_checks::check_issue;
+use plans::ENTRIES;
+use plans::SLOTS;
+use refusals::Verdict;
+use requests::enter;
+use requests::put_last;
+use rules::Changed;
+use rules::Moment;
+use rules::Terms;
+use settling::clean;
+ghost use mathlib.Core.Path.{_≡_};
+ghost use mathlib.Core.List.{[]};
+ghost use Rattle.rules.specs.Calls.{issued};
+ghost use Rattle.rules.specs.InPlace.{boardBy, stateBy, answerBy};
+
+// Processor asks for an entry at a tick. Refused by 10, 11, 12, 13, in that order.
+pub fn issue_in_place(
+    terms: Terms,
+    rows: &[u64; ENTRIES],
+    moment: Moment,
+    entries: &mut [u8; SLOTS],
+    since: &mut [u64; SLOTS],
+    earlier: &mut [u32; SLOTS],
+    processor: u8,
+    entry: u8,
+    tick: u64,
+) -> Changed
+    ensures { λ r. ⌜ answerBy r (now (entries .exit)) (now (since .exit)) (now (earlier .exit))
+        ≡ issued (boardBy terms (now (rows .entry)) [])
+        (stateBy moment (now (entries .entry)) (now (since .entry)) (now (earlier .entry))) processor entry tick ⌝ }
+{
+    let given = moment.phases;
+    let before = clean(terms, *entries, given);
+    let verdict = check_issue(terms, moment.last, before, processor, entry, tick);
+    match verdict {
+        Verdict::Accepted => {}
+        Verdict::Refused(refusal) => {
+            return refused(refusal, moment);
+        }
+    }
+    put_last(earlier, before, processor);
+    let writes = terms.writes;
+    let carried = enter(
+        rows,
+        writes,
+        entries,
+        since,
+        earlier,
+        before,
+        processor,
+        entry,
+        tick,
+    );
+    accepted(carried, tick)
+}

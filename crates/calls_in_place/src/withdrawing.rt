@@ -1,0 +1,56 @@
+// A withdrawal, carried out on the arrays of a state that the caller lends: no copies. It is checked; then the request
+// is taken out, and the answer has who began to hold and who became entitled. Specification, clauses 4.4 to 4.10.
+use crate::answers::accepted;
+use crate::answers::refused;
+use call_checks::check_withdraw;
+use plans::ENTRIES;
+use plans::SLOTS;
+use refusals::Verdict;
+use requests::leave;
+use rules::Changed;
+use rules::Moment;
+use rules::Terms;
+use settling::clean;
+ghost use mathlib.Core.Path.{_≡_};
+ghost use mathlib.Core.List.{[]};
+ghost use Rattle.rules.specs.Calls.{withdrawn};
+ghost use Rattle.rules.specs.InPlace.{boardBy, stateBy, answerBy};
+
+// Processor leaves the line at a tick, with a request that does not hold. Refused by 10, 11, 14, 17, in that order.
+pub fn withdraw_in_place(
+    terms: Terms,
+    rows: &[u64; ENTRIES],
+    moment: Moment,
+    entries: &[u8; SLOTS],
+    since: &mut [u64; SLOTS],
+    earlier: &[u32; SLOTS],
+    processor: u8,
+    tick: u64,
+) -> Changed
+    ensures { λ r. ⌜ answerBy r (now (entries .entry)) (now (since .exit)) (now (earlier .entry))
+        ≡ withdrawn (boardBy terms (now (rows .entry)) [])
+        (stateBy moment (now (entries .entry)) (now (since .entry)) (now (earlier .entry))) processor tick ⌝ }
+{
+    let given = moment.phases;
+    let before = clean(terms, *entries, given);
+    let verdict = check_withdraw(terms, moment.last, before, processor, tick);
+    match verdict {
+        Verdict::Accepted => {}
+        Verdict::Refused(refusal) => {
+            return refused(refusal, moment);
+        }
+    }
+    let writes = terms.writes;
+    let carried = leave(
+        rows,
+        writes,
+        entries,
+        since,
+        earlier,
+        before,
+        processor,
+        tick,
+        0,
+    );
+    accepted(carried, tick)
+}

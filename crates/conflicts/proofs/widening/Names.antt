@@ -1,0 +1,35 @@
+-- Names as the loop widens them: by the counted entries from i on, and by one entry more. Assumes nothing.
+use Prim.Native.Nat.{ℕ, suc, _-_, _<_, _≤_, min}
+use native.Mathlib.Omega.{arith}
+use mathlib.Core.Path.{_≡_, sym, ap, ap₂, _∙_}
+use mathlib.Core.Bool.{cond, _&&_}
+use lib.Bits.{bitOr}
+use lib.ListN.{length, drop, getD, length-take, drop-of-length-le}
+use lib.Seq.{drop-cons, getD-take}
+use Rattle.masks.specs.Sets.{meets}
+use Rattle.plans.specs.declared.Entry.{Entry}
+use Rattle.plans.specs.declared.Plan.{Plan}
+use Rattle.plans.specs.Entries.{mostEntries, isRead, countedEntries, blankEntry}
+use Rattle.conflicts.specs.Widening.{widen}
+
+-- What an entry brings to the names.
+abbrev pub broughtTo : ℕ → Entry → ℕ
+broughtTo names e = cond (isRead e && meets (e .set) names) (e .set) 0
+
+module _ (p : Plan) (names : ℕ) (full : length (p .entries) ≡ mostEntries) where
+  pub widened-by-none : widen names (drop (min (p .count) mostEntries) (countedEntries p)) ≡ names
+  unfolding widen
+  widened-by-none =
+      ap (widen names)
+      (drop-of-length-le (countedEntries p) {i = min (p .count) mostEntries} (omega (arith, length-take (p .count) (p .entries))))
+
+  -- The entry before place i, where it stands in the plan's array, brings its part to what is made so far.
+  pub widened-by-next : (i out more : ℕ) → 0 < i → i ≤ min (p .count) mostEntries → out ≡ widen names (drop i (countedEntries p))
+      → more ≡ broughtTo names (getD (p .entries) (i - 1) blankEntry) → bitOr out more ≡ widen names (drop (i - 1) (countedEntries p))
+  unfolding widen
+  widened-by-next i out more h l made brings =
+      let next : i ≡ suc (i - 1) = omega arith in
+      let here : getD (p .entries) (i - 1) blankEntry ≡ getD (countedEntries p) (i - 1) blankEntry =
+      sym (getD-take (p .count) (p .entries) (i - 1) blankEntry (omega arith)) in
+      ap₂ bitOr (made ∙ ap (λ (k : ℕ). widen names (drop k (countedEntries p))) next) (brings ∙ ap (broughtTo names) here)
+      ∙ ap (widen names) (sym (drop-cons (countedEntries p) (i - 1) blankEntry (omega (arith, length-take (p .count) (p .entries)))))

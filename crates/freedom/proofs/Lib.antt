@@ -1,4 +1,0 @@
-pub mod Reached
-pub mod Falling
-pub mod Holders
-pub mod Freedom

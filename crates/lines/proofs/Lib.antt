@@ -1,3 +1,0 @@
-pub mod Lengths
-pub mod Room
-pub mod Parts

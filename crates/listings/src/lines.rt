@@ -1,0 +1,62 @@
+// The lines of refusals from plain numbers, as bytes in a lent buffer (specification, section 9): of a call that is
+// refused, and of a fault of the bytes. `done_lines` has the line of an accepted call, `first_lines` a listing's first
+// line, and `listings` has lines from plans, calls and replies. A line is begun only where all of it fits.
+use digits::byte_digits;
+use encoding::Outcome;
+use line_fields::put_last;
+use line_fields::put_lead;
+use refusals::Refusal;
+ghost use mathlib.Core.Path.{_≡_};
+ghost use lib.ListN.{length};
+ghost use Rattle.encoding.specs.Buffers.{outcomeSays};
+ghost use Rattle.listings.specs.PlainLines.{refusalLine, fieldsLine, refusedFields, lineSays, lineBuffer};
+
+// Clause 9.7: the line of a call that is refused by a number.
+pub fn refused_line(
+    letter: u8,
+    processor: u8,
+    tick: u64,
+    number: u8,
+    buffer: &mut [u8],
+    at: usize,
+) -> Outcome
+    ensures outcome { λ r. ⌜
+        outcomeSays r
+        ≡ lineSays (fieldsLine letter processor tick (refusedFields number)) (length (now (buffer .entry))) at
+        ⌝ }
+    ensures bytes { λ _. ⌜
+        now (buffer .exit)
+        ≡ lineBuffer (fieldsLine letter processor tick (refusedFields number)) (now (buffer .entry)) at
+        ⌝ }
+{
+    let more = 10 + byte_digits(number);
+    let led = put_lead(letter, processor, tick, more as u8, buffer, at);
+    if led == 0 {
+        return Outcome::Refused(Refusal::Room);
+    }
+    put_last(b" refused ", number as u64, buffer, at + led);
+    Outcome::Bytes(led + more)
+}
+
+// Clause 9.8: the line of a fault of the bytes, by its number.
+pub fn fault_line(number: u8, buffer: &mut [u8], at: usize) -> Outcome
+    ensures outcome { λ r. ⌜ outcomeSays r ≡ lineSays (refusalLine number) (length (now (buffer .entry))) at ⌝ }
+    ensures bytes { λ _. ⌜ now (buffer .exit) ≡ lineBuffer (refusalLine number) (now (buffer .entry)) at ⌝ }
+{
+    let size = put_last(b"refused ", number as u64, buffer, at);
+    if size == 0 {
+        Outcome::Refused(Refusal::Room)
+    } else {
+        Outcome::Bytes(size)
+    }
+}
+
+// How many bytes a line took: none where there was no room.
+pub fn line_size(line: Outcome) -> usize
+    ensures { λ r. ⌜ r ≡ outcomeSays line .value ⌝ }
+{
+    match line {
+        Outcome::Bytes(size) => size,
+        Outcome::Refused(_) => 0,
+    }
+}

@@ -1,2 +1,0 @@
-pub mod MaskLengths
-pub mod Stores

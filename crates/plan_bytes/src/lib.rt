@@ -1,0 +1,10 @@
+// Plans from and to bytes. Specification, section 2.
+mod entry_reader;
+mod entry_writer;
+mod plan_head;
+mod plan_reader;
+mod plan_room;
+mod plan_writer;
+
+pub use plan_reader::read;
+pub use plan_writer::write;

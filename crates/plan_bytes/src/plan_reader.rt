@@ -1,0 +1,100 @@
+// From bytes to a plan. A log's reader begins with it, and so does the viewer. Specification, section 2.
+use crate::entry_reader::Next;
+use crate::entry_reader::next_entry;
+use crate::plan_head::check_head;
+use encoding::Outcome;
+use plans::ENTRIES;
+use plans::ENTRY_BYTES;
+use plans::Entry;
+use plans::HEAD_BYTES;
+use plans::Plan;
+use plans::Read;
+use plans::plan_size;
+use refusals::Refusal;
+use refusals::Verdict;
+ghost use mathlib.Core.Path.{_≡_};
+ghost use mathlib.Core.Bool.{cond};
+ghost use lib.Dec.{eqb};
+ghost use lib.ListN.{getD};
+ghost use Rattle.refusals.specs.Due.{said};
+ghost use Rattle.encoding.specs.Buffers.{outcomeSays};
+ghost use Rattle.plans.specs.Entries.{planSize};
+ghost use Rattle.plans.specs.Reading.{blankPlan, planIn, readSays, planRead};
+ghost use Rattle.plan_bytes.specs.inner.Body.{bodyFault, CountsThere, wholeRead};
+
+// What fills the places past the count, and a plan that was not read.
+const BLANK: Entry = Entry {
+    kind: 0,
+    set: 0,
+    length: 0,
+};
+
+// Clause 2.9: a refusal has the blank plan beside it.
+fn refused(refusal: Refusal) -> Read
+    ensures { λ r. ⌜ r ≡ record { outcome = Outcome.Refused refusal; plan = blankPlan } ⌝ }
+{
+    Read {
+        outcome: Outcome::Refused(refusal),
+        plan: Plan {
+            processors: 0,
+            resources: 0,
+            count: 0,
+            entries: [BLANK; ENTRIES],
+        },
+    }
+}
+
+// Clause 2.8: the plan of the counts and these entries, and how many bytes it took.
+fn whole(bytes: &[u8], entries: [Entry; ENTRIES]) -> Read
+    requires { ⌜ CountsThere (now bytes) ⌝ }
+    ensures { λ r. ⌜ r ≡ wholeRead (now (bytes .entry)) entries ⌝ }
+{
+    Read {
+        outcome: Outcome::Bytes(plan_size(bytes[2])),
+        plan: Plan {
+            processors: bytes[0],
+            resources: bytes[1],
+            count: bytes[2],
+            entries: entries,
+        },
+    }
+}
+
+// Clause 2.9: the entries after good counts. Each is checked as it is met, and the first fault ends the reading.
+fn read_entries(bytes: &[u8]) -> Read
+    requires { ⌜ CountsThere (now bytes) ⌝ }
+    ensures outcome { λ r. ⌜
+        outcomeSays (r .outcome) ≡ said (bodyFault (now (bytes .entry))) (planSize (getD (now (bytes .entry)) 2 0))
+        ⌝ }
+    ensures plan { λ r. ⌜
+        r .plan ≡ cond (eqb (bodyFault (now (bytes .entry))) 0) (planIn (now (bytes .entry))) blankPlan
+        ⌝ }
+{
+    let resources = bytes[1];
+    let count = bytes[2] as usize;
+    let mut entries = [BLANK; ENTRIES];
+    let mut at: usize = HEAD_BYTES;
+    let mut i: usize = 0;
+    while i < count {
+        let next = next_entry(&bytes[at..], resources);
+        match next {
+            Next::Met(entry) => entries[i] = entry,
+            Next::Fault(refusal) => return refused(refusal),
+        }
+        at += ENTRY_BYTES;
+        i += 1;
+    }
+    whole(bytes, entries)
+}
+
+// Clause 2.8: the plan and the number of bytes that it took, or the refusal. What stands behind it is left alone.
+pub fn read(bytes: &[u8]) -> Read
+    ensures outcome { λ r. ⌜ outcomeSays (r .outcome) ≡ readSays (now (bytes .entry)) ⌝ }
+    ensures plan { λ r. ⌜ r .plan ≡ planRead (now (bytes .entry)) ⌝ }
+{
+    let verdict = check_head(bytes);
+    match verdict {
+        Verdict::Accepted => read_entries(bytes),
+        Verdict::Refused(refusal) => refused(refusal),
+    }
+}

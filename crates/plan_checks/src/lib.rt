@@ -1,0 +1,10 @@
+// Which plan values are accepted. Specification, section 2 and clause 8.1.
+mod acceptance;
+mod plan_counts;
+mod plan_entries;
+
+pub use acceptance::check;
+pub use plan_counts::check_entry_count;
+pub use plan_counts::check_processors;
+pub use plan_counts::check_resources;
+pub use plan_entries::check_entry;

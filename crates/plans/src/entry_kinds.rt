@@ -1,0 +1,30 @@
+// What an entry of a plan is, and how many entries count. Specification, clauses 2.5 and 2.6.
+use crate::ENTRIES;
+use crate::Entry;
+ghost use mathlib.Core.Path.{_≡_};
+ghost use Prim.Native.Nat.{min};
+ghost use Rattle.plans.specs.Entries.{mostEntries, isRead, isWrite};
+
+// Clause 2.6: kind 0 reads, and kind 1 writes.
+pub fn is_read(entry: Entry) -> bool
+    ensures { λ r. ⌜ r ≡ isRead entry ⌝ }
+{
+    entry.kind == 0
+}
+
+pub fn is_write(entry: Entry) -> bool
+    ensures { λ r. ⌜ r ≡ isWrite entry ⌝ }
+{
+    entry.kind == 1
+}
+
+// How many entries count: a plan has no more than 64.
+pub fn counted_of(count: u8) -> u8
+    ensures { λ r. ⌜ r ≡ min count mostEntries ⌝ }
+{
+    if count < ENTRIES as u8 {
+        count
+    } else {
+        ENTRIES as u8
+    }
+}

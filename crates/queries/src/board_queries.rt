@@ -1,0 +1,66 @@
+// The whole board in one buffer, in one pass: who writes and which requests count is worked out once. Specification,
+// clauses 7.7 to 7.9.
+use encoding::Outcome;
+use plans::ENTRIES;
+use plans::SLOTS;
+use rules::Board;
+use rules::Moment;
+use rules::State;
+use rules::Terms;
+use settling::clean;
+use waits::waits_of_all;
+ghost use mathlib.Core.Path.{_≡_};
+ghost use mathlib.Core.List.{[]};
+ghost use Rattle.encoding.specs.Buffers.{outcomeSays};
+ghost use Rattle.rules.specs.InPlace.{boardBy, stateBy};
+ghost use Rattle.queries.specs.WholeBoard.{boardQuery, boardBuffer};
+
+// Fills the buffer with the list and answers how many bytes it took; bytes behind it stay. The parts of a board and a
+// state are lent, as to a call in place. Refuses by 16 a buffer that is too short, and then writes nothing.
+pub fn list_board_in_place(
+    terms: Terms,
+    rows: &[u64; ENTRIES],
+    moment: Moment,
+    entries: &[u8; SLOTS],
+    since: &[u64; SLOTS],
+    earlier: &[u32; SLOTS],
+    buffer: &mut [u8],
+) -> Outcome
+    ensures outcome { λ r. ⌜ outcomeSays r
+        ≡ boardQuery (boardBy terms (now (rows .entry)) []) (now (buffer .entry)) ⌝ }
+    ensures bytes { λ _. ⌜ now (buffer .exit) ≡ boardBuffer
+        (boardBy terms (now (rows .entry)) [])
+        (stateBy moment (now (entries .entry)) (now (since .entry)) (now (earlier .entry)))
+        (now (buffer .entry)) ⌝ }
+{
+    let given = moment.phases;
+    let phases = clean(terms, *entries, given);
+    let waits = waits_of_all(rows, terms.writes, entries, earlier, phases);
+    board_list::write(
+        terms.processors,
+        phases,
+        moment.last,
+        entries,
+        since,
+        &waits,
+        buffer,
+    )
+}
+
+// The same by value.
+pub fn list_board(board: Board, state: State, buffer: &mut [u8]) -> Outcome
+    ensures outcome { λ r. ⌜ outcomeSays r ≡ boardQuery board (now (buffer .entry)) ⌝ }
+    ensures bytes { λ _. ⌜ now (buffer .exit) ≡ boardBuffer board state (now (buffer .entry)) ⌝ }
+{
+    let terms = board.terms;
+    let rows = board.rows;
+    let given = state.phases;
+    let moment = Moment {
+        last: state.last,
+        phases: given,
+    };
+    let entries = state.entry;
+    let since = state.since;
+    let earlier = state.earlier;
+    list_board_in_place(terms, &rows, moment, &entries, &since, &earlier, buffer)
+}

@@ -1,0 +1,64 @@
+// A call of a log: it is carried out on the arrays of a state in place, and its line goes into a lent buffer
+// (specification, sections 4 and 9). `replay_records` has the record that it stands in.
+use calls_in_place::answer_in_place;
+use listings::call_line_by;
+use listings::line_size;
+use plans::ENTRIES;
+use plans::SLOTS;
+use rules::Call;
+use rules::Moment;
+use rules::Terms;
+ghost use mathlib.Core.Path.{_≡_};
+ghost use lib.ListN.{length};
+ghost use Rattle.rules.specs.InPlace.{boardBy, stateBy};
+ghost use Rattle.listings.specs.PlainLines.{lineBuffer};
+ghost use Rattle.replay.specs.Steps.{callStep, stands, carriedBy};
+
+// What one record did beside the arrays of the state: the moment after it, how many bytes its line took, and whether it
+// ended the replay.
+pub struct Carried {
+    pub moment: Moment,
+    pub written: usize,
+    pub ended: bool,
+}
+
+// A call is carried out and has its line, and the replay goes on. The arrays of the board and of the state are lent,
+// and so are the digits of every byte.
+pub fn carry_out(
+    terms: Terms,
+    rows: &[u64; ENTRIES],
+    lengths: &[u16; ENTRIES],
+    pairs: &[u16],
+    moment: Moment,
+    entries: &mut [u8; SLOTS],
+    since: &mut [u64; SLOTS],
+    earlier: &mut [u32; SLOTS],
+    call: Call,
+    out: &mut [u8],
+    at: usize,
+) -> Carried
+    ensures result { λ r. ⌜
+        carriedBy r (now (entries .exit)) (now (since .exit)) (now (earlier .exit))
+        ≡ stands
+        (callStep (now (pairs .entry)) (boardBy terms (now (rows .entry)) (now (lengths .entry)))
+        (stateBy moment (now (entries .entry)) (now (since .entry)) (now (earlier .entry))) call)
+        (length (now (out .entry))) at
+        ⌝ }
+    ensures written { λ _. ⌜
+        now (out .exit)
+        ≡ lineBuffer
+        (callStep (now (pairs .entry)) (boardBy terms (now (rows .entry)) (now (lengths .entry)))
+        (stateBy moment (now (entries .entry)) (now (since .entry)) (now (earlier .entry))) call .line)
+        (now (out .entry)) at
+        ⌝ }
+{
+    let changed = answer_in_place(terms, rows, lengths, moment, entries, since, earlier, call);
+    let reply = changed.reply;
+    let after = changed.moment;
+    let size = line_size(call_line_by(pairs, terms.processors, call, reply, out, at));
+    Carried {
+        moment: after,
+        written: size,
+        ended: false,
+    }
+}

@@ -1,0 +1,95 @@
+// The lines of a log's call count and of its end (specification, section 9). `log_openings` has the line before them,
+// and `replay` the calls between them. A line goes to the start of a lent buffer.
+use encoding::Outcome;
+use listings::refusal_line;
+use logs::CountAnswer;
+use logs::RecordAnswer;
+use logs::check_tail;
+use logs::read_count;
+use logs::read_record;
+use refusals::Verdict;
+ghost use mathlib.Core.Path.{_≡_};
+ghost use lib.ListN.{length};
+ghost use Rattle.refusals.specs.Number.{verdictNumber};
+ghost use Rattle.encoding.specs.Buffers.{outcomeSays};
+ghost use Rattle.logs.specs.Records.{countSays, readCount};
+ghost use Rattle.listings.specs.PlainLines.{lineSays, lineBuffer};
+ghost use Rattle.replay.specs.Ends.{faultLine, countLine, endFault, endLine};
+
+// How many calls follow, or the refusal, and the refusal's line.
+pub struct CallCount {
+    pub calls: CountAnswer,
+    pub line: Outcome,
+}
+
+// ---- before the calls
+
+// The line of a refusal, and none where there is no refusal.
+fn verdict_line(verdict: Verdict, out: &mut [u8]) -> Outcome
+    ensures outcome { λ r. ⌜
+        outcomeSays r ≡ lineSays (faultLine (verdictNumber verdict)) (length (now (out .entry))) 0
+        ⌝ }
+    ensures written { λ _. ⌜
+        now (out .exit) ≡ lineBuffer (faultLine (verdictNumber verdict)) (now (out .entry)) 0
+        ⌝ }
+{
+    match verdict {
+        Verdict::Accepted => Outcome::Bytes(0),
+        Verdict::Refused(refusal) => refusal_line(refusal, out, 0),
+    }
+}
+
+fn count_verdict(calls: CountAnswer) -> Verdict
+    ensures { λ r. ⌜ verdictNumber r ≡ countSays calls .number ⌝ }
+{
+    match calls {
+        CountAnswer::Calls(_) => Verdict::Accepted,
+        CountAnswer::Refused(refusal) => Verdict::Refused(refusal),
+    }
+}
+
+// Reads the call count at the start of the bytes after the plan. Its refusal's line goes to the start of `out`.
+pub fn count(bytes: &[u8], out: &mut [u8]) -> CallCount
+    ensures calls { λ r. ⌜ countSays (r .calls) ≡ readCount (now (bytes .entry)) ⌝ }
+    ensures line { λ r. ⌜
+        outcomeSays (r .line) ≡ lineSays (countLine (now (bytes .entry))) (length (now (out .entry))) 0
+        ⌝ }
+    ensures written { λ _. ⌜ now (out .exit) ≡ lineBuffer (countLine (now (bytes .entry))) (now (out .entry)) 0 ⌝ }
+{
+    let calls = read_count(bytes);
+    let verdict = count_verdict(calls);
+    let line = verdict_line(verdict, out);
+    CallCount {
+        calls: calls,
+        line: line,
+    }
+}
+
+// ---- after the calls
+
+// What the bytes at the end of the input are refused by: a call that is due, or after the last one any byte.
+fn end_fault(left: u16, bytes: &[u8]) -> Verdict
+    ensures { λ r. ⌜ verdictNumber r ≡ endFault left (now (bytes .entry)) ⌝ }
+{
+    if left == 0 {
+        return check_tail(bytes);
+    }
+    let found = read_record(bytes);
+    match found {
+        RecordAnswer::Is(_) => Verdict::Accepted,
+        RecordAnswer::Refused(refusal) => Verdict::Refused(refusal),
+    }
+}
+
+// The line that ends the listing, if any, where the input ends with less than a record left over, or no call is left.
+pub fn finish(left: u16, bytes: &[u8], out: &mut [u8]) -> Outcome
+    ensures outcome { λ r. ⌜
+        outcomeSays r ≡ lineSays (endLine left (now (bytes .entry))) (length (now (out .entry))) 0
+        ⌝ }
+    ensures written { λ _. ⌜
+        now (out .exit) ≡ lineBuffer (endLine left (now (bytes .entry))) (now (out .entry)) 0
+        ⌝ }
+{
+    let verdict = end_fault(left, bytes);
+    verdict_line(verdict, out)
+}

@@ -1,0 +1,12 @@
+-- `store_tick` meets its contract: past the end a list has no place to change. Assumes nothing.
+use mathlib.Core.Path.{sym}
+use lib.Seq.{set-out}
+use borrow.Author.Needs.{needs}
+use Rattle.requests.proofs.stores.store_tick.Statement.{statement}
+use Rattle.requests.proofs.stores.store_tick.Tie as tie
+
+returns-2 : tie.Need-returns-2
+returns-2 c = sym (set-out _ _ _ (search needs))
+
+pub store-tick-spec : {M : Type 1} → statement M
+store-tick-spec = tie.close (tie.spec (λ c. search needs) (λ c. search needs) (λ c. search needs) (λ c. search needs) returns-2)

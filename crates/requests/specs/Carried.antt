@@ -1,0 +1,14 @@
+-- What an act that was carried out at a tick says: the answer of an accepted call, with the arrays as they are left.
+-- Specification, clauses 4.6 and 4.7.
+use Prim.Native.Nat.{ℕ}
+use mathlib.Core.List.{List}
+use Rattle.rules.specs.Calls.{Answer}
+use Rattle.rules.specs.InPlace.{stateBy}
+use Rattle.requests.specs.declared.effects.Carried.{Carried}
+
+abbrev pub carriedSays : Carried → ℕ → List ℕ → List ℕ → List ℕ → Answer
+carriedSays c tick entry since earlier =
+    record {
+      reply = record { number = 0; granted = c .granted; entitled = c .entitled; late = c .late };
+      state = stateBy (record { last = tick; phases = c .phases }) entry since earlier;
+    }

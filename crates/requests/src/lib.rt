@@ -1,0 +1,17 @@
+// A request enters or leaves: it is put in or taken out, all requests settle, and the masks and the late mark say what changed. Specification, section 4.
+mod ages;
+mod effects;
+mod enter_leave;
+mod grants;
+mod late;
+mod merging;
+mod placing;
+mod stores;
+
+pub use ages::put_last;
+pub use effects::Carried;
+pub use enter_leave::enter;
+pub use enter_leave::leave;
+pub use late::late_mark;
+pub use late::length_at;
+pub use merging::merge;

@@ -1,0 +1,84 @@
+// Where a call puts a request in and takes one out, and what is settled then. Specification, clauses 4.4 and 5.2. A
+// processor that a state has no place for changes nothing.
+use crate::ages::all_but;
+use masks::add32;
+use plans::ENTRIES;
+use plans::SLOTS;
+use rules::Phases;
+use settling::ALL;
+use settling::settle;
+ghost use mathlib.Core.Path.{_≡_};
+ghost use Rattle.rules.specs.Requests.{factsBy};
+ghost use Rattle.rules.specs.Settling.{settled};
+ghost use Rattle.rules.specs.Acts.{putIn, takenOut};
+
+// The phases with the processor's new request put in, waiting.
+fn put_in(phases: Phases, processor: u8) -> Phases
+    ensures { λ r. ⌜ r ≡ putIn phases processor ⌝ }
+{
+    Phases {
+        waiting: add32(phases.waiting, processor as u32) & ALL,
+        entitled: phases.entitled,
+        holding: phases.holding,
+    }
+}
+
+// The phases with the processor's new request put in and settled. Where nobody else is active and nobody is earlier it
+// holds, read or write, and no row has to be looked at.
+pub fn settle_new(
+    rows: &[u64; ENTRIES],
+    writes: u64,
+    entry: &[u8; SLOTS],
+    earlier: &[u32; SLOTS],
+    phases: Phases,
+    processor: u8,
+) -> Phases
+    ensures { λ r. ⌜ r ≡ settled
+        (factsBy (now (rows .entry)) writes (now (entry .entry)) (now (earlier .entry)))
+        (putIn phases processor) ⌝ }
+{
+    if ((processor as usize) < SLOTS) & (phases.waiting | phases.entitled | phases.holding == 0) {
+        if earlier[processor as usize] == 0 {
+            return Phases {
+                waiting: 0,
+                entitled: 0,
+                holding: add32(0, processor as u32),
+            };
+        }
+    }
+    settle(rows, writes, entry, earlier, put_in(phases, processor))
+}
+
+// The phases with the processor's request taken out.
+pub fn take_out(phases: Phases, processor: u8) -> Phases
+    ensures { λ r. ⌜ r ≡ takenOut phases processor ⌝ }
+{
+    let others = all_but(processor);
+    Phases {
+        waiting: phases.waiting & others,
+        entitled: phases.entitled & others,
+        holding: phases.holding & others,
+    }
+}
+
+// The phases of the requests that are left, settled. Where nobody waits or is entitled there is nothing to settle.
+pub fn settle_left(
+    rows: &[u64; ENTRIES],
+    writes: u64,
+    entry: &[u8; SLOTS],
+    earlier: &[u32; SLOTS],
+    phases: Phases,
+) -> Phases
+    ensures { λ r. ⌜ r ≡ settled
+        (factsBy (now (rows .entry)) writes (now (entry .entry)) (now (earlier .entry)))
+        phases ⌝ }
+{
+    if (phases.waiting & ALL) | (phases.entitled & ALL) == 0 {
+        return Phases {
+            waiting: 0,
+            entitled: 0,
+            holding: phases.holding & ALL,
+        };
+    }
+    settle(rows, writes, entry, earlier, phases)
+}

@@ -1,0 +1,24 @@
+-- Processors in masks, as the functions that settle and that find waits go by them.
+use Prim.Native.Nat.{ℕ, _<_, _^_}
+use mathlib.Core.Path.{_≡_}
+use mathlib.Core.List.{List}
+use lib.Dec.{ltb}
+use lib.ListN.{length, getD}
+use Rattle.masks.specs.Sets.{bit, maskOf}
+use Rattle.plans.specs.Entries.{slots, mostEntries}
+use Rattle.rules.specs.declared.settling.Phases.{Phases}
+
+-- There is a row for each entry, and a place for each in a row.
+pub record Table (rows : List ℕ) : Type 0 where
+  pub count : length rows ≡ mostEntries
+  pub places : (e : ℕ) → getD rows e 0 < 2 ^ mostEntries
+
+-- The processors whose requests' entries have a row. The others' are no writes and conflict with none.
+abbrev pub knownIn : List ℕ → ℕ
+knownIn entry = maskOf slots (λ p. ltb (getD entry p 0) mostEntries)
+
+-- The three masks are those of the phases, for the processors that there are.
+pub record Follows (ph : Phases) (waiting entitled holding : ℕ) : Type 0 where
+  pub waits : waiting ≡ maskOf slots (bit (ph .waiting))
+  pub entitles : entitled ≡ maskOf slots (bit (ph .entitled))
+  pub holds : holding ≡ maskOf slots (bit (ph .holding))

@@ -1,3 +1,0 @@
-pub mod Growing
-pub mod Waits
-pub mod Chains

@@ -1,0 +1,3 @@
+pub mod Facing
+pub mod Waits
+pub mod inner

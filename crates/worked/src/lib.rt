@@ -1,1 +1,0 @@
-// Logs computed from the definitions alone: see proofs/Logs.antt. No code.
