@@ -1,3 +1,2 @@
-pub mod Facing
 pub mod Waits
 pub mod inner

@@ -59,7 +59,7 @@ use Rattle.register_block.proofs.commands.Written as R
 use Rattle.register_block.proofs.commands.Written.Laws as R′
 use Rattle.register_block.proofs.register_writes.write as write
 use Rattle.register_block.proofs.register_writes.write.Symbol as write-def
-use Rattle.register_block.proofs.register_writes.write.Symbol.{name as #register_writes·write}
+use Rattle.register_block.proofs.register_writes.write.Symbol.{name as #register_block·write}
 use Rattle.register_block.proofs.register_writes.write.Met as write-thm
 use Rattle.register_block.proofs.write_register.Key.{name as #register_block·write-register}
 use Rattle.register_block.proofs.write_register as here
@@ -168,7 +168,7 @@ module _ {M : Type 1} (𝓤 : URA M) (H : Heap 𝓤) (A : Atoms 𝓤) (W : Given
     written-is : (r : Change) (u : Val) → Is D.the-row r (u ∷ []) → Is R.the-row (r .written) (written-val r ∷ [])
     written-is r u is = LL.owed D.the-type D′.the-laws r _ is .1 .0
 
-    module _ (C : Calls 𝓤 H) (Λ : Loops 𝓤 H) (fm : FmC 𝓤 H (W .laws) C) (known : Triple 𝓤 (C #register_writes·write) (Write 𝓤 H A at-mem run)) where
+    module _ (C : Calls 𝓤 H) (Λ : Loops 𝓤 H) (fm : FmC 𝓤 H (W .laws) C) (known : Triple 𝓤 (C #register_block·write) (Write 𝓤 H A at-mem run)) where
       walk : ent 𝓤 (onEntry 𝓤 H A here.signature (κ₀, (κ₁, (κ₂, tt))) (q₀, (q₁, (q₂, tt))) x at)
           (WpFn 𝓤 H C Λ code.function (vptr b o ∷ terms-val ∷ vptr (rows .ptr .0) (rows .ptr .1) ∷ vptr (lengths .ptr .0) (lengths .ptr .1) ∷ state-val ∷ vint w8 n ∷ vint w8 v ∷ []) Post)
       walk =
@@ -219,7 +219,7 @@ module _ {M : Type 1} (𝓤 : URA M) (H : Heap 𝓤) (A : Atoms 𝓤) (W : Given
           keep ! (0 ∷ 1 ∷ 2 ∷ 4 ∷ 5 ∷ 6 ∷ []) $ by ! (exits r (written-is r u is) e)))))))))))))))))
 
 module _ {M : Type 1} (𝓤 : URA M) (H : Heap 𝓤) (A : Atoms 𝓤) (W : Given 𝓤 H A) (mem : Memory → SProp 𝓤) (run : Routine → Fun 𝓤) where
-  write-register-walks : (C : Calls 𝓤 H) (Λ : Loops 𝓤 H) → FmC 𝓤 H (W .laws) C → Triple 𝓤 (C #register_writes·write) (Write 𝓤 H A mem run)
+  write-register-walks : (C : Calls 𝓤 H) (Λ : Loops 𝓤 H) → FmC 𝓤 H (W .laws) C → Triple 𝓤 (C #register_block·write) (Write 𝓤 H A mem run)
       → Walks 𝓤 H A here.ended stayed (WpFn 𝓤 H C Λ code.function) (here.clauses 𝓤 H A mem run)
   write-register-walks C Λ fm known =
       walked 𝓤 H A here.ended stayed (here.clauses 𝓤 H A mem run) (WpFn 𝓤 H C Λ code.function)
@@ -256,7 +256,7 @@ module _ {M : Type 1} (𝓤 : URA M) (H : Heap 𝓤) (A : Atoms 𝓤) (W : Given
     ),
   )
 
-write-register-meets : {M : Type 1} (𝓤 : URA M) (H : Heap 𝓤) (A : Atoms 𝓤) → Given 𝓤 H A → (mem : Memory → SProp 𝓤) (run : Routine → Fun 𝓤) (𝓣 : Tables 𝓤 H) → Triple 𝓤 (𝓣 .C #register_writes·write) (Write 𝓤 H A mem run)
+write-register-meets : {M : Type 1} (𝓤 : URA M) (H : Heap 𝓤) (A : Atoms 𝓤) → Given 𝓤 H A → (mem : Memory → SProp 𝓤) (run : Routine → Fun 𝓤) (𝓣 : Tables 𝓤 H) → Triple 𝓤 (𝓣 .C #register_block·write) (Write 𝓤 H A mem run)
     → Meets 𝓤 H A here.signature (WpFn 𝓤 H (𝓣 .C) (𝓣 .Λ) code.function) (here.spec 𝓤 H A mem run)
 write-register-meets 𝓤 H A W mem run 𝓣 known =
     walk-meets 𝓤 H A here.ended stayed W (goes 𝓤 H A W mem run) (here.clauses 𝓤 H A mem run) (WpFn 𝓤 H (𝓣 .C) (𝓣 .Λ) code.function) (WpFn-mono 𝓤 H (W .laws) 𝓣 code.function)
@@ -268,4 +268,4 @@ write-register-spec 𝓤 H 𝓜 𝓖 𝓡 =
     entered 𝓤 H (tripleOf 𝓤 H (𝓖 .A) here.signature (here.spec 𝓤 H (𝓖 .A) (𝓜 .mem) (𝓡 .run)))
     (tables 𝓤 H 𝓜 𝓡 code.env .C) (tables 𝓤 H 𝓜 𝓡 code.env .Λ) #register_block·write-register code.function (code.unfolded 𝓤 H 𝓜 𝓡)
     (write-register-meets 𝓤 H (𝓖 .A) (givenOf 𝓤 H 𝓜 𝓖) (𝓜 .mem) (𝓡 .run) (tablesOf 𝓤 H 𝓜 (tables 𝓤 H 𝓜 𝓡 code.env))
-    (cited 𝓤 H (Write 𝓤 H (𝓖 .A) (𝓜 .mem) (𝓡 .run)) 𝓜 𝓡 code.env #register_writes·write write-def.routine code.calls-register-writes·write (write-thm.met 𝓤 H 𝓜 𝓖 𝓡)))
+    (cited 𝓤 H (Write 𝓤 H (𝓖 .A) (𝓜 .mem) (𝓡 .run)) 𝓜 𝓡 code.env #register_block·write write-def.routine code.calls-register-block·register-writes·write (write-thm.met 𝓤 H 𝓜 𝓖 𝓡)))
