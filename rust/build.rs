@@ -1,5 +1,6 @@
-//! Links libbittmelon.a: from the folder that the environment names as BITTMELON_LIB; else from target/staticlib beside this
-//! crate, where tools/archive makes it; else from lib/ of the place where tools/install put this crate.
+//! Links libbittmelon.a from the first of these folders: the one that the environment variable BITTMELON_LIB names, if it is
+//! set; target/staticlib in the repository, where tools/archive builds it, if it is there; lib/ under the prefix where
+//! tools/install put this crate.
 use std::env;
 use std::path::{Path, PathBuf};
 

@@ -1,7 +1,8 @@
 /* Prints the two figures of a plan file, or the number of its refusal.
  * usage: plan_figures FILE
- * Exit status: 0 for an accepted plan, 1 for a refused one, 2 where there is no file.
- * The figures hold if every holder keeps to its entry's declared length; one hold that is longer, and they promise nothing.
+ * Exit status: 0 for an accepted plan, 1 for a refused plan, 2 if there is no file.
+ * The figures are guaranteed if every holder keeps to its entry's declared length. If even one hold is longer, they promise
+ * nothing.
  */
 #include <stdio.h>
 

@@ -1,13 +1,14 @@
-/* Six threads share a board, as cores do: each requests entries of a plan and spins until it is granted.
+/* Six threads share a board, as cores do. Each thread requests entries of a plan and spins until its request is granted.
  * usage: spinning [SECONDS [LOG LISTING]]
  *
- * Calls are made one at a time, under a spin lock. Whoever makes one publishes who began to hold by it, in a word for each
- * thread; the others spin on their words alone. A thread withdraws now and then while it waits, and some holders hand over.
- * While it holds, it checks that nobody conflicting holds beside it. The ticks are microseconds since the start.
+ * Calls are made one at a time, under a spin lock. The thread that makes a call publishes who began to hold in it, by setting
+ * a word for each such thread. A waiting thread spins on its own word only. Now and then a waiting thread withdraws, and some
+ * holders hand over. While a thread holds, it checks that no conflicting thread holds too. Ticks are microseconds since the
+ * start.
  *
- * LOG gets the plan and the first calls as they were made, at most 65,535, and LISTING what they were answered, as lockreplay
- * prints it for that log. Exit status: 0, 1 if a conflicting holder was seen or a call was refused that should not be, 2 for a
- * wrong argument or a file that cannot be written.
+ * LOG receives the plan and the first calls as they were made, at most 65,535. LISTING receives the answers to them, as
+ * lockreplay prints them for that log. Exit status: 0; 1 if a conflicting holder was seen or a call was refused that should
+ * not have been; 2 for a wrong argument, a thread that cannot be started or a file that cannot be written.
  */
 #define _POSIX_C_SOURCE 200809L
 #include <inttypes.h>
@@ -40,7 +41,7 @@ struct logged {
     struct bittmelon_reply reply;
 };
 
-/* Under the lock. */
+/* The lock, and the variables that it protects. */
 static atomic_flag lock = ATOMIC_FLAG_INIT;
 static struct bittmelon_board board;
 static struct logged calls[LOGGED];
@@ -50,10 +51,10 @@ static uint64_t made, refused, late;
 
 static struct timespec start;
 static atomic_bool stop;
-static atomic_uint granted[THREADS]; /* set by whoever makes the call that grants, cleared by the thread */
+static atomic_uint granted[THREADS]; /* set by the thread that makes the granting call, cleared by the granted thread */
 static atomic_uint holders[RESOURCES];
 static atomic_ulong violations, holds, withdrawn, handed_over;
-static uint64_t record[RESOURCES]; /* what the resources guard: not atomic */
+static uint64_t record[RESOURCES]; /* the data that the resources protect: not atomic */
 
 static uint64_t now(void)
 {
@@ -68,14 +69,14 @@ static uint32_t next(uint32_t *seed)
     return *seed >> 8;
 }
 
-/* Makes a call, as a log's verb says, and publishes whom it granted. */
+/* Makes the call that the verb names (the verbs are those of a log) and publishes which threads it granted. */
 static struct bittmelon_reply call(uint8_t verb, uint8_t processor, uint8_t entry)
 {
     while (atomic_flag_test_and_set_explicit(&lock, memory_order_acquire))
         sched_yield();
     uint64_t tick = now();
     if (tick < last)
-        tick = last; /* the clocks of two cores */
+        tick = last; /* the clocks of two cores may differ */
     last = tick;
     struct bittmelon_reply reply = verb == 0 ? bittmelon_issue(&board, processor, entry, tick)
         : verb == 1 ? bittmelon_complete(&board, processor, tick)
@@ -96,7 +97,7 @@ static struct bittmelon_reply call(uint8_t verb, uint8_t processor, uint8_t entr
     return reply;
 }
 
-/* Holds for so many microseconds, and looks whether a conflicting holder is there: a writer beside anybody. */
+/* Holds for this many microseconds, and checks for a conflicting holder: a writer together with anybody else. */
 static void hold(uint8_t entry, uint64_t ticks)
 {
     unsigned mine = plan[entry].writes ? WRITER : 1;
@@ -125,7 +126,8 @@ static void hold(uint8_t entry, uint64_t ticks)
     atomic_fetch_add(&holds, 1);
 }
 
-/* Spins until the thread's request is granted; with a number of looks, withdraws after so many. Whether it holds. */
+/* Spins until the thread's request is granted, and returns whether it holds. If looks is not 0, withdraws after that many
+ * looks. */
 static int wait_for_grant(uint8_t processor, unsigned looks)
 {
     for (unsigned looked = 0; !atomic_load_explicit(&granted[processor], memory_order_acquire); looked++) {
@@ -135,7 +137,7 @@ static int wait_for_grant(uint8_t processor, unsigned looks)
                 atomic_fetch_add(&withdrawn, 1);
                 return 0;
             }
-            if (refusal != BITTMELON_HELD) /* granted in between */
+            if (refusal != BITTMELON_HELD) /* BITTMELON_HELD: granted in the meantime */
                 atomic_fetch_add(&violations, 1);
         }
         sched_yield();
@@ -147,7 +149,7 @@ static void *run(void *argument)
 {
     uint8_t processor = *(uint8_t *)argument;
     uint32_t seed = processor + 1u;
-    int active = 0; /* whether a handover issued already */
+    int active = 0; /* whether a handover has already issued the next request */
     uint8_t entry = 0;
     while (active || !atomic_load(&stop)) {
         if (!active) {

@@ -1,4 +1,4 @@
-//! Replays logs: for each LOG a file of its name in FOLDER gets the listing that lockreplay prints for it.
+//! Replays logs. For each LOG, writes the listing that lockreplay prints for it to a file of the same name in FOLDER.
 //! usage: replay FOLDER LOG...
 use bittmelon::{figures, Board, Refusal, Reply};
 use std::error::Error;
@@ -6,7 +6,7 @@ use std::fmt::Write;
 use std::path::Path;
 use std::{env, fs};
 
-/// Takes so many bytes off the front, or says that they end too early.
+/// Takes this many bytes off the front, or returns `Short` if there are too few.
 fn take<'a>(bytes: &mut &'a [u8], count: usize) -> Result<&'a [u8], Refusal> {
     let (front, rest) = bytes.split_at_checked(count).ok_or(Refusal::Short)?;
     *bytes = rest;
@@ -24,7 +24,7 @@ fn call(board: &mut Board, record: &[u8], tick: u64) -> Result<Result<Reply, Ref
     }
 }
 
-/// The lines go to `out`; a fault of the bytes ends them.
+/// Appends the listing lines to `out`. A fault in the bytes ends the listing and is returned.
 fn replay(mut bytes: &[u8], out: &mut String) -> Result<(), Refusal> {
     let (mut board, taken) = Board::read(bytes)?;
     let counts = take(&mut bytes, taken)?;

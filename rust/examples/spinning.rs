@@ -1,12 +1,14 @@
-//! Six threads share a board, as cores do: each requests entries of a plan and spins until it is granted.
+//! Six threads share a board, as cores do. Each thread requests entries of a plan and spins until its request is granted.
 //! usage: spinning [SECONDS [LOG LISTING]]
 //!
-//! Calls are made one at a time, under a spin lock. Whoever makes one publishes who began to hold by it, in a word for each
-//! thread; the others spin on their words alone. A thread withdraws now and then while it waits, and some holders hand over.
-//! While it holds, it checks that nobody conflicting holds beside it. The ticks are microseconds since the start.
+//! Calls are made one at a time, under a spin lock. The thread that makes a call publishes who began to hold in it, by setting
+//! a flag for each such thread. A waiting thread spins on its own flag only. Now and then a waiting thread withdraws, and some
+//! holders hand over. While a thread holds, it checks that no conflicting thread holds too. Ticks are microseconds since the
+//! start.
 //!
-//! LOG gets the plan and the first calls as they were made, at most 65,535, and LISTING what they were answered, as lockreplay
-//! prints it for that log. Exit status: 0, or 1 if a conflicting holder was seen or a call was refused that should not be.
+//! LOG receives the plan and the first calls as they were made, at most 65,535. LISTING receives the answers to them, as
+//! lockreplay prints them for that log. Exit status: 0, or 1 if a conflicting holder was seen or a call was refused that should
+//! not have been.
 use bittmelon::{figures, Board, Refusal, Reply};
 use std::cell::UnsafeCell;
 use std::error::Error;
@@ -63,7 +65,7 @@ enum Verb {
     Handover = 3,
 }
 
-/// What is behind the spin lock: the board, and the log of its calls.
+/// What the spin lock protects: the board, and the log of its calls.
 struct Turns {
     board: Board,
     last: u64,
@@ -74,13 +76,13 @@ struct Turns {
     lines: String,
 }
 
-/// A value behind an atomic flag.
+/// A value that a spin lock protects.
 struct Spinning<T> {
     taken: AtomicBool,
     value: UnsafeCell<T>,
 }
 
-// SAFETY: the value is reached in `with` alone, by one thread at a time.
+// SAFETY: only `with` accesses the value, and only for one thread at a time.
 unsafe impl<T: Send> Sync for Spinning<T> {}
 
 impl<T> Spinning<T> {
@@ -92,7 +94,7 @@ impl<T> Spinning<T> {
         while self.taken.swap(true, Ordering::Acquire) {
             thread::yield_now();
         }
-        // SAFETY: whoever set the flag is the only one here.
+        // SAFETY: the thread that set the flag is the only one here.
         let result = act(unsafe { &mut *self.value.get() });
         self.taken.store(false, Ordering::Release);
         result
@@ -103,7 +105,7 @@ struct Shared {
     start: Instant,
     stop: AtomicBool,
     turns: Spinning<Turns>,
-    /// Set by whoever makes the call that grants, cleared by the thread.
+    /// The thread that makes the granting call sets it, and the granted thread clears it.
     granted: [AtomicBool; THREADS as usize],
     holders: [AtomicU32; RESOURCES as usize],
     violations: AtomicU64,
@@ -117,7 +119,7 @@ impl Shared {
         self.start.elapsed().as_micros() as u64
     }
 
-    /// Makes a call and publishes whom it granted.
+    /// Makes a call and publishes which threads it granted.
     fn call(&self, verb: Verb, processor: u8, entry: u8) -> Result<Reply, Refusal> {
         self.turns.with(|turns| {
             let tick = self.now().max(turns.last);
@@ -142,7 +144,7 @@ impl Shared {
         what.fetch_add(1, Ordering::Relaxed);
     }
 
-    /// Holds for so many microseconds, and looks whether a conflicting holder is there: a writer beside anybody.
+    /// Holds for this many microseconds, and checks for a conflicting holder: a writer together with anybody else.
     fn hold(&self, entry: &Entry, ticks: u64) {
         let named = || (0..RESOURCES).filter(|r| entry.names >> r & 1 == 1).map(|r| &self.holders[r as usize]);
         let mine = if entry.writes { WRITER } else { 1 };
@@ -162,7 +164,8 @@ impl Shared {
         self.count(&self.holds);
     }
 
-    /// Spins until the thread's request is granted; with a number of looks, withdraws after so many. Whether it holds.
+    /// Spins until the thread's request is granted, and returns whether it holds. If `looks` is given, withdraws after that many
+    /// looks.
     fn wait_for_grant(&self, processor: u8, looks: Option<u32>) -> bool {
         let mut looked = 0;
         while !self.granted[processor as usize].load(Ordering::Acquire) {
@@ -172,7 +175,7 @@ impl Shared {
                         self.count(&self.withdrawn);
                         return false;
                     }
-                    Err(Refusal::Held) => {} // granted in between
+                    Err(Refusal::Held) => {} // granted in the meantime
                     Err(_) => self.count(&self.violations),
                 }
             }
@@ -218,7 +221,7 @@ impl Shared {
 }
 
 impl Turns {
-    /// Writes the call down, in the log and in the listing, while there is room.
+    /// Records the call in the log and in the listing, while there is room.
     fn note(&mut self, verb: Verb, processor: u8, entry: u8, tick: u64, answer: Result<Reply, Refusal>) {
         self.made += 1;
         self.refused += answer.is_err() as u64;

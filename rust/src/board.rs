@@ -2,8 +2,8 @@
 use crate::parts;
 use crate::refusal::{unless_refused, Refusal};
 
-/// The lock arbiter of a plan: a plain value, laid out as `struct bittmelon_board` of the C header. What calls change stands
-/// first, then what they read, then what [`Board::new`] and [`Board::shared`] alone need.
+/// The lock arbiter of a plan: a plain value with the layout of `struct bittmelon_board` in the C header. The fields that calls
+/// change come first, then the fields that calls only read, then the fields that only [`Board::new`] and [`Board::shared`] use.
 #[derive(Clone, Debug, PartialEq, Eq)]
 #[repr(C)]
 pub struct Board {
@@ -22,19 +22,19 @@ pub struct Board {
     widened: [u64; 64],
 }
 
-/// The answer to a call that is accepted.
+/// The answer to an accepted call.
 #[derive(Clone, Copy, Debug, PartialEq, Eq)]
 pub struct Reply {
-    /// The mask of the processors that began to hold by the call.
+    /// The mask of the processors that began to hold in this call.
     pub granted: u32,
-    /// The mask of those that became entitled by it and still are.
+    /// The mask of the processors that became entitled in this call and still are.
     pub entitled: u32,
-    /// Whether the hold that it completed was longer than its entry's length.
+    /// Whether this call completed a hold that was longer than its entry's length.
     pub late: bool,
 }
 
 impl Reply {
-    /// Whether the processor began to hold by the call.
+    /// Whether the processor began to hold in this call.
     ///
     /// ```
     /// # let plan = [2, 1, 1, 1, 1, 0, 0, 0, 0, 0, 0, 0, 20, 0];
@@ -48,25 +48,25 @@ impl Reply {
     }
 }
 
-/// What a processor's request does.
+/// The state of a processor.
 #[derive(Clone, Copy, Debug, PartialEq, Eq)]
 pub enum Phase {
-    /// There is none.
+    /// It has no request.
     Idle = 0,
-    /// It is in line.
+    /// Its request is in the queue.
     Waiting = 1,
-    /// It is next in line, until holders finish.
+    /// Its request is next in the queue, waiting for holders to finish.
     Entitled = 2,
-    /// It is granted.
+    /// Its request is granted.
     Holding = 3,
 }
 
 /// What two entries conflict over.
 #[derive(Clone, Copy, Debug, PartialEq, Eq)]
 pub struct Shared {
-    /// The lowest-numbered resource that they share.
+    /// The lowest-numbered resource that they conflict over.
     pub lowest: u32,
-    /// How many they share.
+    /// How many resources they conflict over.
     pub count: u32,
 }
 
@@ -74,7 +74,7 @@ fn reply_of(reply: parts::Reply) -> Result<Reply, Refusal> {
     unless_refused(reply.refusal, Reply { granted: reply.granted, entitled: reply.entitled, late: reply.late != 0 })
 }
 
-/// A mask has 32 bits, and the archive answers it in the low ones of 64.
+/// A mask has 32 bits. The archive returns it in the low bits of 64.
 fn mask_of(answer: parts::Answer) -> Result<u32, Refusal> {
     unless_refused(answer.refusal, answer.value as u32)
 }
@@ -84,8 +84,8 @@ fn size_of(answer: parts::Answer) -> Result<usize, Refusal> {
 }
 
 impl Board {
-    /// The fresh board of the plan at the start of the bytes: no request, and the last accepted tick is 0. Bytes behind the
-    /// plan are not looked at. Refused as `Short` or `Processors` to `Length`.
+    /// Makes the board of the plan at the start of the bytes. It has no requests, and its last accepted tick is 0. Bytes after
+    /// the plan are ignored. Refused as `Short` or `Processors` to `Length`.
     ///
     /// ```
     /// use bittmelon::{Board, Refusal};
@@ -100,7 +100,7 @@ impl Board {
         Board::read(plan).map(|(board, _)| board)
     }
 
-    /// As [`Board::new`], with the number of bytes that the plan took.
+    /// The same as [`Board::new`], and returns the number of bytes that the plan took as well.
     ///
     /// ```
     /// let bytes = [2, 1, 1, 1, 1, 0, 0, 0, 0, 0, 0, 0, 20, 0, 99, 99];
@@ -124,7 +124,7 @@ impl Board {
             names: [0; 64],
             widened: [0; 64],
         };
-        // SAFETY: the function reads the bytes and writes the fields, which are lent one by one, and keeps nothing.
+        // SAFETY: the function only reads the bytes and writes the fields, which are lent one by one. It keeps no pointer.
         let answer = unsafe {
             parts::bittmelon_fresh_parts(
                 bytes.as_ptr(),
@@ -146,8 +146,8 @@ impl Board {
         size_of(answer).map(|taken| (board, taken))
     }
 
-    /// The processor requests the entry. It holds once a reply, this one or a later one, grants it. Refused as `Tick`,
-    /// `Processor`, `Entry` or `Busy`.
+    /// The processor requests the entry. It holds the entry once a reply grants it, either this one or a later one. Refused as
+    /// `Tick`, `Processor`, `Entry` or `Busy`.
     ///
     /// ```
     /// use bittmelon::{Board, Refusal, LAST_TICK};
@@ -179,7 +179,7 @@ impl Board {
         ))
     }
 
-    /// The processor's request, which holds, is done. Refused as `Tick`, `Processor`, `Idle` or `Unheld`.
+    /// Completes the processor's request, which must hold. Refused as `Tick`, `Processor`, `Idle` or `Unheld`.
     ///
     /// ```
     /// use bittmelon::{Board, Refusal};
@@ -211,7 +211,8 @@ impl Board {
         ))
     }
 
-    /// The processor's request, which does not hold, leaves the line. Refused as `Tick`, `Processor`, `Idle` or `Held`.
+    /// Withdraws the processor's request, which must not hold: it leaves the queue. Refused as `Tick`, `Processor`, `Idle` or
+    /// `Held`.
     ///
     /// ```
     /// use bittmelon::{Board, Phase, Refusal};
@@ -241,8 +242,8 @@ impl Board {
         ))
     }
 
-    /// Completes the processor's request and issues the entry in one call: both, or neither. Refused as `Tick`, `Processor`,
-    /// `Entry`, `Idle` or `Unheld`.
+    /// Completes the processor's request and requests the entry in one call: both happen, or neither. Refused as `Tick`,
+    /// `Processor`, `Entry`, `Idle` or `Unheld`.
     ///
     /// ```
     /// use bittmelon::{Board, Refusal};
@@ -273,7 +274,7 @@ impl Board {
         ))
     }
 
-    /// What the processor's request does. Refused as `Processor`.
+    /// The state of the processor. Refused as `Processor`.
     ///
     /// ```
     /// use bittmelon::{Board, Phase, Refusal};
@@ -296,7 +297,7 @@ impl Board {
         unless_refused(answer.refusal, phase)
     }
 
-    /// The mask of those for whom the processor waits directly. Refused as `Processor`.
+    /// The mask of the processors that this processor waits for directly. Refused as `Processor`.
     ///
     /// ```
     /// # let plan = [2, 1, 1, 1, 1, 0, 0, 0, 0, 0, 0, 0, 20, 0];
@@ -319,8 +320,8 @@ impl Board {
         ))
     }
 
-    /// The mask of all to whom a chain of direct waits leads from the processor. The scratch takes 32 bytes up to 16
-    /// processors and 128 above ([`SCRATCH_ROOM`](crate::SCRATCH_ROOM)). Refused as `Processor` or `Room`.
+    /// The mask of all processors to which a chain of direct waits leads from this processor. The scratch needs 32 bytes for up
+    /// to 16 processors and 128 for more ([`SCRATCH_ROOM`](crate::SCRATCH_ROOM)). Refused as `Processor` or `Room`.
     ///
     /// ```
     /// use bittmelon::{Board, Refusal, SCRATCH_ROOM};
@@ -333,7 +334,7 @@ impl Board {
     /// # Ok::<(), Refusal>(())
     /// ```
     pub fn reach(&self, processor: u8, scratch: &mut [u8]) -> Result<u32, Refusal> {
-        // SAFETY: the function reads the fields and writes the scratch within its size, and keeps nothing.
+        // SAFETY: the function only reads the fields and writes the scratch within its size. It keeps no pointer.
         mask_of(unsafe {
             parts::bittmelon_reach_parts(
                 self.processors,
@@ -350,9 +351,10 @@ impl Board {
         })
     }
 
-    /// Writes the list of the whole board to the front of the buffer, and answers how many bytes that is; those behind them
-    /// stay. The list is the count of processors in a byte, then for each its state, its entry (255 for none), the ticks it
-    /// has waited in four bytes, and its direct waits in two bytes up to 16 processors and in four above, low byte first.
+    /// Writes the list of the whole board at the start of the buffer, and returns the number of bytes written. Later bytes of
+    /// the buffer stay as they were. The list is the number of processors in one byte, then for each processor its state in one
+    /// byte, its entry in one byte (255 if it has no request), the ticks that it has waited in four bytes, and its direct waits
+    /// in two bytes if there are up to 16 processors and in four if there are more. The low byte of a number comes first.
     /// Refused as `Room` ([`LIST_ROOM`](crate::LIST_ROOM)).
     ///
     /// ```
@@ -366,7 +368,7 @@ impl Board {
     /// # Ok::<(), Refusal>(())
     /// ```
     pub fn list(&self, buffer: &mut [u8]) -> Result<usize, Refusal> {
-        // SAFETY: the function reads the fields and writes the buffer within its size, and keeps nothing.
+        // SAFETY: the function only reads the fields and writes the buffer within its size. It keeps no pointer.
         size_of(unsafe {
             parts::bittmelon_list_parts(
                 self.processors,
@@ -384,7 +386,7 @@ impl Board {
         })
     }
 
-    /// What two entries of the plan conflict over; none if they do not. Refused as `Entry`.
+    /// What two entries of the plan conflict over, or `None` if they do not conflict. Refused as `Entry`.
     ///
     /// ```
     /// use bittmelon::{Board, Refusal, Shared};

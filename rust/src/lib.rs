@@ -1,12 +1,12 @@
-//! Bittmelon: the lock arbiter of a board, for Rust. The work is done by functions that are proved; this crate lends them the
-//! fields of a [`Board`] and turns their numbers into values.
+//! Bittmelon: the lock arbiter of a board, for Rust. Proved functions do the work. This crate lends them the fields of a
+//! [`Board`] and turns the numbers that they return into values.
 //!
-//! A board is a plain value: there is no heap, and nothing is kept elsewhere. Make it from the bytes of a plan, call it, and
-//! ask it. A call takes `&mut self`: one caller at a time for each board. Where cores share one, they take turns, by a spin
-//! lock for instance; `examples/spinning.rs` has it.
+//! A board is a plain value: it uses no heap, and nothing is kept elsewhere. Make a board from the bytes of a plan, call it
+//! and query it. A call takes `&mut self`, so a board has one caller at a time. Cores that share a board must take turns, for
+//! instance with a spin lock; `examples/spinning.rs` shows how.
 //!
-//! Ticks are a clock of the caller's, in any unit, the same one as the plan's lengths; nothing here reads a clock. They never
-//! go back, and they go from 0 to [`LAST_TICK`]. A mask is a set of processors: bit p is processor p.
+//! Ticks come from a clock of the caller's, in any unit, but the same unit as the plan's lengths. Nothing here reads a clock.
+//! Ticks never go back, and they range from 0 to [`LAST_TICK`]. A mask is a set of processors: bit p is processor p.
 //!
 //! ```
 //! use bittmelon::{Board, Phase, Refusal};
@@ -23,8 +23,9 @@
 //! # Ok::<(), Refusal>(())
 //! ```
 //!
-//! The archive `libbittmelon.a` is linked from the folder that the environment names as `BITTMELON_LIB`; where it names none,
-//! from `../target/staticlib` beside this crate, or from `../../../lib` where this crate is installed.
+//! The archive `libbittmelon.a` is linked from the folder that the environment variable `BITTMELON_LIB` names. If the variable
+//! is not set, it is linked from `../target/staticlib`, or, if this crate is installed, from `../../../lib`. Both paths are
+//! relative to this crate's folder.
 #![no_std]
 #![warn(missing_docs)]
 #![deny(unsafe_op_in_unsafe_fn)]
@@ -38,16 +39,17 @@ pub use board::{Board, Phase, Reply, Shared};
 pub use plans::{figures, version, Figures};
 pub use refusal::Refusal;
 
-/// The version of this crate; [`version`] gives the archive's.
+/// The version of this crate. [`version`] returns the version of the archive.
 pub const VERSION: &str = env!("CARGO_PKG_VERSION");
 
 /// The most bytes that a plan takes.
 pub const PLAN_ROOM: usize = 3 + 11 * 64;
 
-/// Enough bytes for the scratch of any [`Board::reach`]. Up to 16 processors 32 are enough.
+/// The most bytes that the scratch of a [`Board::reach`] needs. For up to 16 processors, 32 bytes are enough.
 pub const SCRATCH_ROOM: usize = 128;
 
-/// Enough bytes for any [`Board::list`]. It takes 1 + 8 for each processor up to 16 of them, and 1 + 10 for each above.
+/// The most bytes that a [`Board::list`] takes. A list takes 1 byte, and for each processor 8 bytes if there are up to 16
+/// processors and 10 if there are more.
 pub const LIST_ROOM: usize = 1 + 10 * 32;
 
 /// The largest tick, 1,099,511,627,775: 40 bits.

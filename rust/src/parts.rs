@@ -1,5 +1,5 @@
-//! What the archive has, as include/bittmelon.h declares it. A reference is a pointer that is not null; an array is lent whole.
-//! The functions take any content, touch nothing but what they are lent, and return.
+//! The functions that the archive exports, as include/bittmelon.h declares them. A reference is a pointer that is not null. An
+//! array is lent whole. The functions accept any content, touch only what they are lent, and always return.
 
 #[repr(C)]
 pub struct Reply {

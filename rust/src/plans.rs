@@ -1,18 +1,18 @@
-//! What is asked of a plan's bytes alone, and of the archive.
+//! The figures of a plan, from its bytes alone, and the version of the archive.
 use crate::parts;
 use crate::refusal::{unless_refused, Refusal};
 
-/// The longest that requests of a plan wait, in ticks. The figures hold if every holder keeps to its entry's declared length.
-/// One hold that is longer, and they promise nothing.
+/// The longest times that requests of a plan wait, in ticks. The figures are guaranteed if every holder keeps to its entry's
+/// declared length. If even one hold is longer, they promise nothing.
 #[derive(Clone, Copy, Debug, PartialEq, Eq)]
 pub struct Figures {
-    /// The longest that a read waits, Lr + Lw.
+    /// The longest time that a read waits: Lr + Lw.
     pub read: u32,
-    /// The longest that a write waits, (m - 1) x (Lr + Lw).
+    /// The longest time that a write waits: (m - 1) x (Lr + Lw).
     pub write: u32,
 }
 
-/// The figures of the plan at the start of the bytes. Bytes behind it are not looked at.
+/// The figures of the plan at the start of the bytes. Bytes after the plan are ignored.
 ///
 /// ```
 /// use bittmelon::{figures, Figures, Refusal};
@@ -24,7 +24,7 @@ pub struct Figures {
 /// ```
 pub fn figures(plan: &[u8]) -> Result<Figures, Refusal> {
     let (bytes, count) = (plan.as_ptr(), plan.len());
-    // SAFETY: the functions read these bytes and nothing else, and keep nothing.
+    // SAFETY: the functions only read these bytes. They keep no pointer.
     let (refusal, read, write) = unsafe {
         (
             parts::bittmelon_plan_refusal(bytes, count),

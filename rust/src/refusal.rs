@@ -1,13 +1,13 @@
-//! Why something is refused.
+//! Why something was refused.
 use core::fmt;
 
-/// Why something is refused. Nothing changes where something is.
+/// Why something was refused. A refusal changes nothing.
 #[derive(Clone, Copy, Debug, PartialEq, Eq, Hash)]
 #[repr(u32)]
 pub enum Refusal {
-    /// Bytes end before a count, an entry or a call that is due.
+    /// The bytes end before a count, an entry or a call that is due.
     Short = 1,
-    /// Bytes behind the last call of a log.
+    /// There are bytes after the last call of a log.
     Tail = 2,
     /// The count of processors is not 1 to 32.
     Processors = 3,
@@ -17,7 +17,7 @@ pub enum Refusal {
     Entries = 5,
     /// A kind is neither 0 nor 1.
     Kind = 6,
-    /// A set has no resource, or one that is not counted.
+    /// A set has no resource, or a resource that the plan does not have.
     Set = 7,
     /// A length is 0.
     Length = 8,
@@ -75,7 +75,7 @@ impl Refusal {
         self as u32
     }
 
-    /// The refusal of a number, if there is one.
+    /// The refusal that has this number, if there is one.
     ///
     /// ```
     /// use bittmelon::Refusal;
@@ -90,7 +90,7 @@ impl Refusal {
         }
     }
 
-    /// The refusal's word, as the specification has it.
+    /// The refusal's word, from the table in the specification.
     ///
     /// ```
     /// assert_eq!(bittmelon::Refusal::Busy.word(), "busy");
@@ -100,7 +100,7 @@ impl Refusal {
     }
 }
 
-/// `refused`, the number and the word.
+/// Prints `refused`, the number and the word.
 impl fmt::Display for Refusal {
     fn fmt(&self, f: &mut fmt::Formatter<'_>) -> fmt::Result {
         write!(f, "refused {}: {}", self.number(), self.word())
@@ -109,7 +109,7 @@ impl fmt::Display for Refusal {
 
 impl core::error::Error for Refusal {}
 
-/// The value where the archive's number is 0, else the refusal.
+/// The value if the archive's number is 0, or else the refusal.
 pub(crate) fn unless_refused<T>(number: u32, value: T) -> Result<T, Refusal> {
     match Refusal::from_number(number) {
         Some(refusal) => Err(refusal),

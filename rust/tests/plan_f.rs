@@ -1,4 +1,4 @@
-//! Plan F's calls as the stored log has them, and every refusal that a plan, a call or a query can give.
+//! The calls of plan F from the stored log, and every refusal that a plan, a call or a query can return.
 use bittmelon::{figures, Board, Figures, Phase, Refusal, Reply, Shared, LAST_TICK, LIST_ROOM, PLAN_ROOM, SCRATCH_ROOM};
 
 const WRITES: bool = true;
@@ -63,7 +63,7 @@ fn queries_of_plan_f() {
     assert_eq!(figures(&plan_f()), Ok(Figures { read: 50, write: 150 }));
 }
 
-/// A refusal is given, and the board is as before.
+/// Checks that the call is refused and that the board stays as it was.
 fn refuses<T: core::fmt::Debug + PartialEq>(
     board: &mut Board,
     refusal: Refusal,

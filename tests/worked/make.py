@@ -1,5 +1,5 @@
 #!/usr/bin/env python3
-"""Write crates/worked/proofs/Logs.antt to standard output: a table of a dozen stored logs with their listings, and one
+"""Write crates/demands/proofs/Logs.antt to standard output: a table of a dozen stored logs with their listings, and one
 theorem, that the definitions give these listings.
 
 The listings are the stored ones, which an independent program printed. antt computes `listingOf`, the definition of a
@@ -18,18 +18,18 @@ UNFOLDED = {
     "plans.specs.Acceptance": "countsFault entryFault entriesFault planFault",
     "plans.specs.Figures": "longest",
     "plans.specs.Reading": "entryIn entriesIn sectionFault readFault planIn planRead",
-    "widening.specs.Widening": "widen widenedSet",
-    "tabulation.specs.Tabulation": "tabulate",
+    "conflicts.specs.Widening": "widen widenedSet",
+    "masks.specs.Tabulation": "tabulate",
     "conflicts.specs.Conflict": "shared conflict inConflict conflictsOf",
-    "settling.specs.Settling": "test1 step1 test2 step2 test3 step3 test4 step4 settled",
-    "states.specs.Requests": "isHolding isEntitled isWaiting cleaned",
-    "states.specs.Faults": "issueFault completeFault withdrawFault handoverFault",
+    "rules.specs.Settling": "test1 step1 test2 step2 test3 step3 test4 step4 settled",
+    "rules.specs.CountedRequests": "isHolding isEntitled isWaiting cleaned",
+    "rules.specs.Faults": "issueFault completeFault withdrawFault handoverFault",
     "rules.specs.Acts": "putIn putLast takenOut stamped",
     "rules.specs.Calls": "putState takenState done settledDone issued left completed withdrawn both handedOver",
     "boards.specs.Fresh": "boardOf",
     "logs.specs.Records": "fieldsIn recordFault",
     "digits.specs.Digits": "digits maskIn",
-    "lines.specs.Lines": "furtherFields refusalLine",
+    "listings.specs.PlainLines": "furtherFields refusalLine",
     "listings.specs.Lines": "firstLine callLine",
     "whole_listing.specs.Listing": "callsListing listingOf",
 }
