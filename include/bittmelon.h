@@ -171,14 +171,14 @@ struct bittmelon_answer bittmelon_fresh_parts(const uint8_t *plan, size_t size, 
     uint64_t *writes, uint16_t lengths[64], uint64_t names[64], uint64_t widened[64], uint64_t rows[64], uint64_t *last,
     uint32_t phases[3], uint8_t entry[32], uint64_t since[32], uint32_t earlier[32]);
 struct bittmelon_reply bittmelon_issue_parts(uint8_t processors, uint8_t entries, uint64_t writes, const uint64_t rows[64],
-    uint64_t *last, uint32_t phases[3], uint8_t entry[32], uint64_t since[32], uint32_t earlier[32],
-    uint8_t processor, uint8_t requested, uint64_t tick);
+    const uint16_t lengths[64], uint64_t *last, uint32_t phases[3], uint8_t entry[32], uint64_t since[32],
+    uint32_t earlier[32], uint8_t processor, uint8_t requested, uint64_t tick);
 struct bittmelon_reply bittmelon_complete_parts(uint8_t processors, uint8_t entries, uint64_t writes, const uint64_t rows[64],
     const uint16_t lengths[64], uint64_t *last, uint32_t phases[3], const uint8_t entry[32], uint64_t since[32],
     const uint32_t earlier[32], uint8_t processor, uint64_t tick);
 struct bittmelon_reply bittmelon_withdraw_parts(uint8_t processors, uint8_t entries, uint64_t writes, const uint64_t rows[64],
-    uint64_t *last, uint32_t phases[3], const uint8_t entry[32], uint64_t since[32], const uint32_t earlier[32],
-    uint8_t processor, uint64_t tick);
+    const uint16_t lengths[64], uint64_t *last, uint32_t phases[3], const uint8_t entry[32], uint64_t since[32],
+    const uint32_t earlier[32], uint8_t processor, uint64_t tick);
 struct bittmelon_reply bittmelon_handover_parts(uint8_t processors, uint8_t entries, uint64_t writes, const uint64_t rows[64],
     const uint16_t lengths[64], uint64_t *last, uint32_t phases[3], uint8_t entry[32], uint64_t since[32],
     uint32_t earlier[32], uint8_t processor, uint8_t requested, uint64_t tick);
@@ -208,8 +208,8 @@ static inline struct bittmelon_answer bittmelon_fresh(struct bittmelon_board *bo
 static inline struct bittmelon_reply bittmelon_issue(struct bittmelon_board *board, uint8_t processor, uint8_t entry,
     uint64_t tick)
 {
-    return bittmelon_issue_parts(board->processors, board->entries, board->writes, board->rows, &board->last,
-        board->phases, board->entry, board->since, board->earlier, processor, entry, tick);
+    return bittmelon_issue_parts(board->processors, board->entries, board->writes, board->rows, board->lengths,
+        &board->last, board->phases, board->entry, board->since, board->earlier, processor, entry, tick);
 }
 
 /* Completes the processor's request, which must hold. Refused with 10, 11, 14 or 15. */
@@ -222,8 +222,8 @@ static inline struct bittmelon_reply bittmelon_complete(struct bittmelon_board *
 /* Withdraws the processor's request, which must not hold: it leaves the queue. Refused with 10, 11, 14 or 17. */
 static inline struct bittmelon_reply bittmelon_withdraw(struct bittmelon_board *board, uint8_t processor, uint64_t tick)
 {
-    return bittmelon_withdraw_parts(board->processors, board->entries, board->writes, board->rows, &board->last,
-        board->phases, board->entry, board->since, board->earlier, processor, tick);
+    return bittmelon_withdraw_parts(board->processors, board->entries, board->writes, board->rows, board->lengths,
+        &board->last, board->phases, board->entry, board->since, board->earlier, processor, tick);
 }
 
 /* Completes the processor's request and requests the entry in one call: both happen, or neither. Refused with 10, 11, 12, 14

@@ -103,6 +103,7 @@ fn sum_from(board: Board, full: State, processors: u8, turns: u64) -> u64
         let second = calls_in_place::issue_in_place(
             terms,
             &rows,
+            &lengths,
             left,
             &mut entries,
             &mut since,

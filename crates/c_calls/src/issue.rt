@@ -7,7 +7,6 @@ use plans::ENTRIES;
 use plans::SLOTS;
 use rules::Terms;
 ghost use mathlib.Core.Path.{_≡_};
-ghost use mathlib.Core.List.{[]};
 ghost use Rattle.rules.specs.Calls.{issued};
 ghost use Rattle.rules.specs.InPlace.{boardBy, stateBy};
 ghost use Rattle.c_boards.specs.Parts.{termsBy, momentBy};
@@ -20,6 +19,7 @@ pub extern "C" fn bittmelon_issue_parts(
     entries: u8,
     writes: u64,
     rows: &[u64; ENTRIES],
+    lengths: &[u16; ENTRIES],
     last: &mut u64,
     phases: &mut [u32; 3],
     entry: &mut [u8; SLOTS],
@@ -31,7 +31,7 @@ pub extern "C" fn bittmelon_issue_parts(
 ) -> Replied
     ensures { λ r. ⌜ answerIn r
         (now (last .exit)) (now (phases .exit)) (now (entry .exit)) (now (since .exit)) (now (earlier .exit))
-        ≡ issued (boardBy (termsBy processors entries writes) (now (rows .entry)) [])
+        ≡ issued (boardBy (termsBy processors entries writes) (now (rows .entry)) (now (lengths .entry)))
         (stateBy (momentBy (now (last .entry)) (now (phases .entry)))
         (now (entry .entry)) (now (since .entry)) (now (earlier .entry))) processor requested tick ⌝ }
 {
@@ -44,6 +44,7 @@ pub extern "C" fn bittmelon_issue_parts(
     let changed = issue_in_place(
         terms,
         rows,
+        lengths,
         moment,
         entry,
         since,

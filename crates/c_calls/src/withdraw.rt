@@ -7,7 +7,6 @@ use plans::ENTRIES;
 use plans::SLOTS;
 use rules::Terms;
 ghost use mathlib.Core.Path.{_≡_};
-ghost use mathlib.Core.List.{[]};
 ghost use Rattle.rules.specs.Calls.{withdrawn};
 ghost use Rattle.rules.specs.InPlace.{boardBy, stateBy};
 ghost use Rattle.c_boards.specs.Parts.{termsBy, momentBy};
@@ -20,6 +19,7 @@ pub extern "C" fn bittmelon_withdraw_parts(
     entries: u8,
     writes: u64,
     rows: &[u64; ENTRIES],
+    lengths: &[u16; ENTRIES],
     last: &mut u64,
     phases: &mut [u32; 3],
     entry: &[u8; SLOTS],
@@ -30,7 +30,7 @@ pub extern "C" fn bittmelon_withdraw_parts(
 ) -> Replied
     ensures { λ r. ⌜ answerIn r
         (now (last .exit)) (now (phases .exit)) (now (entry .entry)) (now (since .exit)) (now (earlier .entry))
-        ≡ withdrawn (boardBy (termsBy processors entries writes) (now (rows .entry)) [])
+        ≡ withdrawn (boardBy (termsBy processors entries writes) (now (rows .entry)) (now (lengths .entry)))
         (stateBy (momentBy (now (last .entry)) (now (phases .entry)))
         (now (entry .entry)) (now (since .entry)) (now (earlier .entry))) processor tick ⌝ }
 {
@@ -40,6 +40,6 @@ pub extern "C" fn bittmelon_withdraw_parts(
         writes: writes,
     };
     let moment = moment_of(*last, *phases);
-    let changed = withdraw_in_place(terms, rows, moment, entry, since, earlier, processor, tick);
+    let changed = withdraw_in_place(terms, rows, lengths, moment, entry, since, earlier, processor, tick);
     finish(changed, last, phases)
 }

@@ -38,6 +38,7 @@ pub fn answer_in_place(
             issue_in_place(
                 terms,
                 rows,
+                lengths,
                 moment,
                 entries,
                 since,
@@ -64,6 +65,7 @@ pub fn answer_in_place(
             withdraw_in_place(
                 terms,
                 rows,
+                lengths,
                 moment,
                 entries,
                 since,

@@ -13,7 +13,6 @@ use rules::Moment;
 use rules::Terms;
 use settling::clean;
 ghost use mathlib.Core.Path.{_≡_};
-ghost use mathlib.Core.List.{[]};
 ghost use Rattle.rules.specs.Calls.{issued};
 ghost use Rattle.rules.specs.InPlace.{boardBy, stateBy, answerBy};
 
@@ -21,6 +20,7 @@ ghost use Rattle.rules.specs.InPlace.{boardBy, stateBy, answerBy};
 pub fn issue_in_place(
     terms: Terms,
     rows: &[u64; ENTRIES],
+    lengths: &[u16; ENTRIES],
     moment: Moment,
     entries: &mut [u8; SLOTS],
     since: &mut [u64; SLOTS],
@@ -30,7 +30,7 @@ pub fn issue_in_place(
     tick: u64,
 ) -> Changed
     ensures { λ r. ⌜ answerBy r (now (entries .exit)) (now (since .exit)) (now (earlier .exit))
-        ≡ issued (boardBy terms (now (rows .entry)) [])
+        ≡ issued (boardBy terms (now (rows .entry)) (now (lengths .entry)))
         (stateBy moment (now (entries .entry)) (now (since .entry)) (now (earlier .entry))) processor entry tick ⌝ }
 {
     let given = moment.phases;

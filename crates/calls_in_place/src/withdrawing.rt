@@ -12,7 +12,6 @@ use rules::Moment;
 use rules::Terms;
 use settling::clean;
 ghost use mathlib.Core.Path.{_≡_};
-ghost use mathlib.Core.List.{[]};
 ghost use Rattle.rules.specs.Calls.{withdrawn};
 ghost use Rattle.rules.specs.InPlace.{boardBy, stateBy, answerBy};
 
@@ -20,6 +19,7 @@ ghost use Rattle.rules.specs.InPlace.{boardBy, stateBy, answerBy};
 pub fn withdraw_in_place(
     terms: Terms,
     rows: &[u64; ENTRIES],
+    lengths: &[u16; ENTRIES],
     moment: Moment,
     entries: &[u8; SLOTS],
     since: &mut [u64; SLOTS],
@@ -28,7 +28,7 @@ pub fn withdraw_in_place(
     tick: u64,
 ) -> Changed
     ensures { λ r. ⌜ answerBy r (now (entries .entry)) (now (since .exit)) (now (earlier .entry))
-        ≡ withdrawn (boardBy terms (now (rows .entry)) [])
+        ≡ withdrawn (boardBy terms (now (rows .entry)) (now (lengths .entry)))
         (stateBy moment (now (entries .entry)) (now (since .entry)) (now (earlier .entry))) processor tick ⌝ }
 {
     let given = moment.phases;

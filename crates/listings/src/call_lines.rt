@@ -2,7 +2,6 @@
 // definition, and the other lines of a listing.
 use crate::done_lines::done_line;
 use crate::lines::refused_line;
-use digits::hex_pairs;
 use encoding::Outcome;
 use refusals::number;
 use rules::Call;
@@ -14,7 +13,7 @@ ghost use Rattle.rules.specs.Replies.{replySays};
 ghost use Rattle.plans.specs.Entries.{maskSizeFor};
 ghost use Rattle.digits.specs.Digits.{maskBy};
 ghost use Rattle.listings.specs.PlainLines.{fieldsLine, lineSays, lineBuffer};
-ghost use Rattle.listings.specs.Lines.{replyFields, callLine, callLineBy};
+ghost use Rattle.listings.specs.Lines.{replyFields, callLineBy};
 
 // A call's line from its letter, its numbers and the reply.
 fn reply_line(
@@ -102,17 +101,4 @@ pub fn call_line_by(
             tick,
         } => reply_line(pairs, processors, b'h', processor, tick, reply, buffer, at),
     }
-}
-
-// Clauses 9.7 and 9.9: the line of a call of a plan with so many processors.
-pub fn call_line(processors: u8, call: Call, reply: Reply, buffer: &mut [u8], at: usize) -> Outcome
-    ensures outcome { λ r. ⌜
-        outcomeSays r ≡ lineSays (callLine processors call (replySays reply)) (length (now (buffer .entry))) at
-        ⌝ }
-    ensures bytes { λ _. ⌜
-        now (buffer .exit) ≡ lineBuffer (callLine processors call (replySays reply)) (now (buffer .entry)) at
-        ⌝ }
-{
-    let pairs = hex_pairs();
-    call_line_by(&pairs, processors, call, reply, buffer, at)
 }

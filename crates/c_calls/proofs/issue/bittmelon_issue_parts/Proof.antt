@@ -1,6 +1,5 @@
 -- `bittmelon_issue_parts` meets its contract: an issue in place, told in numbers; its moment is stored where it was
 -- carried out. Assumes nothing.
-use mathlib.Core.List.{[]}
 use borrow.Author.Needs.{needs}
 use Rattle.rules.specs.Calls.{issued}
 use Rattle.rules.specs.InPlace.{boardBy, stateBy}
@@ -15,7 +14,7 @@ returns c =
     let called = c .before .before .before in
     let read = called .before .before .before .before in
     let a = read .before .before .before .args in
-    let b = boardBy (termsBy (a .processors) (a .entries) (a .writes)) (a .rows .now) [] in
+    let b = boardBy (termsBy (a .processors) (a .entries) (a .writes)) (a .rows .now) (a .lengths .now) in
     let s = stateBy (momentBy (a .last .now) (a .phases .now)) (a .entry .now) (a .since .now) (a .earlier .now) in
     answered _ s (issue-stays b s (a .processor) (a .requested) (a .tick)) _ (called .issue-in-place .result) _ _ _ _ _ (c .finish .ensures .0) (c .finish .ensures .1)
     (from-memory (λ s. issued b s (a .processor) (a .requested) (a .tick)) _ _ _ (a .entry .now) (a .since .now) (a .earlier .now) _ (read .moment-of .ensures)

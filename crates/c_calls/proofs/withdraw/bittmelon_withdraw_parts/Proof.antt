@@ -1,6 +1,5 @@
 -- `bittmelon_withdraw_parts` meets its contract: a withdrawal in place, told in numbers; its moment is stored where it
 -- was carried out. Assumes nothing.
-use mathlib.Core.List.{[]}
 use borrow.Author.Needs.{needs}
 use Rattle.rules.specs.Calls.{withdrawn}
 use Rattle.rules.specs.InPlace.{boardBy, stateBy}
@@ -15,7 +14,7 @@ returns c =
     let called = c .before .before .before in
     let read = called .before .before in
     let a = read .before .before .before .args in
-    let b = boardBy (termsBy (a .processors) (a .entries) (a .writes)) (a .rows .now) [] in
+    let b = boardBy (termsBy (a .processors) (a .entries) (a .writes)) (a .rows .now) (a .lengths .now) in
     let s = stateBy (momentBy (a .last .now) (a .phases .now)) (a .entry .now) (a .since .now) (a .earlier .now) in
     answered _ s (withdraw-stays b s (a .processor) (a .tick)) _ (called .withdraw-in-place .result) _ _ _ _ _ (c .finish .ensures .0) (c .finish .ensures .1)
     (from-memory (λ s. withdrawn b s (a .processor) (a .tick)) _ _ _ (a .entry .now) (a .since .now) (a .earlier .now) _ (read .moment-of .ensures)

@@ -1,20 +1,17 @@
--- `answer_in_place` meets its contract: a call is of one kind, and only a completion and a handover read a length.
--- Assumes nothing.
+-- `answer_in_place` meets its contract: a call is of one kind. Assumes nothing.
 use mathlib.Core.Path.{sym, ap, _∙_}
 use borrow.Author.Needs.{needs}
-use Rattle.rules.specs.Calls.{putState, takenState, settledDone, left, issued, withdrawn, answered}
+use Rattle.rules.specs.Calls.{answered}
 use Rattle.calls_in_place.proofs.any_call.answer_in_place.Statement.{statement}
 use Rattle.calls_in_place.proofs.any_call.answer_in_place.Tie as tie
 
 returns : tie.Need-returns
-unfolding putState settledDone issued
 returns c = c .issue-in-place .ensures ∙ ap (answered _ _) (sym (c .before .before .before .before .before .call .given .1))
 
 returns-2 : tie.Need-returns-2
 returns-2 c = c .complete-in-place .ensures ∙ ap (answered _ _) (sym (c .before .before .before .before .before .call2 .given .1))
 
 returns-3 : tie.Need-returns-3
-unfolding takenState settledDone left withdrawn
 returns-3 c = c .withdraw-in-place .ensures ∙ ap (answered _ _) (sym (c .before .before .before .before .before .call3 .given .1))
 
 returns-4 : tie.Need-returns-4
