@@ -26,8 +26,8 @@
 #include <stdint.h>
 
 /* The version in the file VERSION, as text and as the number 10000 x major + 100 x minor + patch. */
-#define BITTMELON_VERSION "3.1.0"
-#define BITTMELON_VERSION_NUMBER 30100
+#define BITTMELON_VERSION "3.2.0"
+#define BITTMELON_VERSION_NUMBER 30200
 
 /* The largest counts of a plan, and the most bytes that a plan takes: 3, and 11 for each entry. */
 #define BITTMELON_MAX_PROCESSORS 32

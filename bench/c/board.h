@@ -18,7 +18,7 @@ static inline uint8_t *put_entry(uint8_t *at, uint8_t kind, uint64_t set, uint8_
 }
 
 /* 64 resources and 64 entries, every third of which writes, over two or three resources. */
-static inline void plan(uint8_t bytes[BITTMELON_PLAN_ROOM], uint8_t processors)
+static inline void plan(uint8_t bytes[BITTMELON_MAX_PLAN_BYTES], uint8_t processors)
 {
     uint8_t *at = bytes;
     *at++ = processors;
@@ -33,7 +33,7 @@ static inline void plan(uint8_t bytes[BITTMELON_PLAN_ROOM], uint8_t processors)
 /* A board of 16 or 32 processors on which so many have issued a first request. 0 if all went well. */
 static inline int fill(struct bittmelon_board *board, uint64_t busy)
 {
-    uint8_t bytes[BITTMELON_PLAN_ROOM];
+    uint8_t bytes[BITTMELON_MAX_PLAN_BYTES];
     plan(bytes, busy <= 16 ? 16 : 32);
     if (busy < 1 || busy > 32 || bittmelon_fresh(board, bytes, sizeof bytes).refusal != 0)
         return 1;

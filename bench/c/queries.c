@@ -41,7 +41,7 @@ static uint64_t sum_of_turns(uint64_t turns, int single)
 /* 16 processors in one long line: entry i writes two resources, the second of which is the first of the next entry. */
 static int line_up(void)
 {
-    uint8_t bytes[BITTMELON_PLAN_ROOM];
+    uint8_t bytes[BITTMELON_MAX_PLAN_BYTES];
     uint8_t *at = bytes;
     *at++ = 16;
     *at++ = 17;

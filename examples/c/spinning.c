@@ -176,7 +176,7 @@ static void *run(void *argument)
     return NULL;
 }
 
-static size_t plan_bytes(uint8_t bytes[BITTMELON_PLAN_ROOM])
+static size_t plan_bytes(uint8_t bytes[BITTMELON_MAX_PLAN_BYTES])
 {
     size_t size = 0;
     bytes[size++] = THREADS;
@@ -230,7 +230,7 @@ static int write_listing(const char *path, const uint8_t *bytes, size_t size)
 
 int main(int argc, char **argv)
 {
-    uint8_t bytes[BITTMELON_PLAN_ROOM];
+    uint8_t bytes[BITTMELON_MAX_PLAN_BYTES];
     size_t size = plan_bytes(bytes);
     double seconds = argc > 1 ? strtod(argv[1], NULL) : 3;
     if ((argc != 1 && argc != 2 && argc != 4) || !(seconds > 0)) {

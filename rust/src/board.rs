@@ -150,12 +150,12 @@ impl Board {
     /// `Tick`, `Processor`, `Entry` or `Busy`.
     ///
     /// ```
-    /// use bittmelon::{Board, Refusal, LAST_TICK};
+    /// use bittmelon::{Board, Refusal, MAX_TICK};
     /// # let plan = [2, 1, 1, 1, 1, 0, 0, 0, 0, 0, 0, 0, 20, 0];
     /// let mut board = Board::new(&plan)?;
     /// assert!(board.issue(0, 0, 5)?.grants(0));
     /// assert_eq!(board.issue(1, 0, 4), Err(Refusal::Tick));
-    /// assert_eq!(board.issue(1, 0, LAST_TICK + 1), Err(Refusal::Tick));
+    /// assert_eq!(board.issue(1, 0, MAX_TICK + 1), Err(Refusal::Tick));
     /// assert_eq!(board.issue(2, 0, 5), Err(Refusal::Processor));
     /// assert_eq!(board.issue(1, 1, 5), Err(Refusal::Entry));
     /// assert_eq!(board.issue(0, 0, 5), Err(Refusal::Busy));
@@ -323,15 +323,15 @@ impl Board {
     }
 
     /// The mask of all processors to which a chain of direct waits leads from this processor. The scratch needs 32 bytes for up
-    /// to 16 processors and 128 for more ([`SCRATCH_ROOM`](crate::SCRATCH_ROOM)). Refused as `Processor` or `Room`.
+    /// to 16 processors and 128 for more ([`MAX_SCRATCH_BYTES`](crate::MAX_SCRATCH_BYTES)). Refused as `Processor` or `Room`.
     ///
     /// ```
-    /// use bittmelon::{Board, Refusal, SCRATCH_ROOM};
+    /// use bittmelon::{Board, Refusal, MAX_SCRATCH_BYTES};
     /// # let plan = [2, 1, 1, 1, 1, 0, 0, 0, 0, 0, 0, 0, 20, 0];
     /// let mut board = Board::new(&plan)?;
     /// board.issue(1, 0, 5)?;
     /// board.issue(0, 0, 5)?;
-    /// assert_eq!(board.reach(0, &mut [0; SCRATCH_ROOM]), Ok(0b10));
+    /// assert_eq!(board.reach(0, &mut [0; MAX_SCRATCH_BYTES]), Ok(0b10));
     /// assert_eq!(board.reach(0, &mut [0; 31]), Err(Refusal::Room));
     /// # Ok::<(), Refusal>(())
     /// ```
@@ -357,13 +357,13 @@ impl Board {
     /// the buffer stay as they were. The list is the number of processors in one byte, then for each processor its state in one
     /// byte, its entry in one byte (255 if it has no request), the ticks that it has waited in four bytes, and its direct waits
     /// in two bytes if there are up to 16 processors and in four if there are more. The low byte of a number comes first.
-    /// Refused as `Room` ([`LIST_ROOM`](crate::LIST_ROOM)).
+    /// Refused as `Room` ([`MAX_LIST_BYTES`](crate::MAX_LIST_BYTES)).
     ///
     /// ```
-    /// use bittmelon::{Board, Refusal, LIST_ROOM};
+    /// use bittmelon::{Board, Refusal, MAX_LIST_BYTES};
     /// # let plan = [2, 1, 1, 1, 1, 0, 0, 0, 0, 0, 0, 0, 20, 0];
     /// let board = Board::new(&plan)?;
-    /// let mut buffer = [0; LIST_ROOM];
+    /// let mut buffer = [0; MAX_LIST_BYTES];
     /// let size = board.list(&mut buffer)?;
     /// assert_eq!(buffer[..size], [2, 0, 255, 0, 0, 0, 0, 0, 0, 0, 255, 0, 0, 0, 0, 0, 0]);
     /// assert_eq!(board.list(&mut buffer[..16]), Err(Refusal::Room));

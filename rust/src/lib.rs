@@ -6,7 +6,7 @@
 //! instance with a spin lock; `examples/spinning.rs` shows how.
 //!
 //! Ticks come from a clock of the caller's, in any unit, but the same unit as the plan's lengths. Nothing here reads a clock.
-//! Ticks never go back, and they range from 0 to [`LAST_TICK`]. A mask is a set of processors: bit p is processor p.
+//! Ticks never go back, and they range from 0 to [`MAX_TICK`]. A mask is a set of processors: bit p is processor p.
 //!
 //! ```
 //! use bittmelon::{Board, Phase, Refusal};
@@ -42,15 +42,40 @@ pub use refusal::Refusal;
 /// The version of this crate. [`version`] returns the version of the archive.
 pub const VERSION: &str = env!("CARGO_PKG_VERSION");
 
-/// The most bytes that a plan takes.
-pub const PLAN_ROOM: usize = 3 + 11 * 64;
+/// The most processors of a plan.
+pub const MAX_PROCESSORS: usize = 32;
+
+/// The most resources of a plan.
+pub const MAX_RESOURCES: usize = 64;
+
+/// The most entries of a plan.
+pub const MAX_ENTRIES: usize = 64;
+
+/// The most bytes that a plan takes: 3, and 11 for each entry.
+pub const MAX_PLAN_BYTES: usize = 3 + 11 * MAX_ENTRIES;
 
 /// The most bytes that the scratch of a [`Board::reach`] needs. For up to 16 processors, 32 bytes are enough.
-pub const SCRATCH_ROOM: usize = 128;
+pub const MAX_SCRATCH_BYTES: usize = 128;
 
 /// The most bytes that a [`Board::list`] takes. A list takes 1 byte, and for each processor 8 bytes if there are up to 16
 /// processors and 10 if there are more.
-pub const LIST_ROOM: usize = 1 + 10 * 32;
+pub const MAX_LIST_BYTES: usize = 1 + 10 * MAX_PROCESSORS;
 
 /// The largest tick, 1,099,511,627,775: 40 bits.
-pub const LAST_TICK: u64 = (1 << 40) - 1;
+pub const MAX_TICK: u64 = (1 << 40) - 1;
+
+/// The former name of [`MAX_PLAN_BYTES`], kept for one version.
+#[deprecated(since = "3.2.0", note = "use MAX_PLAN_BYTES")]
+pub const PLAN_ROOM: usize = MAX_PLAN_BYTES;
+
+/// The former name of [`MAX_SCRATCH_BYTES`], kept for one version.
+#[deprecated(since = "3.2.0", note = "use MAX_SCRATCH_BYTES")]
+pub const SCRATCH_ROOM: usize = MAX_SCRATCH_BYTES;
+
+/// The former name of [`MAX_LIST_BYTES`], kept for one version.
+#[deprecated(since = "3.2.0", note = "use MAX_LIST_BYTES")]
+pub const LIST_ROOM: usize = MAX_LIST_BYTES;
+
+/// The former name of [`MAX_TICK`], kept for one version.
+#[deprecated(since = "3.2.0", note = "use MAX_TICK")]
+pub const LAST_TICK: u64 = MAX_TICK;

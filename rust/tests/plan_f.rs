@@ -1,5 +1,7 @@
 //! The calls of plan F from the stored log, and every refusal that a plan, a call or a query can return.
-use bittmelon::{figures, Board, Figures, Phase, Refusal, Reply, Shared, LAST_TICK, LIST_ROOM, PLAN_ROOM, SCRATCH_ROOM};
+use bittmelon::{
+    figures, Board, Figures, Phase, Refusal, Reply, Shared, MAX_LIST_BYTES, MAX_PLAN_BYTES, MAX_SCRATCH_BYTES, MAX_TICK,
+};
 
 const WRITES: bool = true;
 const READS: bool = false;
@@ -53,11 +55,11 @@ fn queries_of_plan_f() {
     let phases = [0, 1, 2, 3].map(|p| board.state(p).unwrap());
     assert_eq!(phases, [Phase::Holding, Phase::Waiting, Phase::Waiting, Phase::Entitled]);
     assert_eq!([0, 1, 2, 3].map(|p| board.waits(p).unwrap()), [0, 0b0001, 0b0010, 0b0001]);
-    assert_eq!(board.reach(2, &mut [0; SCRATCH_ROOM]), Ok(0b0011));
-    let mut buffer = [170; LIST_ROOM];
+    assert_eq!(board.reach(2, &mut [0; MAX_SCRATCH_BYTES]), Ok(0b0011));
+    let mut buffer = [170; MAX_LIST_BYTES];
     assert_eq!(board.list(&mut buffer), Ok(33));
     assert_eq!(buffer[..17], [4, 3, 0, 0, 0, 0, 0, 0, 0, 1, 1, 2, 0, 0, 0, 1, 0]);
-    assert_eq!(buffer[33..], [170; LIST_ROOM - 33]);
+    assert_eq!(buffer[33..], [170; MAX_LIST_BYTES - 33]);
     assert_eq!(board.shared(1, 2), Ok(Some(Shared { lowest: 0, count: 2 })));
     assert_eq!(board.shared(3, 4), Ok(None));
     assert_eq!(figures(&plan_f()), Ok(Figures { read: 50, write: 150 }));
@@ -79,7 +81,7 @@ fn every_refusal_of_a_call_changes_nothing() {
     let board = &mut Board::new(&plan_f()).unwrap();
     board.issue(0, 0, 7).unwrap();
     board.issue(1, 1, 7).unwrap();
-    for tick in [6, LAST_TICK + 1, u64::MAX] {
+    for tick in [6, MAX_TICK + 1, u64::MAX] {
         refuses(board, Refusal::Tick, |b| b.issue(2, 0, tick));
         refuses(board, Refusal::Tick, |b| b.complete(0, tick));
         refuses(board, Refusal::Tick, |b| b.withdraw(1, tick));
@@ -140,15 +142,15 @@ fn every_refusal_of_a_plan() {
 #[test]
 fn the_largest_plan() {
     let bytes = plan(32, 64, &vec![entry(WRITES, u64::MAX, u16::MAX); 64]);
-    assert_eq!(bytes.len(), PLAN_ROOM);
+    assert_eq!(bytes.len(), MAX_PLAN_BYTES);
     let (mut board, taken) = Board::read(&[&bytes[..], &[9; 20]].concat()).unwrap();
-    assert_eq!(taken, PLAN_ROOM);
+    assert_eq!(taken, MAX_PLAN_BYTES);
     for processor in 0..32 {
-        board.issue(processor, 2 * processor, LAST_TICK).unwrap();
+        board.issue(processor, 2 * processor, MAX_TICK).unwrap();
     }
-    assert_eq!(board.reach(31, &mut [0; SCRATCH_ROOM]), Ok(u32::MAX >> 1));
-    assert_eq!(board.reach(31, &mut [0; SCRATCH_ROOM - 1]), Err(Refusal::Room));
-    assert_eq!(board.list(&mut [0; LIST_ROOM]), Ok(LIST_ROOM));
+    assert_eq!(board.reach(31, &mut [0; MAX_SCRATCH_BYTES]), Ok(u32::MAX >> 1));
+    assert_eq!(board.reach(31, &mut [0; MAX_SCRATCH_BYTES - 1]), Err(Refusal::Room));
+    assert_eq!(board.list(&mut [0; MAX_LIST_BYTES]), Ok(MAX_LIST_BYTES));
     assert_eq!(board.shared(0, 63), Ok(Some(Shared { lowest: 0, count: 64 })));
     assert_eq!(figures(&bytes), Ok(Figures { read: 65_535, write: 31 * 65_535 }));
 }

@@ -241,7 +241,7 @@ static void act_on_junk(void)
 {
     uint8_t processor = (uint8_t)(below(4) ? below(board->processors + 1u) : below(256));
     uint8_t entry = (uint8_t)(below(4) ? below(board->entries + 1u) : below(256));
-    uint64_t ticks[] = {board->last, board->last + 1 + below(90), board->last - 1, BITTMELON_LAST_TICK, BITTMELON_LAST_TICK + 1};
+    uint64_t ticks[] = {board->last, board->last + 1 + below(90), board->last - 1, BITTMELON_MAX_TICK, BITTMELON_MAX_TICK + 1};
     uint64_t tick = ticks[below(4) ? below(2) : below(5)];
     unsigned act = (unsigned)below(9);
     switch (act) {

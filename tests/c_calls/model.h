@@ -119,7 +119,7 @@ static struct bittmelon_reply model_enter(struct bittmelon_board *b, enum phase 
 static uint32_t model_refusal(const struct bittmelon_board *b, const enum phase phase[32], unsigned verb, uint8_t p,
     uint8_t entry, uint64_t tick)
 {
-    if (tick < b->last || tick > BITTMELON_LAST_TICK)
+    if (tick < b->last || tick > BITTMELON_MAX_TICK)
         return 10;
     if (p >= model_processors(b))
         return 11;

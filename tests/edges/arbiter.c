@@ -1,7 +1,7 @@
 /* The edges of the arbiter's rules. The file arbiter.expected has the answers due. */
 #include "plans.h"
 
-#define LAST_TICK BITTMELON_LAST_TICK
+#define LAST_TICK BITTMELON_MAX_TICK
 
 static struct bittmelon_board board;
 

@@ -12,7 +12,7 @@ struct entry {
 };
 
 /* The bytes of a plan; how many they are. */
-static inline size_t plan_bytes(uint8_t bytes[BITTMELON_PLAN_ROOM], uint8_t processors, uint8_t resources, uint8_t count,
+static inline size_t plan_bytes(uint8_t bytes[BITTMELON_MAX_PLAN_BYTES], uint8_t processors, uint8_t resources, uint8_t count,
     const struct entry *entries)
 {
     uint8_t *at = bytes;
@@ -33,7 +33,7 @@ static inline size_t plan_bytes(uint8_t bytes[BITTMELON_PLAN_ROOM], uint8_t proc
 static inline uint32_t fresh_of(struct bittmelon_board *board, uint8_t processors, uint8_t resources, uint8_t count,
     const struct entry *entries)
 {
-    uint8_t bytes[BITTMELON_PLAN_ROOM];
+    uint8_t bytes[BITTMELON_MAX_PLAN_BYTES];
     size_t size = plan_bytes(bytes, processors, resources, count, entries);
     return bittmelon_fresh(board, bytes, size).refusal;
 }
