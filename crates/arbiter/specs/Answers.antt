@@ -1,4 +1,4 @@
--- What the arbiter answered by value, in numbers. Specification, section 4.
+-- The arbiter's answers by value, in numbers. Specification, section 4.
 use Rattle.rules.specs.Replies.{replySays}
 use Rattle.rules.specs.Calls.{Answer}
 use Rattle.arbiter.specs.declared.answering_by_value.Answered.{Answered}

@@ -1,4 +1,5 @@
-// Any call, with the state by value: it goes in, and comes back with the answer. The board is lent or by value.
+// Any call with the state by value: the caller passes the state and gets it back with the answer. The board is lent or
+// passed by value.
 use calls_in_place::answer_in_place;
 use plans::ENTRIES;
 use rules::Board;
@@ -12,13 +13,14 @@ ghost use Rattle.rules.specs.Calls.{answered};
 ghost use Rattle.rules.specs.InPlace.{boardBy};
 ghost use Rattle.arbiter.specs.Answers.{answerOf};
 
-// On a refusal the state is the one given.
+// After a refusal, `state` is the state that was given.
 pub struct Answered {
     pub reply: Reply,
     pub state: State,
 }
 
-// The answer to any call, on a board of which the rows and the lengths are lent: who makes many calls copies no board.
+// The answer to any call, with the board's rows and lengths lent: a caller that makes many calls does not copy the
+// board.
 pub fn answer_on(
     terms: Terms,
     rows: &[u64; ENTRIES],

@@ -1,7 +1,7 @@
-// The arbiter by value: a state goes in, and comes back with the answer. `boards` makes the board and the first state.
-// Every core's call goes through `answer`; the reply says who began to hold. `issue`, `complete`, `withdraw` and
-// `handover` are the same by name. The crates `issuing`, `completing`, `withdrawing`, `handing_over` and `answering`
-// have the calls on lent arrays: no copies.
+// The arbiter by value: a call takes a state and returns it with the reply, which says who began to hold; `boards`
+// makes the board and the first state. `answer` takes any call, and `issue`, `complete`, `withdraw` and `handover` take
+// one kind each. `register_block` and `bench_library` use it; the same calls on lent arrays, without copies, are in
+// `calls_in_place`.
 mod answering_by_value;
 
 pub use answering_by_value::Answered;
@@ -26,7 +26,7 @@ pub fn phases_of(board: Board, state: State) -> Phases
     clean(terms, entry, given)
 }
 
-// Processor asks for an entry at a tick. Refused by 10, 11, 12, 13, in that order.
+// The processor issues a request for an entry at a tick. Refused with 10, 11, 12 or 13, checked in this order.
 pub fn issue(board: Board, state: State, processor: u8, entry: u8, tick: u64) -> Answered
     ensures { λ r. ⌜ answerOf r ≡ issued board state processor entry tick ⌝ }
 {
@@ -41,21 +41,23 @@ pub fn issue(board: Board, state: State, processor: u8, entry: u8, tick: u64) ->
     )
 }
 
-// Processor gives its request back at a tick. Refused by 10, 11, 14, 15, in that order.
+// The processor completes its request at a tick. Refused with 10, 11, 14 or 15, checked in this order.
 pub fn complete(board: Board, state: State, processor: u8, tick: u64) -> Answered
     ensures { λ r. ⌜ answerOf r ≡ completed board state processor tick ⌝ }
 {
     answer(board, state, Call::Complete { processor, tick })
 }
 
-// Processor leaves the line at a tick, with a request that does not hold. Refused by 10, 11, 14, 17, in that order.
+// The processor leaves the queue at a tick; its request must not hold. Refused with 10, 11, 14 or 17, checked in this
+// order.
 pub fn withdraw(board: Board, state: State, processor: u8, tick: u64) -> Answered
     ensures { λ r. ⌜ answerOf r ≡ withdrawn board state processor tick ⌝ }
 {
     answer(board, state, Call::Withdraw { processor, tick })
 }
 
-// Processor gives its request back and asks for an entry, at one tick. Refused by 10, 11, 12, 14, 15, in that order.
+// The processor completes its request and issues one for an entry, at one tick. Refused with 10, 11, 12, 14 or 15,
+// checked in this order.
 pub fn handover(board: Board, state: State, processor: u8, entry: u8, tick: u64) -> Answered
     ensures { λ r. ⌜ answerOf r ≡ handedOver board state processor entry tick ⌝ }
 {

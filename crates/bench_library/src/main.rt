@@ -1,6 +1,6 @@
 // The library's part of the benchmarks. Prints a checksum of all answers, which the Rust programs print too.
-//   bench_library [BUSY [TURNS]]    calls, with so many busy processors; 16 and five million turns, ten million calls,
-//                                   where nothing else is asked for
+//   bench_library [BUSY [TURNS]]    makes calls with so many busy processors; by default 16 processors and five million
+//                                   turns, which are ten million calls
 //   bench_library plans TURNS       reads a plan of 64 entries so many times
 mod board;
 mod reads;
@@ -13,7 +13,7 @@ const BUSY: u64 = 16;
 
 const TURNS: u64 = 5000000;
 
-// Argument i as a number of at most nine digits, or `other` where there is none.
+// Argument i as a number of at most nine digits, or `other` if there is none.
 fn number_of(i: usize, other: u64) -> u64
     requires { ⌜ other < 1000000000 ⌝ }
     ensures { λ r. ⌜ r < 1000000000 ⌝ }

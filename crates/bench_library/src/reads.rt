@@ -1,4 +1,4 @@
-// Reads of a plan of 64 entries, the length of one of them another at each turn.
+// Reads of a plan of 64 entries; each turn changes the length of one of them.
 use crate::board::plan;
 use encoding::Outcome;
 use plans::Entry;

@@ -1,5 +1,5 @@
-// Accepted calls, in place, on a board on which the first so many processors are never idle: each turn completes a
-// holder and issues again at once.
+// Accepted calls, in place, on a board where the first so many processors are never idle: each turn completes a holder
+// and issues again at once.
 use crate::board::plan;
 use rules::Board;
 use rules::Moment;
@@ -12,14 +12,14 @@ fn next(seed: u64) -> u64 {
     (seed % 2147483648 * 1103515245 + 12345) % 2147483648
 }
 
-// The plan has 16 processors for up to 16 busy ones, else 32.
+// The plan has 16 processors for up to 16 busy ones, otherwise 32.
 fn processors_for(busy: u8) -> u8
     ensures { λ r. ⌜ r ≤ 32 ⌝ }
 {
     if busy <= 16 { 16 } else { 32 }
 }
 
-// A place on a board of so many processors: the seed's digits below the twentieth, as a part of all places.
+// A place on a board of so many processors: the seed's low 20 bits, scaled to the number of places.
 fn place(seed: u64, processors: u8) -> u32
     requires { ⌜ processors ≤ 32 ⌝ }
     ensures { λ r. ⌜ r < 32 ⌝ }
@@ -27,7 +27,7 @@ fn place(seed: u64, processors: u8) -> u32
     (seed % 1048576 * processors as u64 / 1048576) as u32
 }
 
-// The lowest holder at or above a place, round the board.
+// The lowest holder at or above a place, or the lowest of all if there is none.
 fn holder_from(holding: u32, place: u32) -> u32
     requires { ⌜ place < 32 ⌝ }
     ensures { λ r. ⌜ r ≤ 32 ⌝ }

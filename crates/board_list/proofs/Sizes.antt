@@ -1,4 +1,4 @@
--- The bytes of a mask are few, so that the sizes made of them are small. Assumes nothing.
+-- A mask has few bytes, so the sizes that depend on it are small. Assumes nothing.
 use Prim.Native.Nat.{ℕ, _*_, _≤_}
 use mathlib.Core.Bool.{Bool, true, false, cond}
 use native.Mathlib.Nat.{mul-le-mul-right}
@@ -14,7 +14,7 @@ mask-size-small m = go (leb m 16)
     go true = omega arith
     go false = omega arith
 
--- No list is longer than that of all places with masks of four bytes.
+-- No list is longer than the one with all places and masks of four bytes.
 pub list-small : (k count : ℕ) → k ≤ 4 → count ≤ slots → partSize k * count ≤ 320
 list-small k count few places =
     let wide : partSize k ≤ 10 = omega arith in

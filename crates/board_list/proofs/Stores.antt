@@ -1,4 +1,4 @@
--- The stores of the whole list, and what is answered then. Assumes nothing.
+-- The stores of the whole list, and the answer after them. Assumes nothing.
 use Prim.Native.Nat.{ℕ, _+_, _≤_, _<_}
 use mathlib.Core.Path.{_≡_, refl, sym, ap, _∙_}
 use mathlib.Core.List.{List, _∷_}
@@ -24,14 +24,14 @@ room-for-list k count size verdict checked e =
     omega (arith, room-fits (listSize k count) size 0 (sym checked ∙ ap verdictNumber e))
 
 module _ (k : ℕ) (f : ℕ → List ℕ) (size : (p : ℕ) → length (f p) ≡ partSize k) (l : List ℕ) where
-  -- The count and all parts, where there is room for them, are the list.
+  -- If there is room for them, the count and all parts are the list.
   pub list-stores : (m : ℕ) → listSize k m ≤ length l → sets (set l 0 m) 1 (inTurn m f) ≡ overwritten l 0 (listBytes m f)
   unfolding listBytes
   list-stores m room =
       let whole : 0 + length (m ∷ inTurn m f) ≤ length l = omega (arith, length-in-turn (partSize k) f size m) in
       sets-overwritten l 0 (m ∷ inTurn m f) whole
 
-  -- What is answered, and what the buffer holds, with room and without.
+  -- The answer and the content of the buffer, with room and without.
   module _ (m : ℕ) (verdict : Verdict) (checked : verdictNumber verdict ≡ roomFault (listSize k m) (length l) 0) where
     due-here : (n : ℕ) → verdictNumber verdict ≡ n → listFault k m l ≡ n
     unfolding listFault

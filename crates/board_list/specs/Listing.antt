@@ -1,5 +1,5 @@
--- The wait listing: which part a processor has, and all bytes. The phases are of the requests that count.
--- Specification, section 7.
+-- The list of the whole board: the part of each processor, and all bytes. The phases are those of the requests that
+-- count. Specification, section 7.
 use Prim.Native.Nat.{ℕ}
 use mathlib.Core.List.{List, _∷_}
 use lib.ListN.{length, getD}
@@ -10,7 +10,7 @@ use Rattle.rules.specs.declared.settling.Phases.{Phases}
 use Rattle.board_list.specs.Fields.{stateIn, entryShown, waitedIn}
 use Rattle.board_list.specs.Parts.{partBytes}
 
--- The part of processor p, with the direct waits of all in a list.
+-- The part of processor p. The list `waits` contains the direct waits of all processors.
 unfoldable pub partIn : ℕ → Phases → ℕ → List ℕ → List ℕ → List ℕ → ℕ → List ℕ
 partIn k ph last entry since waits p =
     partBytes k (stateIn ph p) (entryShown ph entry p) (waitedIn ph last since p) (getD waits p 0)
@@ -23,6 +23,6 @@ listBytes m part = m ∷ inTurn m part
 unfoldable pub listFault : ℕ → ℕ → List ℕ → ℕ
 listFault k m buffer = roomFault (listSize k m) (length buffer) 0
 
--- Clause 7.9: the buffer after it. Bytes behind the list stay, and on a refusal all do.
+-- Clause 7.9: the buffer afterwards. Bytes after the list stay, and on a refusal all bytes do.
 unfoldable pub listBuffer : ℕ → ℕ → (ℕ → List ℕ) → List ℕ → List ℕ
 listBuffer k m part buffer = bufferAfter (listFault k m buffer) (listBytes m part) buffer 0

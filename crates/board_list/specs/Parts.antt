@@ -1,4 +1,4 @@
--- The part of a processor in the wait listing. Specification, section 7.
+-- The part of a processor in the list of the whole board. Specification, section 7.
 use Prim.Native.Nat.{ℕ}
 use mathlib.Core.List.{List, _∷_, _++_}
 use Rattle.encoding.specs.Numbers.{bytesOf}

@@ -1,5 +1,5 @@
-// The fields of the wait listing: the state of a processor by number, the entry that is shown of it, and the ticks that
-// it has waited. Specification, clauses 7.1 and 7.8.
+// The fields of a processor's part of the list: its state as a number, the entry that is shown for it, and the ticks
+// that it has waited. Specification, clauses 7.1 and 7.8.
 use masks::has32;
 use rules::Phases;
 ghost use mathlib.Core.Path.{_≡_};
@@ -8,13 +8,13 @@ ghost use Prim.Native.Nat.{_-_, min};
 ghost use Rattle.rules.specs.Requests.{unsatisfied, active};
 ghost use Rattle.board_list.specs.Fields.{stateIn};
 
-// The most ticks that four bytes show.
+// The most ticks that four bytes can show.
 const MOST_TICKS: u64 = 4294967295;
 
-// The entry that an idle processor shows.
+// The entry that is shown for an idle processor.
 const NO_ENTRY: u8 = 255;
 
-// Clause 7.1: the state of processor p by number.
+// Clause 7.1: the state of processor p as a number.
 pub fn state_at(phases: Phases, p: u32) -> u8
     ensures { λ r. ⌜ r ≡ stateIn phases p ⌝ }
 {
@@ -27,7 +27,7 @@ pub fn state_at(phases: Phases, p: u32) -> u8
     if has32(phases.waiting, p) { 1 } else { 0 }
 }
 
-// Clause 7.8: the entry that is shown of processor p, whose request has this one.
+// Clause 7.8: the entry that is shown for processor p, whose request asks for this one.
 pub fn entry_at(phases: Phases, entry: u8, p: u32) -> u8
     ensures { λ r. ⌜ r ≡ cond (active phases p) entry 255 ⌝ }
 {
@@ -38,7 +38,7 @@ pub fn entry_at(phases: Phases, entry: u8, p: u32) -> u8
     }
 }
 
-// The ticks from one to the other, as far as four bytes show them. Clause 4.10: none where the time would run
+// The ticks from one tick to the other, but no more than four bytes can show. Clause 4.10: 0 if the time would run
 // backwards.
 fn ticks_shown(from: u64, to: u64) -> u64
     ensures { λ r. ⌜ r ≡ min 4294967295 (to - from) ⌝ }
@@ -53,7 +53,7 @@ fn ticks_shown(from: u64, to: u64) -> u64
     }
 }
 
-// Clause 7.8: the ticks that processor p has waited, where its request was issued at `since`.
+// Clause 7.8: the ticks that processor p has waited, if its request was issued at `since`.
 pub fn waited_at(phases: Phases, last: u64, since: u64, p: u32) -> u64
     ensures { λ r. ⌜ r ≡ cond (unsatisfied phases p) (min 4294967295 (last - since)) 0 ⌝ }
 {

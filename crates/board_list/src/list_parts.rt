@@ -1,5 +1,5 @@
-// A processor's part of the wait listing, put into a lent buffer. `wait_listing` has the parts of all. Specification,
-// clause 7.7.
+// A processor's part of the list, stored in a lent buffer. The module `list_writer` writes the parts of all processors.
+// Specification, clause 7.7.
 use crate::list_sizes::HEAD_BYTES;
 use encoding::has_room;
 use encoding::write_number;
@@ -12,7 +12,7 @@ ghost use Rattle.encoding.specs.Buffers.{roomFault, bufferAfter};
 ghost use Rattle.board_list.specs.Sizes.{partSize};
 ghost use Rattle.board_list.specs.Parts.{partBytes};
 
-// Stores a mask in so many bytes from position at: two, as up to 16 processors have them, without a loop.
+// Stores a mask as size bytes from position at. Two bytes, the size for up to 16 processors, are stored without a loop.
 fn store_mask(size: usize, mask: u32, buffer: &mut [u8], at: usize)
     requires { ⌜ at + size ≤ length (now buffer) ⌝ }
     ensures { λ _. ⌜ now (buffer .exit) ≡ sets (now (buffer .entry)) at (bytesOf size mask) ⌝ }
@@ -25,8 +25,8 @@ fn store_mask(size: usize, mask: u32, buffer: &mut [u8], at: usize)
     write_number(mask as u64, size, buffer, at);
 }
 
-// Stores a processor's part from position at, with its direct waits in so many bytes; other bytes stay. Without room
-// it stores nothing.
+// Stores a processor's part from position at, with its direct waits as size bytes. Other bytes stay. Without room it
+// stores nothing.
 pub fn store_part(
     size: u8,
     state: u8,

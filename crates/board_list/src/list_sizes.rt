@@ -1,5 +1,5 @@
-// The size of the wait listing: which processors are listed, and how many bytes that takes. Specification, clauses 4.10
-// and 7.7.
+// The size of the list: how many processors are listed, and how many bytes that takes. Specification, clauses 4.10 and
+// 7.7.
 use plans::SLOTS;
 use plans::mask_size;
 ghost use mathlib.Core.Path.{_≡_};
@@ -9,7 +9,7 @@ ghost use Rattle.board_list.specs.Sizes.{listedOf, listSize};
 // The bytes of a part before its mask.
 pub const HEAD_BYTES: usize = 6;
 
-// Clause 4.10: the processors that are listed: the plan's, and no more than a state has places for.
+// Clause 4.10: how many processors are listed: those of the plan, but no more than a state has places for.
 pub fn listed(processors: u8) -> usize
     ensures { λ r. ⌜ r ≡ listedOf processors ⌝ }
 {
@@ -20,7 +20,7 @@ pub fn listed(processors: u8) -> usize
     }
 }
 
-// Clause 7.7: how many bytes the list of a board with so many processors takes.
+// Clause 7.7: how many bytes the list takes for a board with this number of processors.
 pub fn list_size(processors: u8) -> usize
     ensures { λ r. ⌜ r ≡ listSize (maskSizeFor processors) (listedOf processors) ⌝ }
 {

@@ -1,5 +1,5 @@
-// The wait listing: the whole board in bytes, from the phases that count and the direct waits of all. The queries use
-// it. Specification, clauses 7.7 to 7.9.
+// The list of the whole board in bytes, from the phases of the requests that count and the direct waits of all
+// processors. `queries::list_board` uses it. Specification, clauses 7.7 to 7.9.
 use crate::list_fields::entry_at;
 use crate::list_fields::state_at;
 use crate::list_fields::waited_at;
@@ -59,8 +59,8 @@ fn store_parts(
     }
 }
 
-// Writes the list from the start of the buffer and answers how many bytes it took; those behind it stay. Refuses by 16
-// a buffer that is too short, and then writes nothing.
+// Writes the list from the start of the buffer and returns how many bytes it took. The bytes after it stay. Refuses
+// with 16 if the buffer is too short, and then writes nothing.
 pub fn write(
     processors: u8,
     phases: Phases,

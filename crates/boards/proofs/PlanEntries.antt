@@ -1,4 +1,4 @@
--- The entries of a plan as a loop over all of them meets them, and the board made of them. Assumes nothing.
+-- The entries of a plan as a loop over all of them reads them, and the board made of them. Assumes nothing.
 use mathlib.Core.Path.{_≡_, refl, sym, ap, _∙_}
 use mathlib.Core.Bool.{Bool, true, false, cond, _&&_}
 use mathlib.Core.List.{List}

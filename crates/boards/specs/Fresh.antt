@@ -1,4 +1,4 @@
--- The fresh arbiter of a plan, and when there is none: 3 to 8. Specification, section 4.
+-- The fresh arbiter of a plan, and when the plan is refused: with 3 to 8. Specification, section 4.
 use Prim.Native.Nat.{ℕ}
 use mathlib.Core.Bool.{cond, _&&_}
 use lib.Dec.{eqb, ltb}
@@ -23,8 +23,8 @@ freshState =
       entry = replicate slots 0;
     }
 
--- Clause 3.3: the board of a plan: its counts, which entries are writes, their lengths, and conflict worked out once,
--- with the names and widened sets that it was worked out from.
+-- Clause 3.3: the board of a plan: its counts, which entries are writes, their lengths, and the conflicts, computed
+-- once, with the names and widened sets that they were computed from.
 unfoldable pub boardOf : Plan → Board
 boardOf p =
     record {
@@ -40,7 +40,7 @@ boardOf p =
       rows = conflictsOf p .rows;
     }
 
--- What a refused plan leaves beside its refusal.
+-- The board that is returned with the refusal of a plan.
 abbrev pub blankBoard : Board
 blankBoard =
     record {
@@ -51,6 +51,6 @@ blankBoard =
       rows = replicate mostEntries 0;
     }
 
--- Clauses 4.3 and 2.10: a plan value that is not accepted leaves the blank board.
+-- Clauses 4.3 and 2.10: for a plan value that is not accepted, the board is blank.
 unfoldable pub freshBoard : Plan → Board
 freshBoard p = cond (eqb (planFault p) 0) (boardOf p) blankBoard

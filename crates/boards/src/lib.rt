@@ -1,5 +1,6 @@
-// The fresh arbiter of a plan: its board, made once for all calls, and the state in which nobody is active.
-// Specification, clauses 3.3 and 4.3.
+// The fresh arbiter of a plan: its board, computed once for all calls, and the state in which nobody is active.
+// `replay`, `c_fresh`, `conflict_listing`, `register_listing` and `bench_library` use it. Specification, clauses 3.3
+// and 4.3.
 use conflicts::conflicts_of;
 use masks::add64;
 use plan_checks::check;
@@ -28,7 +29,7 @@ pub struct Fresh {
     pub state: State,
 }
 
-// The place of entry i in the set of writes, and past every place where it is no write or is not counted.
+// The place of entry i in the set of writes, or a place past all others if the entry is not a write or is not counted.
 fn write_place(entry: Entry, i: u8, count: u8) -> u32
     ensures { λ r. ⌜ r ≡ cond (ltb i count && isWrite entry) i mostEntries ⌝ }
 {
@@ -53,7 +54,7 @@ fn writes_of(plan: Plan) -> u64
     out
 }
 
-// The length of entry i, and 0 past the count.
+// The length of entry i, or 0 past the count.
 fn counted_length(entry: Entry, i: u8, count: u8) -> u16
     ensures { λ r. ⌜ r ≡ cond (ltb i count) (entry .length) 0 ⌝ }
 {
@@ -73,7 +74,7 @@ fn lengths_of(plan: Plan) -> [u16; ENTRIES]
     out
 }
 
-// Clause 3.3: conflict is worked out here, once for all calls.
+// Clause 3.3: conflicts are computed here, once for all calls.
 fn board_of(plan: Plan) -> Board
     ensures { λ r. ⌜ r ≡ boardOf plan ⌝ }
 {
@@ -95,7 +96,7 @@ fn board_of(plan: Plan) -> Board
     }
 }
 
-// What a refused plan leaves.
+// The board that is returned with a refusal.
 fn blank_board() -> Board
     ensures { λ r. ⌜ r ≡ blankBoard ⌝ }
 {
@@ -136,7 +137,7 @@ fn fresh_state() -> State
     }
 }
 
-// A fresh arbiter of the plan, or its refusal by 3 to 8.
+// A fresh arbiter of the plan, or a refusal with 3 to 8.
 pub fn fresh_of(plan: Plan) -> Fresh
     ensures verdict { λ r. ⌜ verdictNumber (r .verdict) ≡ planFault plan ⌝ }
     ensures board { λ r. ⌜ r .board ≡ freshBoard plan ⌝ }

@@ -20,7 +20,7 @@ phasesBy words = record { waiting = getD words 0 0; entitled = getD words 1 0; h
 abbrev pub momentBy : ℕ → List ℕ → Moment
 momentBy last words = record { last = last; phases = phasesBy words }
 
--- Clause 11.1: the board of these parts.
+-- Clause 11.1: the board with these parts.
 abbrev pub boardIn : Terms → List ℕ → List ℕ → List ℕ → List ℕ → Board
 boardIn terms lengths names widened rows =
     record { terms = terms; lengths = lengths; names = names; widened = widened; rows = rows }

@@ -1,4 +1,4 @@
-// How many bytes were read or written, in the caller's numbers.
+// How many bytes were read or written, as numbers for the caller.
 use crate::Told;
 use encoding::Outcome;
 ghost use mathlib.Core.Path.{_≡_};

@@ -1,5 +1,5 @@
-// What a plan that is read and a query answer a program in C or Rust, in numbers. Specification, section 11, clauses
-// 11.2 and 11.4.
+// What a program in C or Rust gets back when it reads a plan or makes a query, in numbers. Specification, section 11,
+// clauses 11.2 and 11.4.
 use crate::Told;
 use queries::MaskAnswer;
 use queries::PhaseAnswer;
@@ -10,7 +10,7 @@ ghost use Rattle.refusals.specs.Number.{numberOf};
 ghost use Rattle.queries.specs.Answers.{phaseSays, maskSays};
 ghost use Rattle.c_boards.specs.Answers.{toldSays};
 
-// A refusal: its number alone, so the value is 0 beside it.
+// A refusal: its number, and 0 as the value.
 fn told_refusal(refusal: Refusal) -> Told
     ensures { λ r. ⌜ toldSays r ≡ record { number = numberOf refusal; value = 0 } ⌝ }
 {
@@ -20,7 +20,7 @@ fn told_refusal(refusal: Refusal) -> Told
     }
 }
 
-// The state of a processor, by its number, or the refusal.
+// The number of a processor's state, or the refusal.
 pub fn told_phase(answer: PhaseAnswer) -> Told
     ensures { λ r. ⌜ toldSays r ≡ phaseSays answer ⌝ }
 {

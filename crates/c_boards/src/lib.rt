@@ -1,4 +1,6 @@
-// Boards and states in memory that a program in C or Rust owns: what the exported functions read and write of it.
+// Boards and states in memory that a program in C or Rust owns: how they are read and stored there, and the answers
+// that the program gets in numbers. The crates with the exported functions use it: `c_fresh`, `c_calls` and
+// `c_queries`. Specification, section 11.
 mod bytes;
 mod c_answers;
 mod parts;
@@ -9,7 +11,7 @@ pub use c_answers::told_phase;
 pub use parts::moment_of;
 pub use parts::phases_of;
 pub use parts::store_moment;
-// An answer in numbers: the refusal's, 0 if there is none, and a value, 0 beside a refusal.
+// An answer in numbers: the number of the refusal, 0 if there is none, and a value, which is 0 with a refusal.
 #[repr(C)]
 pub struct Told {
     pub refusal: u32,

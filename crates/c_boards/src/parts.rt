@@ -1,4 +1,4 @@
-// What a call changes of a state beside its arrays, from and to the caller's memory.
+// The parts of a state that a call changes outside its arrays, read from and stored in the caller's memory.
 use rules::Moment;
 use rules::Phases;
 ghost use mathlib.Core.Path.{_≡_};
@@ -25,7 +25,7 @@ pub fn moment_of(last: u64, words: [u32; 3]) -> Moment
     }
 }
 
-// Puts a moment into the caller's memory.
+// Stores a moment in the caller's memory.
 pub fn store_moment(moment: Moment, last: &mut u64, words: &mut [u32; 3])
     ensures { λ _. ⌜ momentBy (now (last .exit)) (now (words .exit)) ≡ moment ⌝ }
 {

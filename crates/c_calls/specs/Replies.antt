@@ -1,5 +1,4 @@
--- What a call from C or Rust answers, and what it leaves in the caller's memory. Specification, sections 4
--- and 11.
+-- What a call from C or Rust returns, and what it leaves in the caller's memory. Specification, sections 4 and 11.
 use Prim.Native.Nat.{ℕ}
 use mathlib.Core.List.{List}
 use Rattle.rules.specs.declared.calls.Reply.{Reply}
@@ -14,8 +13,8 @@ use Rattle.c_calls.specs.declared.c_replies.Replied.{Replied}
 abbrev pub response : Replied → Response
 response r = record { number = r .refusal; granted = r .granted; entitled = r .entitled; late = r .late }
 
--- Clauses 11.3 and 4.6: the moment that is left: the one after the call where it was carried out, and the one before
--- where it was refused.
+-- Clauses 11.3 and 4.6: the moment that is left: the one after the call if it was carried out, and the one before if it
+-- was refused.
 abbrev pub momentLeft : Reply → Moment → Moment → Moment
 momentLeft (Reply.Done granted entitled late) after before = after
 momentLeft (Reply.Refused r) after before = before

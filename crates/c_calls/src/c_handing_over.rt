@@ -1,5 +1,5 @@
-// A request is given back and the next one made, in one call, on memory that a program in C or Rust owns.
-// include/bittmelon.h declares what is exported. Specification, sections 4 and 11.
+// A handover on memory that a program in C or Rust owns. include/bittmelon.h declares what is exported. Specification,
+// sections 4 and 11.
 use crate::c_replies::Replied;
 use crate::c_replies::finish;
 use c_boards::moment_of;
@@ -13,7 +13,8 @@ ghost use Rattle.rules.specs.InPlace.{boardBy, stateBy};
 ghost use Rattle.c_boards.specs.Parts.{termsBy, momentBy};
 ghost use Rattle.c_calls.specs.Replies.{answerIn};
 
-// Processor gives its request back and asks for an entry, at one tick. Refused by 10, 11, 12, 14, 15, in that order.
+// The processor completes its request and issues one for an entry, at one tick. Refused with 10, 11, 12, 14 or 15,
+// checked in this order.
 #[no_mangle]
 pub extern "C" fn bittmelon_handover_parts(
     processors: u8,

@@ -1,4 +1,4 @@
-// What a call tells a program in C or Rust, in numbers, and the moment that it leaves in that program's memory.
+// What a call returns to a program in C or Rust, in numbers, and the moment that it leaves in that program's memory.
 // Specification, sections 4 and 11.
 use c_boards::store_moment;
 use refusals::Refusal;
@@ -10,8 +10,8 @@ ghost use Rattle.rules.specs.Replies.{replySays, refusedWith};
 ghost use Rattle.c_boards.specs.Parts.{momentBy};
 ghost use Rattle.c_calls.specs.Replies.{response, momentLeft};
 
-// A reply in numbers: the refusal's, 0 if the call is accepted; the granted and the entitled mask; late. A refusal is
-// its number alone, so the others are 0 beside it.
+// A reply in numbers: the number of the refusal, 0 if the call is accepted; the granted and the entitled mask; late.
+// With a refusal the other three are 0.
 #[repr(C)]
 pub struct Replied {
     pub refusal: u32,
@@ -20,7 +20,7 @@ pub struct Replied {
     pub late: u32,
 }
 
-// What a call that was carried out tells.
+// What a call that was carried out returns.
 fn done(granted: u32, entitled: u32, late: u8) -> Replied
     ensures { λ r. ⌜ response r ≡ record { number = 0; granted = granted; entitled = entitled; late = late } ⌝ }
 {
@@ -32,7 +32,7 @@ fn done(granted: u32, entitled: u32, late: u8) -> Replied
     }
 }
 
-// What a refused call tells.
+// What a refused call returns.
 fn refused(refusal: Refusal) -> Replied
     ensures { λ r. ⌜ response r ≡ refusedWith (numberOf refusal) ⌝ }
 {
@@ -44,8 +44,8 @@ fn refused(refusal: Refusal) -> Replied
     }
 }
 
-// Clause 11.3: tells what a call in place returned, and puts its moment into the caller's memory. A refused call writes
-// nothing.
+// Clause 11.3: returns the reply to a call in place in numbers, and stores its moment in the caller's memory. A refused
+// call writes nothing.
 pub fn finish(changed: Changed, last: &mut u64, phases: &mut [u32; 3]) -> Replied
     ensures told { λ r. ⌜ response r ≡ replySays (changed .reply) ⌝ }
     ensures moment { λ _. ⌜ momentBy (now (last .exit)) (now (phases .exit))

@@ -1,4 +1,4 @@
-// A request is given back, on memory that the caller owns. Specification, section 4.
+// A completion on memory that the caller owns. Specification, section 4.
 use crate::c_replies::Replied;
 use crate::c_replies::finish;
 use c_boards::moment_of;
@@ -12,7 +12,7 @@ ghost use Rattle.rules.specs.InPlace.{boardBy, stateBy};
 ghost use Rattle.c_boards.specs.Parts.{termsBy, momentBy};
 ghost use Rattle.c_calls.specs.Replies.{answerIn};
 
-// Processor gives its request back at a tick. Refused by 10, 11, 14, 15, in that order.
+// The processor completes its request at a tick. Refused with 10, 11, 14 or 15, checked in this order.
 #[no_mangle]
 pub extern "C" fn bittmelon_complete_parts(
     processors: u8,

@@ -1,4 +1,4 @@
-// A request is made, on memory that the caller owns. Specification, section 4.
+// An issue on memory that the caller owns. Specification, section 4.
 use crate::c_replies::Replied;
 use crate::c_replies::finish;
 use c_boards::moment_of;
@@ -12,7 +12,7 @@ ghost use Rattle.rules.specs.InPlace.{boardBy, stateBy};
 ghost use Rattle.c_boards.specs.Parts.{termsBy, momentBy};
 ghost use Rattle.c_calls.specs.Replies.{answerIn};
 
-// Processor asks for an entry at a tick. Refused by 10, 11, 12, 13, in that order.
+// The processor issues a request for an entry at a tick. Refused with 10, 11, 12 or 13, checked in this order.
 #[no_mangle]
 pub extern "C" fn bittmelon_issue_parts(
     processors: u8,

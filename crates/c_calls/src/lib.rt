@@ -1,6 +1,6 @@
-// The calls of the arbiter on memory that a program in C or Rust owns: its parts are lent as pointers, and nothing is
-// copied but the counts and the phases. A handover stands in `c_handing_over`. include/bittmelon.h declares what is
-// exported. Specification, sections 4 and 11.
+// Exported to C and Rust: the four calls of the arbiter on memory that the caller owns. Its parts are lent as pointers,
+// and only the counts and the phases are copied. include/bittmelon.h declares what is exported. Specification, sections
+// 4 and 11.
 mod c_handing_over;
 mod c_replies;
 mod complete;

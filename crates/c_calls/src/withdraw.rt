@@ -1,4 +1,4 @@
-// A request leaves the line, on memory that the caller owns. Specification, section 4.
+// A withdrawal on memory that the caller owns. Specification, section 4.
 use crate::c_replies::Replied;
 use crate::c_replies::finish;
 use c_boards::moment_of;
@@ -12,7 +12,8 @@ ghost use Rattle.rules.specs.InPlace.{boardBy, stateBy};
 ghost use Rattle.c_boards.specs.Parts.{termsBy, momentBy};
 ghost use Rattle.c_calls.specs.Replies.{answerIn};
 
-// Processor leaves the line at a tick, with a request that does not hold. Refused by 10, 11, 14, 17, in that order.
+// The processor leaves the queue at a tick; its request must not hold. Refused with 10, 11, 14 or 17, checked in this
+// order.
 #[no_mangle]
 pub extern "C" fn bittmelon_withdraw_parts(
     processors: u8,

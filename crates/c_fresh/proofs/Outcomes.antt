@@ -1,4 +1,4 @@
--- How the read of a plan ended decides which board and state are left. Assumes nothing.
+-- The outcome of reading a plan decides which board and state are left. Assumes nothing.
 use Prim.Native.Nat.{ℕ}
 use mathlib.Core.Bool.{cond}
 use mathlib.Core.List.{List}

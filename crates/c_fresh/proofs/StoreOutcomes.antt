@@ -1,4 +1,4 @@
--- Which board and state are left, where a plan was read and where its bytes were refused. Assumes nothing.
+-- Which board and state are left if a plan was read, and if its bytes were refused. Assumes nothing.
 use Prim.Native.Nat.{ℕ}
 use mathlib.Core.Path.{_≡_, sym, ap, _∙_}
 use Rattle.refusals.specs.declared.Refusal.{Refusal}

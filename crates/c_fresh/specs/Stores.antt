@@ -1,4 +1,4 @@
--- What the read of a plan leaves in the caller's memory, by how it ended. Specification, sections 4 and 11.
+-- What reading a plan leaves in the caller's memory, by its outcome. Specification, sections 4 and 11.
 use Rattle.encoding.specs.declared.Outcome.{Outcome}
 use Rattle.plans.specs.declared.Plan.{Plan}
 use Rattle.rules.specs.declared.states.Board.{Board}

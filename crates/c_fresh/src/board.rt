@@ -1,4 +1,4 @@
-// The board of a plan, into the caller's memory.
+// Stores the board of a plan in the caller's memory.
 use boards::fresh_of;
 use encoding::Outcome;
 use plans::ENTRIES;
@@ -7,7 +7,7 @@ ghost use mathlib.Core.Path.{_≡_};
 ghost use Rattle.c_boards.specs.Parts.{termsBy, boardIn};
 ghost use Rattle.c_fresh.specs.Stores.{boardLeft};
 
-// Puts the board of the plan that was read into the caller's memory.
+// Stores the board of the plan, if one was read.
 pub fn store_board(
     outcome: Outcome,
     plan: Plan,

@@ -1,5 +1,5 @@
-// A fresh arbiter from the bytes of a plan, into memory that a program in C or Rust owns; and the version of the
-// archive. include/bittmelon.h declares what is exported. Specification, sections 4 and 11.
+// Exported to C and Rust: a fresh arbiter, made from the bytes of a plan and stored in memory that the caller owns; and
+// the version of the archive. include/bittmelon.h declares what is exported. Specification, sections 4 and 11.
 mod board;
 mod state;
 
@@ -16,7 +16,7 @@ ghost use Rattle.c_boards.specs.Parts.{termsBy, momentBy, boardIn};
 ghost use Rattle.c_boards.specs.Answers.{toldSays};
 ghost use Rattle.c_fresh.specs.Fresh.{versionNumber, boardAfter, stateAfterPlan};
 
-// The version of the archive, to hold against the header's.
+// The version of the archive, to compare with the header's.
 #[no_mangle]
 pub extern "C" fn bittmelon_version_number() -> u32
     ensures { λ r. ⌜ r ≡ versionNumber ⌝ }
@@ -24,8 +24,8 @@ pub extern "C" fn bittmelon_version_number() -> u32
     30100
 }
 
-// A fresh arbiter of the plan in the bytes; bytes behind it are not looked at. Answers how many it took, or its refusal
-// by 1 or 3 to 8, and then writes nothing.
+// Stores the fresh arbiter of the plan in the bytes; bytes after the plan are ignored. Returns how many bytes the plan
+// took, or its refusal, 1 or 3 to 8, and then writes nothing.
 #[no_mangle]
 pub extern "C" fn bittmelon_fresh_parts(
     plan: &[u8],

@@ -1,4 +1,4 @@
-// The fresh state, into the caller's memory.
+// Stores the fresh state in the caller's memory.
 use encoding::Outcome;
 use plans::SLOTS;
 ghost use mathlib.Core.Path.{_≡_};
@@ -6,7 +6,7 @@ ghost use Rattle.rules.specs.InPlace.{stateBy};
 ghost use Rattle.c_boards.specs.Parts.{momentBy};
 ghost use Rattle.c_fresh.specs.Stores.{stateLeft};
 
-// Clause 4.3: puts the state in which nobody is active there, with 0 as the last accepted tick.
+// Clause 4.3: stores the state with no active request and 0 as the last accepted tick.
 pub fn store_state(
     outcome: Outcome,
     last: &mut u64,

@@ -1,4 +1,4 @@
-// Which resource two entries fight over, on memory that a program in C or Rust owns. Nothing is changed.
+// Which resources two entries conflict over, on memory that a program in C or Rust owns. Nothing is changed.
 // include/bittmelon.h declares what is exported. Specification, sections 7 and 11.
 use conflicts::Conflict;
 use plans::ENTRIES;
@@ -11,7 +11,8 @@ ghost use Rattle.queries.specs.Contention.{sharedSays, sharedOf};
 ghost use Rattle.c_boards.specs.Parts.{termsBy};
 ghost use Rattle.c_queries.specs.Shared.{sharedToldSays};
 
-// The refusal's number, 0 if there is none; 1 for a conflict, with the lowest shared resource and how many they are.
+// The number of the refusal, 0 if there is none; 1 for a conflict, with the lowest shared resource and how many are
+// shared.
 #[repr(C)]
 pub struct SharedTold {
     pub refusal: u32,
@@ -53,7 +54,7 @@ fn told_shared(answer: SharedAnswer) -> SharedTold
     }
 }
 
-// Clause 7.10: what two entries conflict over. Refuses by 12.
+// Clause 7.10: what two entries conflict over. Refused with 12.
 #[no_mangle]
 pub extern "C" fn bittmelon_shared_parts(
     processors: u8,

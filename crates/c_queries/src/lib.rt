@@ -1,5 +1,5 @@
-// The queries on memory that a program in C or Rust owns. Its parts are lent as pointers, and nothing but a lent buffer
-// is changed. include/bittmelon.h declares these functions. Specification, sections 7 and 11.
+// Exported to C and Rust: the queries on memory that the caller owns. Its parts are lent as pointers, and only a lent
+// scratch or buffer is changed. include/bittmelon.h declares these functions. Specification, sections 7 and 11.
 mod c_contention;
 
 use c_boards::Told;
@@ -26,7 +26,7 @@ ghost use Rattle.queries.specs.WholeBoard.{boardQuery, boardBuffer};
 ghost use Rattle.c_boards.specs.Parts.{termsBy, phasesBy, momentBy};
 ghost use Rattle.c_boards.specs.Answers.{toldSays};
 
-// Clause 7.1: the state of a processor, by its number. Refuses by 11.
+// Clause 7.1: the number of a processor's state. Refused with 11.
 #[no_mangle]
 pub extern "C" fn bittmelon_state_parts(
     processors: u8,
@@ -48,7 +48,7 @@ pub extern "C" fn bittmelon_state_parts(
     told_phase(phase_in_place(terms, entry, given, processor))
 }
 
-// Clause 7.2: the direct waits of a processor, a mask. Refuses by 11.
+// Clause 7.2: the direct waits of a processor, as a mask. Refused with 11.
 #[no_mangle]
 pub extern "C" fn bittmelon_waits_parts(
     processors: u8,
@@ -73,8 +73,8 @@ pub extern "C" fn bittmelon_waits_parts(
     told_mask(direct_waits_in_place(terms, rows, entry, earlier, given, processor))
 }
 
-// Clause 7.3: all that a processor reaches, a mask; the scratch is left with a word for each processor, and bytes
-// behind those stay. Refuses by 11, then by 16; a refusal writes nothing.
+// Clause 7.3: the reach of a processor, as a mask. The query leaves a word for each processor in the scratch, and bytes
+// after the words stay. Refused with 11, then with 16; a refusal writes nothing.
 #[no_mangle]
 pub extern "C" fn bittmelon_reach_parts(
     processors: u8,
@@ -106,8 +106,8 @@ pub extern "C" fn bittmelon_reach_parts(
     told_mask(answer)
 }
 
-// Clause 7.7: fills the buffer with the list of the whole board and answers how many bytes it took; bytes behind it
-// stay. Refuses by 16 a buffer that is too short, and then writes nothing.
+// Clause 7.7: fills the buffer with the list of the whole board and returns how many bytes it took; bytes after the
+// list stay. A buffer that is too short is refused with 16, and then nothing is written.
 #[no_mangle]
 pub extern "C" fn bittmelon_list_parts(
     processors: u8,

@@ -1,5 +1,5 @@
-// What the refusals of a call go by: is the tick in time, is the processor on the board, is its request unsatisfied or
-// active. The phases are of the requests that count. Specification, clause 4.5.
+// The conditions that the refusals of a call depend on: is the tick in time, is the processor on the board, is its
+// request unsatisfied or active. The phases are those of the requests that count. Specification, clause 4.5.
 use masks::has32;
 use plans::SLOTS;
 use rules::Phases;
@@ -13,14 +13,15 @@ ghost use Rattle.rules.specs.CountedRequests.{hasProcessor};
 // Clause 1.4: the largest tick.
 const LAST_TICK: u64 = 1099511627775;
 
-// Clause 4.5: 10 where this fails.
+// Clause 4.5: if this is false, the call is refused with 10.
 pub fn is_in_time(last: u64, tick: u64) -> bool
     ensures { λ r. ⌜ r ≡ (leb last tick && leb tick 1099511627775) ⌝ }
 {
     (last <= tick) & (tick <= LAST_TICK)
 }
 
-// Clause 4.5: 11 where this fails. A board from no plan can have more processors than a state holds.
+// Clause 4.5: if this is false, the call is refused with 11. A board that was not made from a plan can have more
+// processors than a state has places for.
 pub fn is_counted(terms: Terms, processor: u8) -> bool
     ensures { λ r. ⌜ r ≡ hasProcessor terms processor ⌝ }
 {
@@ -34,7 +35,7 @@ pub fn is_unsatisfied(phases: Phases, processor: u8) -> bool
     has32(phases.waiting | phases.entitled, processor as u32)
 }
 
-// Clause 4.1: the processor has a request, in whatever phase.
+// Clause 4.1: the processor has a request, in any phase.
 pub fn is_active(phases: Phases, processor: u8) -> bool
     ensures { λ r. ⌜ r ≡ active phases processor ⌝ }
 {

@@ -1,5 +1,5 @@
-// When a handover is refused, and by which number: specification, clause 4.5. The phases are of the requests that
-// count.
+// When a handover is refused, and with which number: specification, clause 4.5. The phases are those of the requests
+// that count.
 use crate::conditions::is_active;
 use crate::conditions::is_counted;
 use crate::conditions::is_in_time;
@@ -13,7 +13,7 @@ ghost use mathlib.Core.Path.{_≡_};
 ghost use Rattle.refusals.specs.Number.{verdictNumber};
 ghost use Rattle.rules.specs.Faults.{handoverFault};
 
-// Clause 4.5: 10, 11, 12, 14, 15.
+// Clause 4.5: refuses with 10, 11, 12, 14, 15, in this order.
 pub fn check_handover(
     terms: Terms,
     last: u64,

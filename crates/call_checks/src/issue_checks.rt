@@ -1,4 +1,5 @@
-// When an issue is refused, and by which number: specification, clause 4.5. The phases are of the requests that count.
+// When an issue is refused, and with which number: specification, clause 4.5. The phases are those of the requests that
+// count.
 use crate::conditions::is_active;
 use crate::conditions::is_counted;
 use crate::conditions::is_in_time;
@@ -10,7 +11,8 @@ ghost use mathlib.Core.Path.{_≡_};
 ghost use Rattle.refusals.specs.Number.{verdictNumber};
 ghost use Rattle.rules.specs.Faults.{issueFault};
 
-// Clause 4.5: 10, 11, 12, 13. It returns at the first: a call that is accepted pays for the tests alone.
+// Clause 4.5: refuses with 10, 11, 12, 13, in this order. It returns at the first fault, so an accepted call pays only
+// for the tests.
 pub fn check_issue(
     terms: Terms,
     last: u64,

@@ -1,5 +1,5 @@
-// When a call that takes a request out is refused, and by which number: specification, clause 4.5, 10, 11, 14, 15 and
-// 17. The phases are of the requests that count. `issue_checks` has the issue, and `handover_checks` the handover.
+// When a completion or a withdrawal is refused, and with which number, of 10, 11, 14, 15 and 17: specification,
+// clause 4.5. The phases are those of the requests that count.
 use crate::conditions::is_active;
 use crate::conditions::is_counted;
 use crate::conditions::is_in_time;
@@ -15,7 +15,8 @@ ghost use Rattle.refusals.specs.Number.{numberOf, verdictNumber};
 ghost use Rattle.refusals.specs.Due.{due};
 ghost use Rattle.rules.specs.Faults.{takeFault, completeFault, withdrawFault};
 
-// Clause 4.5, for a call that takes the processor's request out: 10, 11, 14, then what is due for its phase.
+// Clause 4.5, for a call that removes the processor's request: refuses with 10, 11, 14, then with the number that is
+// due for its phase.
 fn check_taken(
     terms: Terms,
     last: u64,
@@ -41,7 +42,7 @@ fn check_taken(
     refuse_unless(passes, refusal)
 }
 
-// Clause 4.5: 10, 11, 14, 15.
+// Clause 4.5: refuses with 10, 11, 14, 15, in this order.
 pub fn check_complete(terms: Terms, last: u64, phases: Phases, processor: u8, tick: u64) -> Verdict
     ensures { λ r. ⌜ verdictNumber r ≡ completeFault terms last phases processor tick ⌝ }
 {
@@ -49,7 +50,7 @@ pub fn check_complete(terms: Terms, last: u64, phases: Phases, processor: u8, ti
     check_taken(terms, last, phases, processor, tick, held, Refusal::Unheld)
 }
 
-// Clause 4.5: 10, 11, 14, 17.
+// Clause 4.5: refuses with 10, 11, 14, 17, in this order.
 pub fn check_withdraw(terms: Terms, last: u64, phases: Phases, processor: u8, tick: u64) -> Verdict
     ensures { λ r. ⌜ verdictNumber r ≡ withdrawFault terms last phases processor tick ⌝ }
 {

@@ -1,4 +1,5 @@
-// When a call is refused, and by which number. Specification, clauses 4.5 and 8.2.
+// When a call is refused, and with which number. `calls_in_place` checks every call with it. Specification, clauses 4.5
+// and 8.2.
 mod conditions;
 mod handover_checks;
 mod issue_checks;

@@ -1,4 +1,4 @@
--- The answers to the calls, put together from what their parts give. Assumes nothing.
+-- The answers to the calls, built from the results of their parts. Assumes nothing.
 use mathlib.Core.Path.{_≡_, refl, sym, ap, ap₂, _∙_}
 use mathlib.Core.Bool.{cond}
 use mathlib.Core.List.{List}
@@ -29,9 +29,9 @@ use Rattle.rules.specs.Calls.{Answer, phasesOf, putState, takenState, done, rul
 use Rattle.rules.specs.InPlace.{boardBy, stateBy}
 use Rattle.rules.proofs.Halves.{first-half, issue-accepted}
 
--- ---- by the verdict
+-- ---- by verdict
 
--- The answer of a refused call.
+-- The answer to a refused call.
 abbrev pub Unchanged : Refusal → State → Answer
 Unchanged r s = record { reply = refusedWith (numberOf r); state = s }
 
@@ -43,7 +43,7 @@ ruled-refuses : (n : ℕ) (v : Verdict) (r : Refusal) (s : State) (a : Answer) �
 ruled-refuses n v r s a says w =
     ap (λ t. cond t a (Unchanged r s)) (sym (number-not-zero r)) ∙ ap (λ (n : ℕ). ruled n s a) (ap verdictNumber (sym w) ∙ says)
 
--- The processor of a call that is not refused by 10 or 11 is one of those that a state holds.
+-- If a call is not refused with 10 or 11, its processor has a place in a state.
 counted-below : (terms : Terms) (last p t later : ℕ) → firstOf (tickFault last t) (firstOf (processorFault terms p) later) ≡ 0 → p < slots
 counted-below terms last p t later e =
     ltb-true p slots
@@ -61,14 +61,15 @@ module _ (v : Verdict) (terms : Terms) (last : ℕ) (ph : Phases) (p t : ℕ) (w
 
 -- ---- an act on the requests that count
 
--- What `enter` gives, beside the requests of the phases ph, from who is earlier.
+-- The answer that `enter` gives when it adds a request to those in the phases ph. `line` contains the masks of earlier
+-- requests.
 abbrev pub Entered : Board → State → Phases → List ℕ → Answer → ℕ → ℕ → ℕ → Type 0
 Entered b s ph line a p e t =
     a
     ≡ done (stateBy (record { last = t; phases = putIn ph p }) (set (s .entry) p e) (set (s .since) p t) line)
     (settled (factsBy (b .rows) (b .terms .writes) (set (s .entry) p e) line) (putIn ph p)) 0
 
--- What `leave` gives, of the requests of the phases ph.
+-- The answer that `leave` gives when it removes a request from those in the phases ph.
 abbrev pub Gone : Board → State → Phases → Answer → ℕ → ℕ → ℕ → Type 0
 Gone b s ph a p t late =
     a
@@ -90,7 +91,7 @@ module _ (b : Board) (s : State) (before : Phases) (cleans : before ≡ phasesOf
   gone-is p t late eq =
       eq ∙ ap (λ ph. settledDone b (stateBy (record { last = t; phases = takenOut ph p }) (s .entry) (s .since) (s .earlier)) late) cleans
 
--- The late mark as it is worked out.
+-- The late mark as the code computes it.
 late-is : (b : Board) (s : State) (p t length late : ℕ) → length ≡ getD (b .lengths) (getD (s .entry) p 0) 0
     → late ≡ cond (ltb length (t - getD (s .since) p 0)) 1 0 → late ≡ lateMark b s p t
 late-is b s p t length late eh el = el ∙ ap (λ (x : ℕ). cond (ltb x (t - getD (s .since) p 0)) 1 0) eh
@@ -164,7 +165,7 @@ module _ (b : Board) (s : State) (before : Phases) (cleans : before ≡ phasesOf
           gone-is b s before cleans a p t late gone ∙ ap (settledDone b (takenState b s p t)) (late-is b s p t length late eh el)
           ∙ sym (first-half b s p e t ok)
 
-      -- The second half goes by the state that the first one left, and is accepted.
+      -- The second half uses the state that the first half left, and is accepted.
       second-is : (ready : Phases) → ready ≡ phasesOf b (a .state) → (line : List ℕ) → line ≡ putLast (a .state .earlier) ready p
           → (a₂ : Answer) → Entered b (a .state) ready line a₂ p e t → a₂ ≡ issued b (a .state) p e t
       unfolding issued
@@ -184,7 +185,7 @@ module _ (b : Board) (s : State) (before : Phases) (cleans : before ≡ phasesOf
 
 -- ---- what a call reads
 
--- Of a board its terms, its conflict rows and its lengths.
+-- A call reads only the board's terms, its conflict rows and its lengths.
 pub call-reads : (b : Board) (s : State) (call : Call) → answered (boardBy (b .terms) (b .rows) (b .lengths)) s call ≡ answered b s call
 unfolding putState settledDone issued takenState left completed withdrawn handedOver
 call-reads b s (Call.Issue p e t) = refl

@@ -1,5 +1,4 @@
-// What a call in place returns: of a call that was carried out its answer, and of a refused one the refusal, with the
-// moment as it was given.
+// What a call in place returns: the answer to an accepted call, or the refusal with the moment unchanged.
 use refusals::Refusal;
 use requests::Carried;
 use rules::Changed;

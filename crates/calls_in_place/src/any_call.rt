@@ -1,4 +1,4 @@
-// Any call on the arrays of a state, in place.
+// Any of the four calls, in place on the arrays of a state.
 use crate::completing::complete_in_place;
 use crate::handing_over::handover_in_place;
 use crate::issuing::issue_in_place;
@@ -13,8 +13,8 @@ ghost use mathlib.Core.Path.{_≡_};
 ghost use Rattle.rules.specs.Calls.{answered};
 ghost use Rattle.rules.specs.InPlace.{boardBy, stateBy, answerBy};
 
-// The answer to any call, on the three arrays of a state. The terms, the rows and the lengths are a board's, and the
-// moment is what else the state has. What it returns and what it leaves in the arrays are the answer of `answer`.
+// Answers any call on the three arrays of a state. The terms, the rows and the lengths belong to a board, and the
+// moment is the rest of the state. The result and the changed arrays are the answer that `arbiter::answer` gives.
 pub fn answer_in_place(
     terms: Terms,
     rows: &[u64; ENTRIES],

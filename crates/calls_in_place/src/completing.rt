@@ -1,5 +1,6 @@
-// A completion, carried out on the arrays of a state that the caller lends: no copies. It is checked; then the request
-// is taken out, and the answer has who began to hold and who became entitled. Specification, clauses 4.4 to 4.10.
+// A completion, carried out in place on the arrays of a state that the caller lends: nothing is copied. The call is
+// checked, then the request is removed, and the answer says who began to hold and who became entitled. Specification,
+// clauses 4.4 to 4.10.
 use crate::answers::accepted;
 use crate::answers::refused;
 use call_checks::check_complete;
@@ -17,7 +18,7 @@ ghost use mathlib.Core.Path.{_≡_};
 ghost use Rattle.rules.specs.Calls.{completed};
 ghost use Rattle.rules.specs.InPlace.{boardBy, stateBy, answerBy};
 
-// Processor gives its request back at a tick. Refused by 10, 11, 14, 15, in that order.
+// The processor completes its request at a tick. Refused with 10, 11, 14 or 15, checked in this order.
 pub fn complete_in_place(
     terms: Terms,
     rows: &[u64; ENTRIES],

@@ -1,4 +1,5 @@
-// A completion and an issue in one call, on the arrays of a state, in place. Specification, clauses 4.4 to 4.8.
+// A handover, carried out in place on the arrays of a state: a completion and an issue in one call. Specification,
+// clauses 4.4 to 4.8.
 use crate::answers::accepted;
 use crate::answers::refused;
 use call_checks::check_handover;
@@ -19,8 +20,9 @@ ghost use mathlib.Core.Path.{_≡_};
 ghost use Rattle.rules.specs.Calls.{handedOver};
 ghost use Rattle.rules.specs.InPlace.{boardBy, stateBy, answerBy};
 
-// Processor gives its request back and asks for an entry, at one tick. Refused by 10, 11, 12, 14, 15, in that order.
-// The halves need no checks of their own: an issue right after its processor's completion is never refused.
+// The processor completes its request and issues one for an entry, at one tick. Refused with 10, 11, 12, 14 or 15,
+// checked in this order. The halves need no checks of their own: an issue right after its processor's completion is
+// never refused.
 pub fn handover_in_place(
     terms: Terms,
     rows: &[u64; ENTRIES],

@@ -1,5 +1,6 @@
-// An issue, carried out on the arrays of a state that the caller lends: no copies. It is checked; then the request is
-// put in, and the answer has who began to hold and who became entitled. Specification, clauses 4.4 to 4.10.
+// An issue, carried out in place on the arrays of a state that the caller lends: nothing is copied. The call is
+// checked, then the request is added, and the answer says who began to hold and who became entitled. Specification,
+// clauses 4.4 to 4.10.
 use crate::answers::accepted;
 use crate::answers::refused;
 use call_checks::check_issue;
@@ -16,7 +17,7 @@ ghost use mathlib.Core.Path.{_≡_};
 ghost use Rattle.rules.specs.Calls.{issued};
 ghost use Rattle.rules.specs.InPlace.{boardBy, stateBy, answerBy};
 
-// Processor asks for an entry at a tick. Refused by 10, 11, 12, 13, in that order.
+// The processor issues a request for an entry at a tick. Refused with 10, 11, 12 or 13, checked in this order.
 pub fn issue_in_place(
     terms: Terms,
     rows: &[u64; ENTRIES],

@@ -1,5 +1,6 @@
-// A withdrawal, carried out on the arrays of a state that the caller lends: no copies. It is checked; then the request
-// is taken out, and the answer has who began to hold and who became entitled. Specification, clauses 4.4 to 4.10.
+// A withdrawal, carried out in place on the arrays of a state that the caller lends: nothing is copied. The call is
+// checked, then the request is removed, and the answer says who began to hold and who became entitled. Specification,
+// clauses 4.4 to 4.10.
 use crate::answers::accepted;
 use crate::answers::refused;
 use call_checks::check_withdraw;
@@ -15,7 +16,8 @@ ghost use mathlib.Core.Path.{_≡_};
 ghost use Rattle.rules.specs.Calls.{withdrawn};
 ghost use Rattle.rules.specs.InPlace.{boardBy, stateBy, answerBy};
 
-// Processor leaves the line at a tick, with a request that does not hold. Refused by 10, 11, 14, 17, in that order.
+// The processor leaves the queue at a tick; its request must not hold. Refused with 10, 11, 14 or 17, checked in this
+// order.
 pub fn withdraw_in_place(
     terms: Terms,
     rows: &[u64; ENTRIES],

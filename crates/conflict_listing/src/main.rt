@@ -1,5 +1,5 @@
-// Reads a plan from standard input, and prints for each pair of its entries what they conflict over: the
-// lowest-numbered resource that they share, and how many. A test program: its output is compared with another's.
+// Test program: reads a plan from standard input, and prints for each pair of its entries what they conflict over: the
+// lowest-numbered resource that they share, and how many they share. Its output is compared with another program's.
 use conflicts::Conflict;
 use encoding::Outcome;
 use libc::STDIN_FILENO;
@@ -52,7 +52,7 @@ fn print_row(board: Board, first: u8, count: u8) {
     }
 }
 
-// All pairs, and then one with the first number that is no entry.
+// All pairs, and then one with the first number that is not an entry.
 fn print_pairs(board: Board, count: u8) {
     let mut first: u8 = 0;
     while first < count {

@@ -1,5 +1,5 @@
--- What an accepted plan tells of each of its entries: kind, and a set that is not empty and names only counted
--- resources. Assumes nothing.
+-- What an accepted plan guarantees for each of its entries: its kind, and a set that is not empty and names only
+-- counted resources. Assumes nothing.
 use Prim.Native.Nat.{ℕ, zero, suc, _^_, _<_}
 use mathlib.Core.Path.{_≡_, refl}
 use mathlib.Core.Bool.{true, not, _||_, false≢true, and-eq-true-iff}
@@ -34,7 +34,7 @@ one-kind k h = ⊎-elim (λ e. rw (eqb-true k 0 e)) (λ e. rw (eqb-true k 1 e)) 
 
 -- ---- the entries
 
--- What holds of the blank entry and of each entry without a fault holds of the entry at each place.
+-- A property of the blank entry and of each entry without a fault is a property of the entry at each place.
 by-accepted : (P : Entry → Type 0) (resources : ℕ) → P blankEntry → ((e : Entry) → entryFault resources e ≡ 0 → P e)
     → (es : List Entry) → entriesFault resources es ≡ 0 → (i : ℕ) → P (getD es i blankEntry)
 unfolding entriesFault

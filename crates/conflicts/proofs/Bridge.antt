@@ -31,7 +31,7 @@ read-no-write e h = ap (λ (k : ℕ). eqb k 1) (eqb-true (e .kind) 0 h)
 write-no-read : (e : Entry) → isWrite e ≡ true → isRead e ≡ false
 write-no-read e h = ap (λ (k : ℕ). eqb k 0) (eqb-true (e .kind) 1 h)
 
--- Some width holds the set n.
+-- Every set n fits in some width.
 some-width : (n : ℕ) → n < 2 ^ n
 some-width zero = pow-pos 0
 some-width (suc n) = omega (arith, some-width n)
@@ -87,7 +87,7 @@ module _ (es : List Entry) where
       let held = names-in-widened (e .set) es (named .0) (named .2) in
       two-writes e e h h ∙ share-meets _ _ (named .0) held held
 
-  -- Both widened sets hold the whole set of the read at place r.
+  -- Both widened sets contain the whole set of the read at place r.
   bridged : (r : ℕ) (e f : Entry) → isRead (getD es r blankEntry) ≡ true → isWrite e ≡ true → isWrite f ≡ true
       → conflict es (getD es r blankEntry) e ≡ true → conflict es (getD es r blankEntry) f ≡ true → conflict es e f ≡ true
   bridged r e f hr he hf ce cf =
@@ -134,7 +134,7 @@ module _ (p : Plan) where
   write-conflicts-itself taken i l h =
       counted-conflict i i l l (write-itself (countedEntries p) (entryAt p i) h (write-not-empty p taken i h))
 
-  -- The bridge, also for w and v the same.
+  -- The bridge, also if w and v are the same.
   pub read-bridges-writes : (r w v : ℕ) → isRead (entryAt p r) ≡ true → isWrite (entryAt p w) ≡ true → isWrite (entryAt p v) ≡ true
       → inConflict p r w ≡ true → inConflict p r v ≡ true → inConflict p w v ≡ true
   read-bridges-writes r w v hr hw hv cw cv =

@@ -1,5 +1,4 @@
--- The conflict over a set of shared resources, and that there is one exactly where the set is not empty. Assumes
--- nothing.
+-- The conflict over a set of shared resources: there is one exactly if the set is not empty. Assumes nothing.
 use Prim.Native.Nat.{ℕ, _^_, _<_}
 use mathlib.Core.Path.{_≡_, refl, sym, ap, _∙_}
 use mathlib.Core.Bool.{Bool, true, false, cond, not}
@@ -17,7 +16,7 @@ pub over-none : (set : ℕ) → set ≡ 0 → conflictSays Conflict.None ≡ ove
 unfolding over
 over-none set e = rw e
 
--- Entries that are not both writes: two reads have no conflict, and a read and a write have it over their names.
+-- Entries that are not both writes: two reads do not conflict, and a read and a write conflict over their names.
 module _ (writes reads : Bool) (names widened : ℕ) (w : writes ≡ false) where
   pub reads-none : reads ≡ true → conflictSays Conflict.None ≡ over (sharedBy writes reads names widened)
   reads-none r = over-none _ (rw (w, r))
@@ -31,7 +30,7 @@ unfolding over
 over-some set some small =
     rw (ne-eqb set 0 (λ e. omega (arith, e)), lowest-is mostResources set some small, ones-are mostResources set small)
 
--- The number of one of two conflicts, none and one.
+-- The number shows which of the two it is: no conflict, or a conflict.
 which : (t : Bool) (none one : Over) → none .number ≡ 0 → one .number ≡ 1 → eqb (cond t none one .number) 1 ≡ not t
 which true none one e f = ap (λ (n : ℕ). eqb n 1) e
 which false none one e f = ap (λ (n : ℕ). eqb n 1) f

@@ -1,5 +1,5 @@
--- Conflict of two entries, read from the plan's array and from the array of widened sets, and a row with one more of
--- them. Assumes nothing.
+-- The conflict of two entries, read from the plan's array and from the array of widened sets, and a row with one more
+-- entry. Assumes nothing.
 use Prim.Native.Nat.{ℕ, _+_, _<_}
 use mathlib.Core.Path.{_≡_, refl, ap, _∙_}
 use mathlib.Core.Bool.{Bool, true, false, cond, not, _&&_}
@@ -19,7 +19,7 @@ use Rattle.conflicts.specs.Conflict.{shared, conflict, inConflict, confl
 use Rattle.conflicts.proofs.Over.{over-is}
 use Rattle.conflicts.proofs.WidenedSets.{entry-at, widened-counted, widened-at}
 
--- What two entries share, by their widened sets a and b, and whether they conflict.
+-- What two entries share, given their widened sets a and b, and whether they conflict.
 abbrev pub pairShares : Entry → ℕ → Entry → ℕ → ℕ
 pairShares e a f b = sharedBy (isWrite e && isWrite f) (isRead e && isRead f) (bitAnd (e .set) (f .set)) (bitAnd a b)
 
@@ -47,7 +47,7 @@ module _ (p : Plan) (sets : List ℕ) (made : sets ≡ conflictsOf p .widened) w
       go true false hi hj = refl
       go false u hi hj = refl
 
-  -- The row of entry i with column j, where the pair was found to conflict or not.
+  -- The row of entry i with column j added, whether or not the pair conflicts.
   pub row-next : (i j row next : ℕ) (found : Over) → i < mostEntries → j < mostEntries → row ≡ maskOf j (inConflict p i)
       → found ≡ over (pairShares (getD (p .entries) i blankEntry) (getD sets i 0) (getD (p .entries) j blankEntry) (getD sets j 0))
       → next ≡ cond ((ltb i (p .count) && ltb j (p .count)) && eqb (found .number) 1) (added row j) row

@@ -1,4 +1,4 @@
--- Bit j of row i is the conflict of the entries i and j, and a row is a set of width 64. Assumes nothing.
+-- Bit j of row i is set exactly if entries i and j conflict, and a row is a set of width 64. Assumes nothing.
 use Prim.Native.Nat.{ℕ, _^_, _<_}
 use mathlib.Core.Path.{_≡_, refl, ap, _∙_}
 use mathlib.Core.Bool.{Bool, true, false}

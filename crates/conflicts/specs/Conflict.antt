@@ -13,13 +13,13 @@ use Rattle.conflicts.specs.Sharing.{sharedBy}
 use Rattle.conflicts.specs.Widening.{widenedSet}
 use Rattle.conflicts.specs.declared.Conflicts.{Conflicts}
 
--- Clause 3.2: what stands between two entries of a plan.
+-- Clause 3.2: the resources that two entries of a plan conflict over.
 unfoldable pub shared : List Entry → Entry → Entry → ℕ
 shared entries e f =
     sharedBy (isWrite e && isWrite f) (isRead e && isRead f) (bitAnd (e .set) (f .set))
     (bitAnd (widenedSet entries e) (widenedSet entries f))
 
--- Clause 3.2: they conflict where a resource stands between them.
+-- Clause 3.2: they conflict if there is such a resource.
 unfoldable pub conflict : List Entry → Entry → Entry → Bool
 conflict entries e f = not (eqb (shared entries e f) 0)
 
@@ -28,8 +28,8 @@ unfoldable pub inConflict : Plan → ℕ → ℕ → Bool
 inConflict p i j =
     (ltb i (p .count) && ltb j (p .count)) && conflict (countedEntries p) (entryAt p i) (entryAt p j)
 
--- Clause 3.3: worked out once: the names and the widened set of each entry, and as its row the entries that it
--- conflicts with.
+-- Clause 3.3: computed once: the names and the widened set of each entry, and its row, the entries that it conflicts
+-- with.
 unfoldable pub conflictsOf : Plan → Conflicts
 conflictsOf p =
     record {

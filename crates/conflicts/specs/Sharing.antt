@@ -6,12 +6,13 @@ use Rattle.masks.specs.Sets.{bit, countOf, lowestOf}
 use Rattle.plans.specs.Entries.{mostResources}
 use Rattle.conflicts.specs.declared.sharing.Conflict.{Conflict}
 
--- Clauses 3.2 and 5.8: what stands between two entries: of two writes what their widened sets share, of two reads
--- nothing, of a read and a write what their names share.
+-- Clauses 3.2 and 5.8: the resources that two entries conflict over: for two writes what their widened sets share, for
+-- two reads none, for a read and a write what their names share.
 abbrev pub sharedBy : Bool → Bool → ℕ → ℕ → ℕ
 sharedBy writes reads names widened = cond writes widened (cond reads 0 names)
 
--- Clause 3.4: a conflict in numbers: 0 for none, else 1, with the lowest of the shared resources and how many they are.
+-- Clause 3.4: a conflict as numbers: 0 for none, else 1, with the lowest of the shared resources and how many there
+-- are.
 pub record Over : Type 0 where
   pub number : ℕ
   pub lowest : ℕ

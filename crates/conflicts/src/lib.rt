@@ -1,4 +1,5 @@
-// Which entries of a plan conflict: worked out once for all pairs of entries, and read by settling.
+// What the entries of a plan conflict over, and for each entry the row of entries that it conflicts with. `boards`
+// computes the rows once for all calls, and `queries` asks for the conflict of two entries.
 mod sharing;
 mod widening;
 
@@ -20,15 +21,15 @@ ghost use Rattle.plans.specs.Entries.{mostEntries, countedEntries, entryAt};
 ghost use Rattle.conflicts.specs.Widening.{widenedSet};
 ghost use Rattle.conflicts.specs.Conflict.{inConflict, conflictsOf};
 
-// Bit j of row i: entries i and j conflict. The names of each entry; the widened set of each write, and of each read
-// its names.
+// The names of each entry; the widened set of each write, and the names of each read; and the rows: bit j of row i is
+// set if entries i and j conflict.
 pub struct Conflicts {
     pub names: [u64; ENTRIES],
     pub widened: [u64; ENTRIES],
     pub rows: [u64; ENTRIES],
 }
 
-// The widened set of entry i, empty past the count.
+// The widened set of entry i, or the empty set past the count.
 fn widen_entry(plan: Plan, i: usize) -> u64
     requires { ⌜ i < mostEntries ⌝ }
     ensures { λ r. ⌜ r ≡ cond (ltb i (plan .count)) (widenedSet (countedEntries plan) (entryAt plan i)) 0 ⌝ }
@@ -52,7 +53,7 @@ fn widen_all(plan: Plan) -> [u64; ENTRIES]
     widened
 }
 
-// The set with the place in it, where the test says so.
+// The set with the place added, if the test holds.
 fn add_if(set: u64, place: usize, test: bool) -> u64
     requires { ⌜ place < mostEntries ⌝ }
     ensures { λ r. ⌜ r ≡ cond test (added set place) set ⌝ }
@@ -93,7 +94,7 @@ fn all_rows(plan: Plan, widened: [u64; ENTRIES]) -> [u64; ENTRIES]
     rows
 }
 
-// The names of entry i, none past the count.
+// The names of entry i, or none past the count.
 fn counted_names(entry: Entry, i: usize, count: u8) -> u64
     ensures { λ r. ⌜ r ≡ cond (ltb i count) (entry .set) 0 ⌝ }
 {
@@ -113,7 +114,7 @@ fn names_of(plan: Plan) -> [u64; ENTRIES]
     names
 }
 
-// Clause 3.3: conflict for all pairs of entries at once, of any plan value.
+// Clause 3.3: the conflicts of all pairs of entries at once, for any plan value.
 pub fn conflicts_of(plan: Plan) -> Conflicts
     ensures { λ r. ⌜ r ≡ conflictsOf plan ⌝ }
 {

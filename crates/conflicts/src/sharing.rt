@@ -1,5 +1,6 @@
-// What two entries conflict over: the lowest-numbered resource that they share, and how many. `conflicts` asks it of
-// all pairs of a plan, and `contention` of two entries of a board. Specification, clauses 3.2 and 3.4.
+// What two entries conflict over: the lowest-numbered resource that they share, and how many they share. `conflicts_of`
+// uses it for all pairs of a plan, and `queries::shared_by` for two entries of a board. Specification, clauses 3.2 and
+// 3.4.
 use plans::Entry;
 use plans::is_read;
 use plans::is_write;
@@ -10,7 +11,7 @@ ghost use lib.Dec.{eqb};
 ghost use Rattle.plans.specs.Entries.{isRead, isWrite};
 ghost use Rattle.conflicts.specs.Sharing.{sharedBy, conflictSays, over};
 
-// None, or over shared resources: the lowest-numbered of them, and how many they are.
+// No conflict, or a conflict over shared resources: the lowest-numbered of them, and how many there are.
 pub enum Conflict {
     None,
     Over { lowest: u8, count: u8 },
@@ -29,8 +30,8 @@ pub fn conflict_over(set: u64) -> Conflict
     }
 }
 
-// Clause 3.2: the conflict of two entries, by whether both are writes or both are reads, the names that they share, and
-// what their widened sets share.
+// Clause 3.2: the conflict of two entries, given whether both are writes, whether both are reads, the names that they
+// share, and what their widened sets share.
 pub fn conflict_by(writes: bool, reads: bool, names: u64, widened: u64) -> Conflict
     ensures { λ r. ⌜ conflictSays r ≡ over (sharedBy writes reads names widened) ⌝ }
 {
@@ -43,7 +44,7 @@ pub fn conflict_by(writes: bool, reads: bool, names: u64, widened: u64) -> Confl
     conflict_over(names)
 }
 
-// Clause 3.2: two writes conflict by their widened sets, a read and a write by their names, two reads never.
+// Clause 3.2: two writes conflict over their widened sets, a read and a write over their names, two reads never.
 pub fn pair_conflict(e: Entry, e_widened: u64, f: Entry, f_widened: u64) -> Conflict
     ensures { λ r. ⌜
         conflictSays r
@@ -58,7 +59,7 @@ pub fn pair_conflict(e: Entry, e_widened: u64, f: Entry, f_widened: u64) -> Conf
     conflict_by(writes, reads, names, widened)
 }
 
-// Whether it is a conflict at all.
+// Whether there is a conflict.
 pub fn is_conflict(conflict: Conflict) -> bool
     ensures { λ r. ⌜ r ≡ eqb (conflictSays conflict .number) 1 ⌝ }
 {

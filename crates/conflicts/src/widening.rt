@@ -1,5 +1,5 @@
-// Widened sets: what a write holds against other writes, its names and those of the reads that share a resource with
-// it. Specification, clause 3.1.
+// The widened set of a write, which is compared with those of other writes: its names, and the names of the reads that
+// share a resource with it. Specification, clause 3.1.
 use masks::meet64;
 use plans::Entry;
 use plans::Plan;
@@ -12,7 +12,8 @@ ghost use Rattle.masks.specs.Sets.{meets};
 ghost use Rattle.plans.specs.Entries.{isRead, countedEntries};
 ghost use Rattle.conflicts.specs.Widening.{widen, widenedSet};
 
-// Clause 3.1: what an entry brings to the widened set of these names: its own, if it is a read that shares a resource.
+// Clause 3.1: what an entry adds to the widened set of these names: its own names, if it is a read that shares a
+// resource with them.
 fn brought(entry: Entry, names: u64) -> u64
     ensures { λ r. ⌜ r ≡ cond (isRead entry && meets (entry .set) names) (entry .set) 0 ⌝ }
 {
@@ -24,7 +25,7 @@ fn brought(entry: Entry, names: u64) -> u64
 }
 
 // The names widened by the counted entries, from the last one to the first.
-// Clause 3.1: every entry is held against the names, and not against what was joined.
+// Clause 3.1: every entry is compared with the names alone, not with what was added.
 fn widen_names(plan: Plan, names: u64) -> u64
     ensures { λ r. ⌜ r ≡ widen names (countedEntries plan) ⌝ }
 {
@@ -38,7 +39,7 @@ fn widen_names(plan: Plan, names: u64) -> u64
     out
 }
 
-// Clause 3.1: the widened set of an entry of the plan. That of a read, its names, is not used.
+// Clause 3.1: the widened set of an entry of the plan. For a read it is its names, and is not used.
 pub fn widened_set(plan: Plan, entry: Entry) -> u64
     ensures { λ r. ⌜ r ≡ widenedSet (countedEntries plan) entry ⌝ }
 {

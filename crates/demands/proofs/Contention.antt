@@ -1,6 +1,5 @@
--- What the query of two entries answers on the board of an accepted plan: what stands between those entries of the
--- plan, with a conflict exactly where the board's rows have one. A write with itself shares its widened set. Assumes
--- nothing.
+-- What the query about two entries answers on the board of an accepted plan: what these entries of the plan share, with
+-- a conflict exactly if the board's rows contain one. A write shares its widened set with itself. Assumes nothing.
 use Prim.Native.Nat.{ℕ, _<_, _≤_}
 use mathlib.Core.Path.{_≡_, refl, sym, ap, ap₂, _∙_}
 use mathlib.Core.Bool.{true, cond, not, _&&_}
@@ -43,7 +42,7 @@ module _ (p : Plan) (taken : planFault p ≡ 0) (i j : ℕ) (li : i < p .count) 
   widened-on-board k l =
       widened-at p k (le-trans l few) ∙ ap (λ t. cond t (widenedSet (countedEntries p) (entryAt p k)) 0) (lt-ltb k (p .count) l)
 
-  -- What stands between the two entries of the board is what stands between those of the plan.
+  -- What the two entries of the board share is what those of the plan share.
   pub shared-on-board : sharedIn (boardOf p .terms .writes) (boardOf p .names) (boardOf p .widened) i j
       ≡ shared (countedEntries p) (entryAt p i) (entryAt p j)
   unfolding shared
@@ -59,7 +58,7 @@ module _ (p : Plan) (taken : planFault p ≡ 0) (i j : ℕ) (li : i < p .count) 
         widened-on-board j lj,
       )
 
-  -- The query answers it, and refuses none of a plan's own entries.
+  -- The query returns this, and refuses none of a plan's own entries.
   pub query-on-board : sharedQuery (boardOf p) i j
       ≡ record { number = 0; conflict = over (shared (countedEntries p) (entryAt p i) (entryAt p j)) }
   unfolding sharedOf
@@ -68,7 +67,7 @@ module _ (p : Plan) (taken : planFault p ≡ 0) (i j : ℕ) (li : i < p .count) 
       count-on-board : (k : ℕ) → k < p .count → ltb k (boardOf p .terms .count) ≡ true
       count-on-board k l = counted-on-board p k l
 
-  -- A row's bit is set exactly where the answer is not none.
+  -- A row's bit is set exactly if the answer is a conflict.
   pub row-is-answer : bit (getD (boardOf p .rows) i 0) j ≡ eqb (sharedQuery (boardOf p) i j .conflict .number) 1
   unfolding inConflict conflict
   row-is-answer =

@@ -1,7 +1,7 @@
--- The three demands, each with the definitions that say it and the theorem or promise that meets it. Assumes nothing.
--- Theorems that stand elsewhere and are passed on from here: the round trips of demand 2, what a handover does, demand
--- 3, freedom from deadlock, what the list of the whole board has of each processor, and runs of steps on a register
--- block.
+-- The three demands, each with the definitions that state it and the theorem or promise that meets it. Theorems of
+-- other files are passed on from here: the round trips of demand 2, what a handover does, demand 3, freedom from
+-- deadlock, what the list of the whole board contains for each processor, and runs of steps on a register block.
+-- Assumes nothing.
 pub use Rattle.plans.proofs.RoundTrip.{written-in-buffer, written-back}
 pub use Rattle.runs.proofs.Handover.{leaves-what-both-leave, grants-of-both, entitlements-of-both}
 pub use Rattle.demands.proofs.Handover.{handover-grants, handover-entitles}
@@ -34,38 +34,48 @@ use Rattle.queries.specs.WholeBoard.{boardBytes, boardFault, boardQuery, boardB
 use Rattle.logs.specs.Verbs.{noFields}
 use Rattle.logs.specs.Records.{fieldsIn, recordFault, readRecord}
 
--- Demand 1. What meets no refusal condition is carried out to the end; everything else is refused by the number due in
--- that case alone, with the state and all lent buffers unchanged.
+-- Demand 1. What meets no refusal condition is carried out to the end; everything else is refused with the number that
+-- is due in that case alone, with the state and all lent buffers unchanged.
 --
--- Which number is due is said by readFault, writeFault, planFault, issueFault, completeFault, withdrawFault,
--- handoverFault, processorFault, reachFault, listFault, pairFault, recordFault and tailFault; 0 is none. The
--- functions promise, for every value:
---   plan_reader::read        outcomeSays (r .outcome) ≡ readSays bytes, and r .plan ≡ planRead bytes
---   plan_writer::write       outcomeSays r ≡ writeSays plan buffer at, and the buffer after it ≡ writtenBuffer plan buffer at
---   acceptance::check        verdictNumber r ≡ planFault plan
---   boards::fresh_of         verdictNumber (r .verdict) ≡ planFault plan, r .board ≡ freshBoard plan, r .state ≡ freshState
---   arbiter::answer          answerOf r ≡ answered board state call
---   arbiter::issue           answerOf r ≡ issued board state processor entry tick
---   arbiter::complete        answerOf r ≡ completed board state processor tick
---   arbiter::withdraw        answerOf r ≡ withdrawn board state processor tick
---   arbiter::handover        answerOf r ≡ handedOver board state processor entry tick
---   answering_by_value::answer_on  answerOf r ≡ answered, of the board whose terms, rows and lengths it was lent
---   answering::answer_in_place  answerBy r and the arrays after it ≡ answered, of the board and the state that it was lent
---   issuing::issue_in_place  the same with issued, completing::complete_in_place with completed,
---                            withdrawing::withdraw_in_place with withdrawn, handing_over::handover_in_place with handedOver
---   phase_queries::phase_of        phaseSays r ≡ phaseQuery board state processor
---   wait_queries::direct_waits     maskSays r ≡ waitsQuery board state processor
---   reach_queries::reach           maskSays r ≡ reachQuery board state processor scratch, the scratch after it ≡ reachScratch ..
---   board_queries::list_board      outcomeSays r ≡ boardQuery board buffer, the buffer after it ≡ boardBuffer ..
---   board_queries::list_board_in_place  the same, of the board and the state that it was lent
---   contention::shared_by    sharedSays r ≡ sharedQuery board first second; what that is on a plan's board, Contention.antt says
---   register_reads::read     registerSays r ≡ registerRead block offset (register_block::read_register the same, of the block it is lent)
---   register_writes::write   changeSays r ≡ registerWrite board state block offset value, in which a refused command changes
---                            offset 3 alone (register_block::write_register: writtenSays r and the block after it ≡ registerWrite ..)
---   call_counts::read_count  countSays r ≡ readCount bytes
---   logs::read_record        recordSays r ≡ readRecord bytes
---   call_counts::check_tail  verdictNumber r ≡ tailFault bytes
--- and the lines of listings, call_lines and replay: lineSays and lineBuffer of firstLine, callLine and refusalLine.
+-- These definitions give the number that is due, or 0 if none is: readFault, writeFault, planFault, issueFault,
+-- completeFault, withdrawFault, handoverFault, processorFault, reachFault, listFault, pairFault, recordFault and
+-- tailFault. The functions promise, for every value:
+--   plan_bytes::read          `outcomeSays` (r .outcome) ≡ `readSays` bytes, and r .plan ≡ planRead bytes
+--   plan_bytes::write         `outcomeSays` r ≡ `writeSays` plan buffer at,
+--                             and the buffer after it ≡ writtenBuffer plan buffer at
+--   plan_checks::check        verdictNumber r ≡ planFault plan
+--   boards::fresh_of          verdictNumber (r .verdict) ≡ planFault plan, r .board ≡ freshBoard plan,
+--                             r .state ≡ freshState
+--   arbiter::answer           answerOf r ≡ answered board state call
+--   arbiter::issue            answerOf r ≡ issued board state processor entry tick
+--   arbiter::complete         answerOf r ≡ completed board state processor tick
+--   arbiter::withdraw         answerOf r ≡ withdrawn board state processor tick
+--   arbiter::handover         answerOf r ≡ handedOver board state processor entry tick
+--   arbiter::answer_on        answerOf r ≡ answered, for the board whose terms, rows and lengths it is lent
+--   calls_in_place::answer_in_place    answerBy r and the arrays after it ≡ answered, for the board and the state
+--                                      that it is lent
+--   calls_in_place::issue_in_place     the same with issued
+--   calls_in_place::complete_in_place  the same with completed
+--   calls_in_place::withdraw_in_place  the same with withdrawn
+--   calls_in_place::handover_in_place  the same with handedOver
+--   queries::phase_of         `phaseSays` r ≡ phaseQuery board state processor
+--   queries::direct_waits     `maskSays` r ≡ waitsQuery board state processor
+--   reach::reach              `maskSays` r ≡ reachQuery board state processor scratch,
+--                             and the scratch after it ≡ reachScratch ..
+--   queries::list_board       `outcomeSays` r ≡ boardQuery board buffer, and the buffer after it ≡ boardBuffer ..
+--   queries::list_board_in_place       the same, for the board and the state that it is lent
+--   queries::shared_by        `sharedSays` r ≡ sharedQuery board first second;
+--                             Contention.antt says what that is on a plan's board
+--   registers::read           `registerSays` r ≡ registerRead block offset
+--                             (register_block::read_register: the same, for the block that it is lent)
+--   register_block::write     `changeSays` r ≡ registerWrite board state block offset value,
+--                             in which a refused command changes offset 3 alone
+--                             (register_block::write_register: `writtenSays` r and the block after it
+--                             ≡ registerWrite ..)
+--   logs::read_count          `countSays` r ≡ readCount bytes
+--   logs::read_record         `recordSays` r ≡ readRecord bytes
+--   logs::check_tail          verdictNumber r ≡ tailFault bytes
+-- and for the lines of listings and replay: `lineSays` and lineBuffer of firstLine, callLine and refusalLine.
 
 pub refused-reading-gives-number-only : (s : List ℕ) → 0 < readFault s
     → (readSays s ≡ record { number = readFault s; value = 0 }) × (planRead s ≡ blankPlan)
@@ -97,7 +107,7 @@ pub accepted-plan-has-its-board : (p : Plan) → planFault p ≡ 0 → freshBoar
 unfolding freshBoard
 accepted-plan-has-its-board p ok = rw ok
 
--- What is due for a call, and what an accepted one is carried out to.
+-- The number that is due for a call, and the answer to an accepted one.
 abbrev pub callFault : Board → State → Call → ℕ
 callFault b s (Call.Issue p e t) = issueFault (b .terms) (s .last) (phasesOf b s) p e t
 callFault b s (Call.Complete p t) = completeFault (b .terms) (s .last) (phasesOf b s) p t
@@ -125,7 +135,7 @@ module _ (b : Board) (s : State) where
   pub accepted-call-is-carried-out : (c : Call) → callFault b s c ≡ 0 → answered b s c ≡ carriedOut b s c
   accepted-call-is-carried-out c ok = call-is-ruled c ∙ rw ok
 
-  -- A call in place, lent the parts of a board and a state, answers what the call on the values answers.
+  -- A call in place on the lent parts of a board and a state answers what the call by value answers.
   pub in-place-is-by-value : (c : Call)
       → answered (boardBy (b .terms) (b .rows) (b .lengths))
       (stateBy (record { last = s .last; phases = s .phases }) (s .entry) (s .since) (s .earlier)) c
@@ -136,7 +146,8 @@ module _ (b : Board) (s : State) where
   in-place-is-by-value (Call.Withdraw p t) = refl
   in-place-is-by-value (Call.Handover p e t) = refl
 
-  -- Also of the state of a processor and of its direct waits: each is `said` of what is due and its value.
+  -- This also covers the state of a processor and its direct waits: each answer is made of the number that is due and
+  -- the value.
   pub refused-query-gives-number-only : (p value : ℕ) → 0 < processorFault (b .terms) p
       → said (processorFault (b .terms) p) value ≡ record { number = processorFault (b .terms) p; value = 0 }
   refused-query-gives-number-only p value due = said-refusal (processorFault (b .terms) p) value due
@@ -153,7 +164,7 @@ module _ (b : Board) (s : State) where
   unfolding reachScratch
   accepted-reach-fills-scratch p scratch ok = rw ok
 
-  -- The list of the whole board: 16 alone refuses it. Each processor's part is what the single queries answer for it:
+  -- The list of the whole board: only 16 refuses it. Each processor's part is what the single queries answer for it:
   -- part-is-queries, above.
   pub refused-list-changes-nothing : (buffer : List ℕ) → 0 < boardFault b buffer
       → (boardQuery b buffer ≡ record { number = boardFault b buffer; value = 0 })
@@ -176,13 +187,14 @@ pub accepted-record-is-read : (s : List ℕ) → recordFault s ≡ 0 → readRec
 unfolding readRecord
 accepted-record-is-read s ok = rw ok
 
--- Demand 2. Each accepted call grants and entitles the very processors that the rules name; late marks, byte counts,
--- waits and figures are the ones defined; a plan written and then read is the same plan, and an accepted plan written
--- back is the same bytes.
+-- Demand 2. Each accepted call grants and entitles exactly the processors that the rules name; late marks, byte counts,
+-- waits and figures are the ones defined; a plan that is written and then read is the same plan, and an accepted plan
+-- is written back as the same bytes.
 --
--- The rules are `settled` and its four steps (settling), `putIn`, `takenOut`, `stamped` and `done` (acting); plan F's
--- twelve calls are computed by them in runs/proofs/PlanF.antt. The functions promise: settlement::settle ≡ settled,
--- conflicts::conflicts_of ≡ conflictsOf, figures::figures_of ≡ figuresOf; and the calls as above.
+-- The rules are `settled` and its four steps (rules/specs/Settling.antt), `putIn`, `takenOut` and `stamped`
+-- (rules/specs/Acts.antt) and `done` (rules/specs/Calls.antt); runs/proofs/PlanF.antt computes plan F's twelve calls
+-- with them. The functions promise: settling::settle ≡ settled, conflicts::conflicts_of ≡ conflictsOf,
+-- figures::figures_of ≡ figuresOf; and the calls as above.
 
 -- A handover does what a completion and then an issue would do: leaves-what-both-leave, grants-of-both and
 -- entitlements-of-both, above, on every state value. After any calls its masks are what changed from the state before
@@ -191,6 +203,7 @@ accepted-record-is-read s ok = rw ok
 -- The round trips are written-in-buffer (a plan written into a buffer reads back as the same plan, and takes as many
 -- bytes as were written) and written-back (a plan that was read is written as the bytes that it was read from), above.
 
--- Demand 3, of whole lists of calls: whole-runs, above, is the claim `WholeRuns` of runs/specs/Claim.antt, over the
--- answers of `answered`, for every accepted plan and every list of calls. Beyond the three, no-deadlock: nobody waits
--- in a circle. The commands of a register block and the calls past it are such a list: register-runs.
+-- Demand 3, for whole lists of calls: whole-runs, above, is the claim `WholeRuns` of runs/specs/Claim.antt, over the
+-- answers of `answered`, for every accepted plan and every list of calls. In addition to the three demands,
+-- no-deadlock: nobody waits in a circle. The commands of a register block and the calls that do not go through it are
+-- such a list: register-runs.

@@ -25,7 +25,7 @@ before plan calls = reachedBy plan calls .phases
 abbrev pub handover : Plan → List Call → ℕ → ℕ → ℕ → Answer
 handover plan calls p e t = answered (boardOf plan) (reachedBy plan calls) (Call.Handover p e t)
 
--- What is due for it.
+-- The number that is due for it.
 abbrev pub dueFor : Plan → List Call → ℕ → ℕ → ℕ → ℕ
 dueFor plan calls p e t =
     handoverFault (boardOf plan .terms) (reachedBy plan calls .last)
@@ -33,14 +33,15 @@ dueFor plan calls p e t =
 
 module _ (plan : Plan) (taken : planFault plan ≡ 0) (calls : List Call) (p e t : ℕ)
     (ok : dueFor plan calls p e t ≡ 0) (q : ℕ) (l : q < slots) where
-  -- Granted are those that hold after it and did not before, and the caller if its new request holds.
+  -- The granted mask contains the processors that hold after it and did not before, and the caller if its new request
+  -- holds.
   pub handover-grants : bit (handover plan calls p e t .reply .granted) q
       ≡ (bit (handover plan calls p e t .state .phases .holding) q
       && (not (bit (before plan calls .holding) q) || eqb q p))
   handover-grants =
       grants-exactly (boardOf plan) (reachedBy plan calls) p e t (reached plan taken calls .clean) ok q l
 
-  -- Entitled are those that are so after it and were not before.
+  -- The entitled mask contains the processors that are entitled after it and were not before.
   pub handover-entitles : bit (handover plan calls p e t .reply .entitled) q
       ≡ (bit (handover plan calls p e t .state .phases .entitled) q && not (bit (before plan calls .entitled) q))
   handover-entitles =

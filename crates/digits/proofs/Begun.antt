@@ -1,4 +1,5 @@
--- A field is begun where all of it fits: what its first part's size tells, and both parts together. Assumes nothing.
+-- A field is begun only if all of it fits: what the size of its first part implies, and both parts together.
+-- Assumes nothing.
 use Prim.Native.Nat.{ℕ, _+_, _≤_}
 use native.Mathlib.Omega.{arith}
 use mathlib.Core.Path.{_≡_, refl, sym, _∙_}
@@ -17,7 +18,7 @@ pub room-where-fits : (needed size at : ℕ) → at + needed ≤ size → hasRoo
 room-where-fits needed size at h =
     due-accepted (hasRoom needed size at) 16 (lit< tt) (fits-room needed size at h)
 
--- Where there is no room, there is none for what ends later.
+-- If there is no room for some bytes, there is none for bytes that end later.
 pub less-room : (a b size at from : ℕ) → at + a ≤ from + b → hasRoom a size at ≡ false → hasRoom b size from ≡ false
 less-room a b size at from h none = go (hasRoom b size from) refl
   where
@@ -26,7 +27,7 @@ less-room a b size at from h none = go (hasRoom b size from) refl
     go true e =
         sym (room-where-fits a size at (omega (arith, there-is-room b size from e))) ∙ none
 
--- A field that has bytes was stored exactly where its size is told.
+-- A field that is not empty was stored exactly if the size that is returned is not 0.
 module _ (bytes : List ℕ) (size at needed : ℕ) (some : 1 ≤ length bytes) {told : ℕ} (e : told ≡ placedSize needed bytes size at) where
   pub not-begun : told ≡ 0 → hasRoom needed size at ≡ false
   not-begun none = go (hasRoom needed size at) refl
@@ -42,7 +43,7 @@ module _ (bytes : List ℕ) (size at needed : ℕ) (some : 1 ≤ length bytes) {
       go true h = refl
       go false h = absurd (more (rw h at e))
 
--- A field in two parts. The first is stored where both fit with what is behind them.
+-- A field in two parts. The first part is stored if both fit with the bytes after them.
 module _ (first second buffer : List ℕ) (at behind more : ℕ) (some : 1 ≤ length first) (rest : behind ≡ length second + more)
     {told : ℕ} (e : told ≡ placedSize (length first + behind) first (length buffer) at)
     {part : List ℕ} (put : part ≡ placedBuffer (length first + behind) first buffer at) where

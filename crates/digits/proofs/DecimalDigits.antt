@@ -1,4 +1,4 @@
--- Decimal numbers: one digit more, two more, and how many digits there are. Assumes nothing.
+-- Decimal numbers: one more digit, two more digits, and how many digits there are. Assumes nothing.
 use Prim.Native.Nat.{ℕ, zero, suc, _+_, _*_, _/_, _%_, _^_, _≤_, _<_}
 use native.Mathlib.Nat.{pow-succ'}
 use native.Mathlib.Omega.{arith}
@@ -33,7 +33,7 @@ size n = go (ltb n 10) refl
     go true e = small (ltb-true n 10 e)
     go false e = large (ltb-false n 10 e)
 
--- Where so many digits are enough, one more changes nothing.
+-- If so many digits are enough, one more changes nothing.
 enough-digits : (k n : ℕ) → n < 10 ^ suc k → digits (suc (suc k)) n ≡ digits (suc k) n
 enough-digits zero n h = one-digit 1 n h ∙ sym (one-digit 0 n h)
 enough-digits (suc k) n h =
@@ -51,7 +51,7 @@ pub decimal-more : (n : ℕ) → 10 ≤ n → n < 10 ^ 20 → decimal n ≡ deci
 decimal-more n h most =
     more-digits 19 n h ∙ ap (λ ds. ds ++ ((48 + n % 10) ∷ [])) (sym (enough-digits 18 (n / 10) (tenth 19 n most)))
 
--- Two digits at once: a number of two, and what stands before the last two of a longer one.
+-- Two digits at once: a number of two digits, and the digits before the last two of a longer number.
 pub decimal-two : (n : ℕ) → 10 ≤ n → n < 100 → decimal n ≡ (48 + n / 10) ∷ (48 + n % 10) ∷ []
 decimal-two n h most =
     let small : n < 10 ^ 20 = omega arith in
@@ -113,7 +113,7 @@ at-most (suc j) (suc k) n h =
 pub most-digits : (k n : ℕ) → n < 10 ^ suc k → length (decimal n) ≤ suc k
 most-digits k n h = at-most 20 k n h
 
--- Whatever the number, there are no more than 20.
+-- No number has more than 20 digits.
 few : (k n : ℕ) → length (digits k n) ≤ k
 unfolding digits
 few zero n = omega arith

@@ -1,4 +1,4 @@
--- Fields stored one after the other, and where there is room for them. Assumes nothing.
+-- Fields stored one after the other, if there is room for them. Assumes nothing.
 use Prim.Native.Nat.{ℕ, suc, _+_, _≤_}
 use native.Mathlib.Omega.{arith}
 use mathlib.Core.Path.{_≡_, refl, sym, _∙_}
@@ -32,7 +32,7 @@ module _ {a b l m k : List ℕ} {at next end : ℕ} where
       }
 
 module _ (bytes buffer : List ℕ) (at needed : ℕ) (within : length bytes ≤ needed) where
-  -- What is stored after the test for room, and what stays without room.
+  -- The stores after the test for room, and the unchanged buffer without room.
   module _ (tested : ℕ) (same : tested ≡ needed) (flag : Bool) (test : flag ≡ hasRoom tested (length buffer) at) where
     asked : flag ≡ hasRoom needed (length buffer) at
     asked = rw same at test
@@ -63,7 +63,7 @@ module _ (bytes buffer : List ℕ) (at needed : ℕ) (within : length bytes ≤ 
           stores = p ∙ rw has-room (sym (sets-overwritten buffer at bytes inside));
         }
 
--- The same of a field by itself.
+-- The same for a single field.
 module _ (bytes buffer : List ℕ) (at tested : ℕ) (same : tested ≡ length bytes) (flag : Bool) (test : flag ≡ hasRoom tested (length buffer) at) where
   pub field-placed : {next : ℕ} {after : List ℕ} → flag ≡ true → Stored bytes buffer at next after
       → (tested ≡ fieldSize bytes (length buffer) at) × (after ≡ fieldBuffer bytes buffer at)
@@ -79,7 +79,7 @@ field-stored bytes buffer at fits e p = placed-stored bytes buffer at (length by
 pub stored-length : {bytes l m : List ℕ} {at next : ℕ} → Stored bytes l at next m → length m ≡ length l
 stored-length {bytes} {l} {m} {at} s = rw (s .stores) (length-sets l at bytes)
 
--- Two fields one after the other, where both fit.
+-- Two fields, one after the other, if both fit.
 pub fields-stored : (a b l : List ℕ) (at : ℕ) → at + length (a ++ b) ≤ length l → {n k : ℕ} {m r : List ℕ}
     → n ≡ fieldSize a (length l) at → m ≡ fieldBuffer a l at → k ≡ fieldSize b (length m) (at + n) → r ≡ fieldBuffer b m (at + n)
     → Stored (a ++ b) l at (at + n + k) r
@@ -88,7 +88,7 @@ fields-stored a b l at fits {n} {k} {m} {r} en em ek er =
     let inside : at + n + length b ≤ length m = omega (arith, first .place, stored-length first, length-append a b) in
     then-stored first (field-stored b m (at + n) inside ek er)
 
--- Three fields one after the other, where all fit.
+-- Three fields, one after the other, if all fit.
 module _ (a b c l : List ℕ) (at : ℕ) (fits : at + length (a ++ (b ++ c)) ≤ length l) where
   first-fits : at + length a + (length b + length c) ≤ length l
   first-fits = omega (arith, length-append a (b ++ c), length-append b c)

@@ -1,5 +1,5 @@
--- The table of pairs: one law carries its rule to each entry, and a mask by the table is the mask's digits. That the
--- code's table is this one is one computed test over all entries (`hex_pairs/Proof.antt`). Assumes nothing.
+-- The table of pairs: one law gives each pair from the rule, and a mask written with the table has the mask's digits.
+-- One computed test over all pairs (`hex_pairs/Proof.antt`) shows that the code's table is this one. Assumes nothing.
 use Prim.Native.Nat.{ℕ, zero, suc, _+_, _*_, _/_, _%_, _<_}
 use native.Mathlib.Omega.{arith}
 use mathlib.Core.Path.{_≡_, refl, _∙_}
@@ -16,12 +16,12 @@ from b zero k h = omega arith
 from b (suc n) zero h = let z : b + 0 ≡ b = omega arith in rw z refl
 from b (suc n) (suc k) h = let s : b + suc k ≡ suc b + k = omega arith in rw s (from (suc b) n k (omega arith))
 
--- Entry b of the table has the two digits of b.
+-- Element b of the table contains the two digits of b.
 pub entry : (b : ℕ) → b < 256 → getD hexPairs b 0 ≡ number (hexPair b)
 unfolding hexPairs
 entry b h = let z : 0 + b ≡ b = omega arith in from 0 256 b h ∙ rw z refl
 
--- ---- the digits again
+-- ---- the digits from the table
 
 two-bytes : (x y : ℕ) → x < 256 → y < 256 → bytesOf 2 (number (x ∷ y ∷ [])) ≡ x ∷ y ∷ []
 unfolding number bytesOf
@@ -44,7 +44,7 @@ entry-digits b h =
     let f : b % 16 < 16 = omega arith in
     rw (entry b h) (two-bytes (hexDigit (b / 16)) (hexDigit (b % 16)) (hex-small (b / 16) d) (hex-small (b % 16) f))
 
--- A mask by the table is its digits, of however many bytes.
+-- A mask written with the table has the mask's digits, for any number of bytes.
 pub mask-digits : (n mask : ℕ) → maskBy hexPairs n mask ≡ hexMask n mask
 unfolding maskIn
 mask-digits zero mask = refl
@@ -52,7 +52,7 @@ mask-digits (suc n) mask =
     let low : mask % 256 < 256 = omega arith in
     rw (mask-digits n (mask / 256), entry-digits (mask % 256) low) refl
 
--- Four bytes are two, and the two below them.
+-- Four bytes are the two upper bytes and then the two lower ones.
 pub mask-halves : (pair : ℕ → List ℕ) (mask : ℕ) → maskIn pair 4 mask ≡ maskIn pair 2 (mask / 65536) ++ maskIn pair 2 mask
 unfolding maskIn
 mask-halves pair mask =

@@ -1,4 +1,4 @@
-// A decimal number's digits, stored in a lent buffer where they fit. Specification, clause 9.9.
+// Stores the digits of a decimal number in a lent buffer if they fit. Specification, clause 9.9.
 use crate::digit_count;
 use encoding::has_room;
 ghost use mathlib.Core.Path.{_≡_};
@@ -9,7 +9,7 @@ ghost use lib.Seq.{sets};
 ghost use Rattle.digits.specs.Digits.{decimal};
 ghost use Rattle.digits.specs.Placed.{placedSize, placedBuffer};
 
-// The two digits of a number below 100, the first a 0 where it is below 10.
+// The two digits of a number below 100. The first is 0 if the number is below 10.
 fn write_two(n: u64, buffer: &mut [u8], at: usize)
     requires { ⌜ (n < 100) × (at + 2 ≤ length (now buffer)) ⌝ }
     ensures { λ _. ⌜ now (buffer .exit) ≡ sets (now (buffer .entry)) at ((48 + n / 10) ∷ (48 + n % 10) ∷ []) ⌝ }
@@ -18,7 +18,7 @@ fn write_two(n: u64, buffer: &mut [u8], at: usize)
     buffer[at + 1] = 48 + (n % 10) as u8;
 }
 
-// A number below 100 without a leading 0.
+// A number below 100, without a leading 0.
 fn write_lead(n: u64, buffer: &mut [u8], at: usize)
     requires { ⌜ (n < 100) × (at + length (decimal n) ≤ length (now buffer)) ⌝ }
     ensures { λ _. ⌜ now (buffer .exit) ≡ sets (now (buffer .entry)) at (decimal n) ⌝ }
@@ -30,7 +30,7 @@ fn write_lead(n: u64, buffer: &mut [u8], at: usize)
     }
 }
 
-// A decimal number of so many digits, two at a time, the last ones first.
+// A decimal number of size digits, stored two digits at a time, the last ones first.
 fn write_digits(n: u64, size: usize, buffer: &mut [u8], at: usize)
     requires { ⌜ (size ≡ length (decimal n)) × (at + size ≤ length (now buffer)) ⌝ }
     ensures { λ _. ⌜ now (buffer .exit) ≡ sets (now (buffer .entry)) at (decimal n) ⌝ }
@@ -45,7 +45,8 @@ fn write_digits(n: u64, size: usize, buffer: &mut [u8], at: usize)
     write_lead(rest, buffer, at);
 }
 
-// A decimal number, where it fits with so many bytes behind it: a field is begun where all of it has room.
+// A decimal number, stored if it fits with `more` bytes after it: a field is begun only if all of it has room. Returns
+// how many bytes it stored.
 pub fn put_decimal(n: u64, more: u16, buffer: &mut [u8], at: usize) -> usize
     ensures size { λ r. ⌜
         r ≡ placedSize (length (decimal n) + more) (decimal n) (length (now (buffer .entry))) at

@@ -1,5 +1,5 @@
-// Numbers as digits of ASCII: the table of the digits of every byte, and how many digits a number has. `listings`
-// stores them.
+// Numbers as ASCII digits: decimal numbers stored in a lent buffer, the table of the hexadecimal digits of every byte,
+// and how many digits a number has. `line_fields`, `listings` and `replay` use it to write listing lines.
 mod decimals;
 mod tables;
 
@@ -10,15 +10,15 @@ ghost use Prim.Native.Nat.{_≤_, _<_};
 ghost use lib.ListN.{length, getD};
 ghost use Rattle.digits.specs.Digits.{decimal, hexPairs};
 
-// Clause 9.9: the table of the two hexadecimal digits of every byte. A constant is stored anew wherever it is named, so
-// whoever writes many lines takes the table once, and lends it.
+// Clause 9.9: the table of the two hexadecimal digits of every byte. A constant is stored again wherever it is named,
+// so a caller that writes many lines gets the table once and lends it.
 pub fn hex_pairs() -> [u16; 256]
     ensures { λ r. ⌜ r ≡ hexPairs ⌝ }
 {
     HEX_PAIRS
 }
 
-// The entry of a byte in a table of pairs, 0 past its end.
+// The element of a table of pairs for a byte, or 0 past its end.
 pub fn pair_at(pairs: &[u16], byte: u8) -> u16
     ensures { λ r. ⌜ r ≡ getD (now (pairs .entry)) byte 0 ⌝ }
 {
@@ -42,7 +42,7 @@ fn few_digits(n: u64) -> usize
     }
 }
 
-// How many digits a decimal number has, by four.
+// How many digits a decimal number has, counted four at a time.
 pub fn digit_count(n: u64) -> usize
     ensures is { λ r. ⌜ r ≡ length (decimal n) ⌝ }
     ensures most { λ r. ⌜ r ≤ 20 ⌝ }
@@ -56,7 +56,7 @@ pub fn digit_count(n: u64) -> usize
     count + few_digits(head)
 }
 
-// The same of a byte.
+// How many decimal digits a byte has.
 pub fn byte_digits(n: u8) -> usize
     ensures is { λ r. ⌜ r ≡ length (decimal n) ⌝ }
     ensures most { λ r. ⌜ r ≤ 3 ⌝ }

@@ -1,4 +1,4 @@
-// The two hexadecimal digits of every byte, in one number: the first digit is its low byte, as the two lie in memory.
+// The two hexadecimal digits of every byte in one number. The first digit is the low byte, as the two are in memory.
 pub const HEX_PAIRS: [u16; 256] = [
     0x3030,
     0x3130,

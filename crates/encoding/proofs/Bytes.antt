@@ -1,4 +1,4 @@
--- Lists of bytes, and the parts of one. Assumes nothing.
+-- Lists of bytes, and parts of such a list. Assumes nothing.
 use Prim.Native.Nat.{ℕ, zero, suc, _+_, _^_, _<_}
 use native.Mathlib.Nat.{zero-add, suc-add}
 use native.Mathlib.Omega.{arith}
@@ -7,7 +7,7 @@ use mathlib.Core.List.{List, [], _∷_, _++_}
 use lib.ListN.{length, take, drop, getD, length-take, length-drop}
 use lib.Seq.{getD-take, getD-drop, take-nil, slice}
 
--- A slice of u8.
+-- All elements are bytes, as in a slice of u8.
 abbrev pub AreBytes : List ℕ → Type 0
 AreBytes s = (i : ℕ) → i < length s → getD s i 0 < 2 ^ 8
 
@@ -37,7 +37,7 @@ bytes-take n s h i l =
 pub bytes-slice : (f t : ℕ) (s : List ℕ) → AreBytes s → AreBytes (slice f t s)
 bytes-slice f t s h = bytes-drop f (take t s) (bytes-take t s h)
 
--- n bytes from a on, as the code takes them.
+-- n bytes from a on, as the code slices them.
 pub take-drop-slice : (a n : ℕ) (s : List ℕ) → take n (drop a s) ≡ slice a (a + n) s
 take-drop-slice zero n s = rw zero-add
 take-drop-slice (suc a) n [] = rw (take-nil n, take-nil (suc a + n))

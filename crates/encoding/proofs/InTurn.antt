@@ -1,5 +1,5 @@
--- Parts of one size, one after the other: how long they are together, one part more, where each lies, and
--- one part more stored. Assumes nothing.
+-- Parts of one size, one after the other: their total length, one more part, the place of each part, and storing one
+-- more part. Assumes nothing.
 use Prim.Native.Nat.{ℕ, zero, suc, _+_, _*_, _≤_, _<_}
 use mathlib.Core.Path.{_≡_, refl, sym, ap, ap₂, _∙_}
 use mathlib.Core.List.{List, _++_}
@@ -30,7 +30,7 @@ module _ (c : ℕ) (f : ℕ → List ℕ) (size : (p : ℕ) → length (f p) ≡
   length-in-turn zero = omega arith
   length-in-turn (suc n) = omega (arith, length-append (inTurn n f) (f n), length-in-turn n, size n)
 
-  -- The part of p is the c bytes from c * p on: it is the last one, or it lies before that.
+  -- Part p is the c bytes from c * p on. It is the last part, or it is before the last.
   last-part : (n p : ℕ) → p ≡ n → take c (drop (c * p) (inTurn n f ++ f n)) ≡ f p
   last-part n p e =
       let here : c * p ≡ length (inTurn n f) = ap (λ (x : ℕ). c * x) e ∙ sym (length-in-turn n) in
@@ -51,7 +51,7 @@ module _ (c : ℕ) (f : ℕ → List ℕ) (size : (p : ℕ) → length (f p) ≡
   part-at (suc n) p l =
       ⊎-elim (last-part n p) (λ h. part-before n p h ∙ part-at n p h) (eq-or-lt-of-le (le-of-suc-le-suc l))
 
-  -- A turn stores the next part, where the first one lies at `at` and all of m parts have room.
+  -- A turn stores the next part, if the first part is at `at` and there is room for all m parts.
   pub turn-stores : (at m n : ℕ) (l now next : List ℕ) → n < m → at + c * m ≤ length l → length now ≡ length l
       → now ≡ sets l at (inTurn n f)
       → next ≡ bufferAfter (roomFault c (length now) (at + c * n)) (f n) now (at + c * n)

@@ -1,4 +1,4 @@
--- A number and its bytes, low byte first, are one another's inverse. Assumes nothing.
+-- Writing a number as bytes, low byte first, and reading it are inverse to each other. Assumes nothing.
 use Prim.Native.Nat.{ℕ, zero, suc, _+_, _*_, _/_, _%_, _^_, _≤_, _<_, min}
 use native.Mathlib.Nat.{pow-succ', pow-le-pow-right, lt-of-lt-of-le}
 use native.Mathlib.Omega.{arith}
@@ -40,7 +40,7 @@ bytesOf-number (b ∷ s) h =
     let high : (b + 256 * number s) / 256 ≡ number s = omega arith in
     rw (low, high, bytesOf-number s (bytes-tail b s h))
 
--- The same at a length that is known.
+-- The same for a known length.
 pub bytesOf-number-at : (n : ℕ) (s : List ℕ) → AreBytes s → length s ≡ n → bytesOf n (number s) ≡ s
 bytesOf-number-at n s h e = rw (← e) (bytesOf-number s h)
 

@@ -1,4 +1,4 @@
--- What an outcome that is known tells of what was to be said. Assumes nothing.
+-- What a known outcome implies for the answer that was expected. Assumes nothing.
 use Prim.Native.Nat.{ℕ}
 use mathlib.Core.Path.{_≡_, sym, ap, _∙_}
 use Rattle.refusals.specs.declared.Refusal.{Refusal}

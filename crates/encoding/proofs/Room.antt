@@ -1,4 +1,4 @@
--- What the tests for bytes and for room say of the numbers, and what an answer in bytes is with room and without.
+-- What the tests for bytes and for room mean in numbers, and the answer of a write with room and without.
 -- Assumes nothing.
 use Prim.Native.Nat.{ℕ, _+_, _-_, _≤_}
 use native.Mathlib.Omega.{arith}
@@ -34,7 +34,7 @@ there-is-room needed size at test =
 pub room-fits : (needed size at : ℕ) → roomFault needed size at ≡ 0 → at + needed ≤ size
 room-fits needed size at e = there-is-room needed size at (due-accepted (hasRoom needed size at) 16 (lit< tt) e)
 
--- Where so many bytes fit, nothing is due.
+-- If the bytes fit, no refusal is due.
 pub fits-room : (needed size at : ℕ) → at + needed ≤ size → roomFault needed size at ≡ 0
 fits-room needed size at h =
     let reached : at ≤ size = omega arith in
@@ -48,7 +48,7 @@ stored-where-fits l at new n size h =
     let fits : at + length new ≤ length l = omega arith in
     rw (fits-room n (length l) at h) (sym (sets-overwritten l at new fits))
 
--- An answer with room, and one without: what is said, and what the buffer holds.
+-- With room and without: the answer, and the content of the buffer.
 module _ (needed at : ℕ) (l new : List ℕ) where
   pub with-room : length new ≡ needed → hasRoom needed (length l) at ≡ true → (after : List ℕ) → after ≡ sets l at new
       → (said 0 needed ≡ said (roomFault needed (length l) at) needed)

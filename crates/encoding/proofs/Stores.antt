@@ -1,4 +1,4 @@
--- Runs of stores into a list: in two parts, of a number's bytes, and as what is overwritten. Assumes nothing.
+-- Runs of stores into a list: in two parts, of the bytes of a number, and as overwriting. Assumes nothing.
 use Prim.Native.Nat.{ℕ, suc, _+_, _-_, _/_, _%_, _≤_, _<_}
 use native.Mathlib.Omega.{arith}
 use mathlib.Core.Path.{_≡_, _∙_}
@@ -14,11 +14,11 @@ sets-append l i (x ∷ a) b =
     let e : i + suc (length a) ≡ suc i + length a = omega arith in
     rw e (sets-append (set l i x) (suc i) a b)
 
--- Stores where there is room for them overwrite.
+-- If there is room for them, stores overwrite a part of the list.
 pub sets-overwritten : (l : List ℕ) (at : ℕ) (new : List ℕ) → at + length new ≤ length l → sets l at new ≡ overwritten l at new
 sets-overwritten l at new h = sets-eq new l at h ∙ append-assoc (take at l) new (drop (at + length new) l)
 
--- A turn stores the lowest byte of what is left of a number.
+-- A turn stores the lowest byte of the rest of a number.
 pub number-turn : (l : List ℕ) (at size i rest : ℕ) → i < size
     → sets (set l (at + i) (rest % 256)) (at + (i + 1)) (bytesOf (size - (i + 1)) (rest / 256)) ≡ sets l (at + i) (bytesOf (size - i) rest)
 unfolding bytesOf
@@ -27,7 +27,7 @@ number-turn l at size i rest h =
     let s : at + (i + 1) ≡ suc (at + i) = omega arith in
     rw (e, s)
 
--- All bytes of a number are stored when nothing is left.
+-- When no bytes of a number are left, there is nothing more to store.
 pub number-end : (l : List ℕ) (at size i rest : ℕ) → size ≤ i → sets l at (bytesOf (size - i) rest) ≡ l
 unfolding bytesOf
 number-end l at size i rest h = let e : size - i ≡ 0 = omega arith in rw e

@@ -1,4 +1,4 @@
--- Bytes in a lent buffer, and when there are too few of them: 1 and 16. Specification, sections 2 and 8.
+-- Bytes in a lent buffer, and when there are too few of them: refusals 1 and 16. Specification, sections 2 and 8.
 use Prim.Native.Nat.{ℕ, _+_, _-_}
 use mathlib.Core.Bool.{Bool, cond, _&&_}
 use mathlib.Core.List.{List, _++_}
@@ -8,16 +8,16 @@ use Rattle.refusals.specs.Number.{numberOf}
 use Rattle.refusals.specs.Due.{Said, due}
 use Rattle.encoding.specs.declared.Outcome.{Outcome}
 
--- Clauses 2.9 and 8.1: 1 where the bytes s end before the n that are due.
+-- Clauses 2.9 and 8.1: 1 if the bytes s end before the n bytes that are due.
 abbrev pub shortFault : ℕ → List ℕ → ℕ
 shortFault n s = due (leb n (length s)) 1
 
--- Clause 2.12: a buffer of size bytes has room where the position lies in it or at its end, with all that is needed
--- from there on.
+-- Clause 2.12: a buffer of size bytes has room if the position is in it or at its end, and it has the needed bytes from
+-- there on.
 abbrev pub hasRoom : ℕ → ℕ → ℕ → Bool
 hasRoom needed size at = leb at size && leb needed (size - at)
 
--- Clause 8.1: 16 where there is no room.
+-- Clause 8.1: 16 if there is no room.
 abbrev pub roomFault : ℕ → ℕ → ℕ → ℕ
 roomFault needed size at = due (hasRoom needed size at) 16
 
@@ -25,11 +25,11 @@ roomFault needed size at = due (hasRoom needed size at) 16
 abbrev pub overwritten : List ℕ → ℕ → List ℕ → List ℕ
 overwritten buffer at new = take at buffer ++ (new ++ drop (at + length new) buffer)
 
--- Clause 2.12: the buffer after bytes were to be written from a position. Where a number is due, nothing is written.
+-- Clause 2.12: the buffer after bytes are written from a position on. If a refusal number is due, nothing is written.
 abbrev pub bufferAfter : ℕ → List ℕ → List ℕ → ℕ → List ℕ
 bufferAfter number new buffer at = cond (eqb number 0) (overwritten buffer at new) buffer
 
--- How many bytes were read or written, or the refusal, in numbers.
+-- How many bytes were read or written, or the refusal, as numbers.
 abbrev pub outcomeSays : Outcome → Said
 outcomeSays (Outcome.Bytes n) = record { number = 0; value = n }
 outcomeSays (Outcome.Refused r) = record { number = numberOf r; value = 0 }

@@ -2,7 +2,7 @@
 use Prim.Native.Nat.{ℕ, zero, suc, _+_, _*_, _/_, _%_}
 use mathlib.Core.List.{List, [], _∷_}
 
--- Clause 2.1: the number in the bytes, which stand low byte first.
+-- Clause 2.1: the number in the bytes, low byte first.
 unfoldable pub number : List ℕ → ℕ
 number [] = 0
 number (b ∷ higher) = b + 256 * number higher

@@ -1,4 +1,5 @@
-// Bytes of a lent slice: the one at a place, and whether there are as many as are due. Specification, clauses 2.9 and 8.1.
+// Reads one byte of a lent slice, and checks that the slice has as many bytes as are due. Specification, clauses 2.9
+// and 8.1.
 use refusals::Refusal;
 use refusals::Verdict;
 use refusals::refuse_unless;
@@ -7,14 +8,14 @@ ghost use lib.ListN.{getD};
 ghost use Rattle.refusals.specs.Number.{verdictNumber};
 ghost use Rattle.encoding.specs.Buffers.{shortFault};
 
-// The byte at a place, 0 past the end.
+// The byte at a place, or 0 past the end.
 pub fn byte_at(bytes: &[u8], place: usize) -> u8
     ensures { λ r. ⌜ r ≡ getD (now (bytes .entry)) place 0 ⌝ }
 {
     if place < bytes.len() { bytes[place] } else { 0 }
 }
 
-// Refuses by 1 where fewer bytes are there than are due.
+// Refuses with 1 if there are fewer bytes than are due.
 pub fn check_due(needed: usize, bytes: &[u8]) -> Verdict
     ensures { λ r. ⌜ verdictNumber r ≡ shortFault needed (now (bytes .entry)) ⌝ }
 {

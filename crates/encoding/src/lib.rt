@@ -1,5 +1,5 @@
-// Numbers as bytes, low byte first, and what reading or writing bytes answers. `number_reads` and `byte_reads` read,
-// `storing` writes. Specification, clauses 2.1, 2.9 and 8.1.
+// Numbers as bytes in lent buffers, low byte first: reading them, writing them, and checking that there are enough
+// bytes or enough room. Every crate that reads or writes bytes uses it. Specification, clauses 2.1, 2.9, 2.12 and 8.1.
 mod byte_reads;
 mod number_reads;
 mod rooms;

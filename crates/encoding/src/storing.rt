@@ -1,5 +1,5 @@
-// A number put into a lent buffer, low byte first. Plans, listings and answers in bytes are written through it.
-// Specification, clauses 2.1, 2.12 and 8.1.
+// Writes a number into a lent buffer, low byte first. Plans, lists of a board, the scratch of reach and registers are
+// written with it. Specification, clauses 2.1, 2.12 and 8.1.
 use crate::Outcome;
 use crate::rooms::has_room;
 use refusals::Refusal;
@@ -11,7 +11,7 @@ ghost use Rattle.refusals.specs.Due.{said};
 ghost use Rattle.encoding.specs.Numbers.{bytesOf};
 ghost use Rattle.encoding.specs.Buffers.{roomFault, bufferAfter, outcomeSays};
 
-// Stores a number from position at as size bytes.
+// Stores a number as size bytes, from position at.
 fn store_number(value: u64, size: usize, buffer: &mut [u8], at: usize)
     requires { ⌜ at + size ≤ length (now buffer) ⌝ }
     ensures { λ _. ⌜ now (buffer .exit) ≡ sets (now (buffer .entry)) at (bytesOf size value) ⌝ }
@@ -25,7 +25,7 @@ fn store_number(value: u64, size: usize, buffer: &mut [u8], at: usize)
     }
 }
 
-// Writes a number into the buffer from position at, as size bytes; other bytes stay. Without room it writes nothing.
+// Writes a number into the buffer as size bytes, from position at. Other bytes stay. Without room it writes nothing.
 pub fn write_number(value: u64, size: usize, buffer: &mut [u8], at: usize) -> Outcome
     ensures outcome { λ r. ⌜ outcomeSays r ≡ said (roomFault size (length (now (buffer .entry))) at) size ⌝ }
     ensures bytes { λ _. ⌜

@@ -1,5 +1,4 @@
--- One turn of the loop over the counted entries: the longest of those left, with the best length so far. Assumes
--- nothing.
+-- One turn of the loop over the counted entries: the longest of those left and of the best so far. Assumes nothing.
 use Prim.Native.Nat.{ℕ, _+_, _<_, _≤_, max}
 use native.Mathlib.Nat.{max-zero}
 use native.Mathlib.Omega.{arith}

@@ -1,4 +1,5 @@
-// The figures of a plan: the longest that a read and a write wait.
+// The two figures of a plan: the longest time that a read waits, and the longest that a write waits. `listings` writes
+// them in the first line of a listing, and `viewer` gives them to C.
 use plans::ENTRIES;
 use plans::Entry;
 use plans::Figures;
@@ -20,7 +21,7 @@ fn longer(a: u32, b: u32) -> u32
     if a < b { b } else { a }
 }
 
-// Whether the entry is a write, or whether it is a read.
+// Whether the entry is of the kind that is asked for: a write if `writes` is true, else a read.
 fn is_asked(entry: Entry, writes: bool) -> bool
     ensures { λ r. ⌜ r ≡ cond writes isWrite isRead entry ⌝ }
 {
@@ -31,7 +32,7 @@ fn is_asked(entry: Entry, writes: bool) -> bool
     }
 }
 
-// The length of an entry that is asked for, 0 for another.
+// The length of an entry of the kind that is asked for, or 0 for any other.
 fn length_if(asked: bool, entry: Entry) -> u32
     ensures is { λ r. ⌜ r ≡ cond asked (entry .length) 0 ⌝ }
     ensures small { λ r. ⌜ r < 65536 ⌝ }
@@ -39,7 +40,7 @@ fn length_if(asked: bool, entry: Entry) -> u32
     if asked { entry.length as u32 } else { 0 }
 }
 
-// The longest length of the counted writes, or of the counted reads; 0 where there is none.
+// The longest length of the counted writes or of the counted reads, or 0 if there are none.
 fn longest_of(entries: [Entry; ENTRIES], count: u8, writes: bool) -> u32
     requires { ⌜ count ≤ mostEntries ⌝ }
     ensures is { λ r. ⌜ r ≡ longest (cond writes isWrite isRead) (take count entries) ⌝ }
@@ -55,14 +56,15 @@ fn longest_of(entries: [Entry; ENTRIES], count: u8, writes: bool) -> u32
     best
 }
 
-// m − 1, where m is above 0.
+// m − 1, or 0 if m is 0.
 fn one_less(m: u8) -> u8
     ensures { λ r. ⌜ r ≡ m - 1 ⌝ }
 {
     if m == 0 { 0 } else { m - 1 }
 }
 
-// The longest read and write, and the two figures, of any plan value: whether it is taken is for `check` to say.
+// The longest read and write lengths and the two figures, for any plan value. `plan_checks::check` decides whether the
+// plan is accepted.
 pub fn figures_of(plan: Plan) -> Figures
     ensures { λ r. ⌜ r ≡ figuresOf plan ⌝ }
 {

@@ -1,4 +1,5 @@
-// What every call's line begins with, stored in a lent buffer where the line fits. Specification, clause 9.7.
+// The lead of a call's line: its tick, its letter and its processor, stored in a lent buffer if the line fits.
+// Specification, clause 9.7.
 use digits::byte_digits;
 use digits::put_decimal;
 ghost use mathlib.Core.Path.{_≡_};
@@ -23,8 +24,8 @@ fn write_letter(letter: u8, processor: u8, buffer: &mut [u8], at: usize)
     put_decimal(processor as u64, 0, buffer, at + 3);
 }
 
-// What every call's line begins with, where it fits with so many bytes behind it: a line is begun where all of it has
-// room.
+// The lead of a call's line, stored if it fits with `more` bytes after it: a line is begun only if all of it has room.
+// Returns how many bytes it stored.
 pub fn put_lead(
     letter: u8,
     processor: u8,

@@ -1,4 +1,5 @@
-// The fields of a listing's line: words with numbers, a call's tick, letter and processor, and masks. Specification, section 9.
+// The fields of a listing line, stored in a lent buffer if they fit: a word and a number; the tick, letter and
+// processor of a call; masks. `listings` makes its lines of them. Specification, section 9.
 mod call_leads;
 mod mask_fields;
 mod number_fields;

@@ -1,4 +1,4 @@
-// The two masks of a call's line in hexadecimal digits, stored in a lent buffer where they fit.
+// The two masks of a call's line in hexadecimal digits, stored in a lent buffer if they fit.
 use digits::pair_at;
 use encoding::has_room;
 use plans::mask_size;
@@ -13,7 +13,7 @@ ghost use Rattle.digits.specs.Placed.{fieldSize, fieldBuffer};
 ghost use Rattle.digits.specs.inner.Stored.{Stored};
 ghost use Rattle.line_fields.specs.MaskFields.{maskField, maskFields};
 
-// Two digits that lie in one number, the first in its low byte.
+// Two digits in one number, the first in its low byte.
 fn write_pair(pair: u16, buffer: &mut [u8], at: usize)
     requires { ⌜ at + 2 ≤ length (now buffer) ⌝ }
     ensures { λ _. ⌜ now (buffer .exit) ≡ sets (now (buffer .entry)) at (bytesOf 2 pair) ⌝ }
@@ -42,7 +42,7 @@ fn write_half(pairs: &[u16], mask: u32, buffer: &mut [u8], at: usize) -> usize
     at + 4
 }
 
-// A space and the digits of a mask, byte by byte. How many bytes is the plan's matter, whatever the mask.
+// A space and the digits of a mask, byte by byte. How many digits depends on the plan's processors, not on the mask.
 fn write_mask(pairs: &[u16], processors: u8, mask: u32, buffer: &mut [u8], at: usize) -> usize
     requires { ⌜ at + 1 + 2 * maskSizeFor processors ≤ length (now buffer) ⌝ }
     ensures { λ r. ⌜
@@ -60,7 +60,7 @@ fn write_mask(pairs: &[u16], processors: u8, mask: u32, buffer: &mut [u8], at: u
     }
 }
 
-// Both masks, where they fit; gives how many bytes they took.
+// Both masks, stored if they fit. Returns how many bytes it stored.
 pub fn put_masks(
     pairs: &[u16],
     processors: u8,

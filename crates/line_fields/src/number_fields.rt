@@ -1,5 +1,5 @@
-// The fields of a line that are a word and a decimal number, stored in a lent buffer where they fit. Each tells how many
-// bytes it stored.
+// The fields of a line that are a word and a decimal number, stored in a lent buffer if they fit. The functions `put_*`
+// return how many bytes they stored.
 use digits::put_decimal;
 use encoding::has_room;
 ghost use mathlib.Core.Path.{_≡_};
@@ -21,8 +21,8 @@ fn write_word(word: &[u8], buffer: &mut [u8], at: usize)
     }
 }
 
-// A word and a decimal number, where both fit with so many bytes behind them. The number goes first: it knows whether
-// they do.
+// A word and a decimal number, stored if both fit with `more` bytes after them. The number goes first, because storing
+// it shows whether they fit.
 fn put_field(word: &[u8], n: u64, more: u16, buffer: &mut [u8], at: usize) -> usize
     ensures size { λ r. ⌜
         r
@@ -47,7 +47,7 @@ fn put_field(word: &[u8], n: u64, more: u16, buffer: &mut [u8], at: usize) -> us
     }
 }
 
-// A word and a decimal number, where both fit.
+// A word and a decimal number, stored if both fit.
 pub fn put_labelled(word: &[u8], n: u64, buffer: &mut [u8], at: usize) -> usize
     ensures size { λ r. ⌜ r ≡ fieldSize (labelled (now (word .entry)) n) (length (now (buffer .entry))) at ⌝ }
     ensures bytes { λ _. ⌜ now (buffer .exit)
@@ -56,7 +56,7 @@ pub fn put_labelled(word: &[u8], n: u64, buffer: &mut [u8], at: usize) -> usize
     put_field(word, n, 0, buffer, at)
 }
 
-// The same and the line feed: a line's end.
+// The same with a line feed: the end of a line.
 pub fn put_last(word: &[u8], n: u64, buffer: &mut [u8], at: usize) -> usize
     ensures size { λ r. ⌜ r ≡ fieldSize (lastField (now (word .entry)) n) (length (now (buffer .entry))) at ⌝ }
     ensures bytes { λ _. ⌜ now (buffer .exit)

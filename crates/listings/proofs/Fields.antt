@@ -1,4 +1,4 @@
--- What a reply has in its line, and a call's line by the table of all bytes. Assumes nothing.
+-- The fields of a reply in its line, and a call's line with the table of all bytes. Assumes nothing.
 use Prim.Native.Nat.{ℕ}
 use mathlib.Core.Path.{_≡_, refl}
 use mathlib.Core.List.{List}
@@ -14,7 +14,7 @@ use Rattle.digits.proofs.Table.{mask-digits}
 use Rattle.listings.specs.PlainLines.{doneFields, refusedFields}
 use Rattle.listings.specs.Lines.{replyFields, callLine, callLineBy}
 
--- What a reply has behind the processor.
+-- The fields of a reply, after the processor.
 module _ (mask : ℕ → List ℕ) (reply : Reply) where
   pub done-fields : (granted entitled late : ℕ) → reply ≡ Reply.Done granted entitled late
       → replyFields mask (replySays reply) ≡ doneFields mask granted entitled late
@@ -23,7 +23,7 @@ module _ (mask : ℕ → List ℕ) (reply : Reply) where
   pub refused-fields : (r : Refusal) → reply ≡ Reply.Refused r → replyFields mask (replySays reply) ≡ refusedFields (numberOf r)
   refused-fields r e = rw (e, number-not-zero r)
 
--- By the table of all bytes a call's line is the call's line.
+-- With the table of all bytes, `callLineBy` is `callLine`.
 pub line-by-table : (m : ℕ) (c : Call) (reply : Response) → callLineBy hexPairs m c reply ≡ callLine m c reply
 unfolding callLineBy callLine
 line-by-table m c reply =

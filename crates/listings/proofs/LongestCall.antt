@@ -1,6 +1,7 @@
--- How long lines can be. A call's line, where a mask has n bytes: 67 + 4 n bytes whatever the numbers, 33 + 4 n for
--- those of the Rattle types, 24 + 4 n in a replay, where ticks are below 2 ^ 40 and late is 0 or 1. So at most 83, 49
--- and 40, and 8 less up to 16 processors. The line of a refusal of the table: 11. Assumes nothing.
+-- How long lines can be. If a mask has n bytes, a call's line has at most 67 + 4 n bytes whatever the numbers, 33 + 4 n
+-- for numbers of the Rattle types, and 24 + 4 n in a replay, where ticks are below 2 ^ 40 and late is 0 or 1. So it has
+-- at most 83, 49 and 40, and 8 less for up to 16 processors. The line of a refusal of the table has at most 11.
+-- Assumes nothing.
 use Prim.Native.Nat.{ℕ, suc, _+_, _*_, _^_, _≤_, _<_}
 use native.Mathlib.Omega.{arith}
 use mathlib.Core.Path.{_≡_}
@@ -19,7 +20,8 @@ use Rattle.digits.proofs.DecimalDigits.{few-digits, most-digits}
 use Rattle.line_fields.proofs.MaskLengths.{least-bytes, most-bytes, length-hex}
 use Rattle.listings.proofs.lines.Lengths.{done-length, refused-length, length-fields, length-refusal}
 
--- A reply takes so many bytes more than its late mark, or two more than its number has digits.
+-- The fields of a reply take at most 4 + 4 n + k bytes if late has at most k digits and the refusal number at most 2 +
+-- k.
 reply-most : (n : ℕ) → 2 ≤ n → (reply : Response) (k : ℕ) → length (decimal (reply .number)) ≤ 2 + k → length (decimal (reply .late)) ≤ k
     → length (furtherFields (replyFields (hexMask n) reply)) ≤ 4 + 4 * n + k
 reply-most n two reply k number late = go (eqb (reply .number) 0)
@@ -48,7 +50,7 @@ any-call m c reply =
       reply-most (maskSizeFor m) (least-bytes m) reply 20 number (few-digits (reply .late)),
     )
 
--- Whatever the plan.
+-- For any plan.
 pub any-plans-call : (m : ℕ) (c : Call) (reply : Response) → length (callLine m c reply) ≤ 83
 any-plans-call m c reply = omega (arith, any-call m c reply, most-bytes m)
 

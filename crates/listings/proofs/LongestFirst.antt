@@ -1,5 +1,5 @@
--- The longest first line: 145 bytes whatever the numbers, 68 for any plan value, 64 for an accepted plan, and one
--- accepted plan has that many. Assumes nothing.
+-- The longest first line: 145 bytes whatever the numbers, 68 for any plan value, 64 for an accepted plan. One accepted
+-- plan reaches 64. Assumes nothing.
 use Prim.Native.Nat.{ℕ, suc, _+_, _-_, _*_, _^_, _≤_, _<_}
 use native.Mathlib.Nat.{mul-le-mul}
 use native.Mathlib.Omega.{arith}

@@ -1,4 +1,4 @@
--- A line goes into the buffer where it fits, and nothing is written where it does not. Assumes nothing.
+-- A line is written into the buffer if it fits, and nothing is written if it does not. Assumes nothing.
 use Prim.Native.Nat.{ℕ, _+_, _≤_}
 use native.Mathlib.Omega.{arith}
 use mathlib.Core.Path.{_≡_, refl, sym, _∙_}
@@ -29,7 +29,7 @@ module _ (bytes buffer : List ℕ) (at needed : ℕ) (flag : Bool) (size : neede
       → (outcomeSays (Outcome.Bytes needed) ≡ lineSays bytes (length buffer) at) × (after ≡ lineBuffer bytes buffer at)
   room next after taken s = rw size (with-room (length bytes) at buffer bytes refl (sym fits ∙ taken) after (s .stores))
 
--- A line is begun by its lead where all of it has room.
+-- The lead of a line is stored only if the whole line has room.
 module _ (lead tail buffer : List ℕ) (at more led : ℕ) (some : 1 ≤ length lead) (rest : more ≡ length tail)
     (size : led ≡ placedSize (length lead + more) lead (length buffer) at) where
   whole : length lead + more ≡ length (lead ++ tail)
@@ -57,7 +57,7 @@ module _ (lead tail buffer : List ℕ) (at more led : ℕ) (some : 1 ≤ length 
       lead-stored : Stored lead buffer at (at + led) b
       lead-stored = placed-stored lead buffer at (length lead + more) (omega arith) line-fits size put
 
-      -- The rest of the line has room behind the lead.
+      -- The rest of the line has room after the lead.
       pub rest-fits : at + led + length tail ≤ length b
       rest-fits = omega (arith, line-fits, led-all, rest, stored-length lead-stored)
 

@@ -1,4 +1,4 @@
--- The lines of a plan and of a call, in bytes of ASCII. Specification, section 9.
+-- The lines of a plan and of a call, as bytes of ASCII. Specification, section 9.
 use Prim.Native.Nat.{ℕ}
 use mathlib.Core.Bool.{cond}
 use mathlib.Core.List.{List}
@@ -12,11 +12,11 @@ use Rattle.rules.specs.Replies.{Response}
 use Rattle.digits.specs.Digits.{hexMask, maskBy}
 use Rattle.listings.specs.PlainLines.{numbersLine, doneFields, refusedFields, fieldsLine}
 
--- Clause 9.6: the first line has the plan's counts and its two figures.
+-- Clause 9.6: the first line contains the plan's counts and its two figures.
 unfoldable pub firstLine : Plan → List ℕ
 firstLine p = numbersLine (p .processors) (p .resources) (p .count) (readFigure p) (writeFigure p)
 
--- Clause 9.7: what stands behind the processor: both masks and late, or the number of the refusal.
+-- Clause 9.7: the fields after the processor: both masks and late, or the number of the refusal.
 abbrev pub replyFields : (ℕ → List ℕ) → Response → List (List ℕ)
 replyFields mask reply =
     cond (eqb (reply .number) 0) (doneFields mask (reply .granted) (reply .entitled) (reply .late))
@@ -29,13 +29,13 @@ letterOf (Call.Complete p t) = 99
 letterOf (Call.Withdraw p t) = 119
 letterOf (Call.Handover p e t) = 104
 
--- Clauses 9.7 and 9.9: the line of a call of a plan with m processors. By m masks have four hexadecimal digits or
--- eight.
+-- Clauses 9.7 and 9.9: the line of a call of a plan with m processors. Whether masks have four or eight hexadecimal
+-- digits depends on m.
 unfoldable pub callLine : ℕ → Call → Response → List ℕ
 callLine m c reply =
     fieldsLine (letterOf c) (callSays c .processor) (callSays c .tick) (replyFields (hexMask (maskSizeFor m)) reply)
 
--- The same with the digits of masks from a table of pairs.
+-- The same, with the digits of masks from a table of pairs.
 unfoldable pub callLineBy : List ℕ → ℕ → Call → Response → List ℕ
 callLineBy pairs m c reply =
     fieldsLine (letterOf c) (callSays c .processor) (callSays c .tick) (replyFields (maskBy pairs (maskSizeFor m)) reply)

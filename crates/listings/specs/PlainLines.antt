@@ -1,5 +1,5 @@
--- The lines of a listing from their numbers, in bytes of ASCII: 32 is a space, 10 a line feed. Specification, section
--- 9.
+-- The lines of a listing from their numbers, as bytes of ASCII: 32 is a space, 10 a line feed. Specification,
+-- section 9.
 use Prim.Native.Nat.{ℕ}
 use mathlib.Core.List.{List, [], _∷_, _++_}
 use lib.ListN.{length}
@@ -35,7 +35,7 @@ furtherFields (field ∷ later) = 32 ∷ field ++ furtherFields later
 abbrev pub line : List ℕ → List (List ℕ) → List ℕ
 line field later = field ++ furtherFields later
 
--- Clause 9.6: the first line has the three counts and the two figures, each behind its word.
+-- Clause 9.6: the first line contains the three counts and the two figures, each after its word.
 abbrev pub numbersLine : ℕ → ℕ → ℕ → ℕ → ℕ → List ℕ
 numbersLine processors resources count read write =
     line processorsWord
@@ -50,26 +50,26 @@ numbersLine processors resources count read write =
     ∷ decimal write
     ∷ [])
 
--- Clause 9.8: the line of a fault of the bytes.
+-- Clause 9.8: the line of a fault in the bytes.
 unfoldable pub refusalLine : ℕ → List ℕ
 refusalLine number = line refusedWord (decimal number ∷ [])
 
--- Clause 9.7: the fields behind the processor: both masks, in the given digits, and late; or `refused` and the number.
+-- Clause 9.7: the fields after the processor: both masks, in the given digits, and late; or `refused` and the number.
 abbrev pub doneFields : (ℕ → List ℕ) → ℕ → ℕ → ℕ → List (List ℕ)
 doneFields mask granted entitled late = mask granted ∷ mask entitled ∷ decimal late ∷ []
 
 abbrev pub refusedFields : ℕ → List (List ℕ)
 refusedFields number = refusedWord ∷ decimal number ∷ []
 
--- Clause 9.7: a call's line: its tick, its letter, its processor, and the fields behind it.
+-- Clause 9.7: a call's line: its tick, its letter, its processor, and the fields after it.
 abbrev pub fieldsLine : ℕ → ℕ → ℕ → List (List ℕ) → List ℕ
 fieldsLine letter processor tick fields = line (decimal tick) ((letter ∷ []) ∷ decimal processor ∷ fields)
 
--- Clauses 9.9 and 2.12: a line goes into a lent buffer from a position. 16 where there is no room for it.
+-- Clauses 9.9 and 2.12: a line is written into a lent buffer from a position on. 16 if there is no room for it.
 abbrev pub lineFault : List ℕ → ℕ → ℕ → ℕ
 lineFault bytes size at = roomFault (length bytes) size at
 
--- How many bytes were written into a buffer of so many bytes, or the refusal.
+-- How many bytes were written into a buffer of size bytes, or the refusal.
 abbrev pub lineSays : List ℕ → ℕ → ℕ → Said
 lineSays bytes size at = said (lineFault bytes size at) (length bytes)
 

@@ -1,5 +1,4 @@
-// The line of a call and its reply, as bytes in a lent buffer (specification, section 9). `listings` has its
-// definition, and the other lines of a listing.
+// The line of a call and its reply, as bytes in a lent buffer (specification, section 9).
 use crate::done_lines::done_line;
 use crate::lines::refused_line;
 use encoding::Outcome;
@@ -64,8 +63,8 @@ fn reply_line(
     }
 }
 
-// Clauses 9.7 and 9.9: the line of a call of a plan with so many processors, with the digits of masks from a lent
-// table. A loop of calls lends that of `hex_pairs`.
+// Clauses 9.7 and 9.9: the line of a call, for a plan with this number of processors. The digits of masks come from a
+// lent table: a loop of calls lends the table of `hex_pairs`.
 pub fn call_line_by(
     pairs: &[u16],
     processors: u8,

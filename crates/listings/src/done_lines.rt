@@ -1,5 +1,5 @@
-// The line of an accepted call from plain numbers, as bytes in a lent buffer (specification, section 9). `lines` has
-// those of refusals. It is begun only where all of it fits.
+// The line of an accepted call from plain numbers, as bytes in a lent buffer (specification, section 9). A line is
+// begun only if all of it fits. The module `lines` writes the lines of refusals.
 use digits::byte_digits;
 use encoding::Outcome;
 use line_fields::put_last;
@@ -14,8 +14,8 @@ ghost use Rattle.plans.specs.Entries.{maskSizeFor};
 ghost use Rattle.digits.specs.Digits.{maskBy};
 ghost use Rattle.listings.specs.PlainLines.{fieldsLine, doneFields, lineSays, lineBuffer};
 
-// Clauses 9.7 and 9.9: the line of an accepted call of a plan with so many processors, with the digits of masks from a
-// lent table.
+// Clauses 9.7 and 9.9: the line of an accepted call, for a plan with this number of processors. The digits of masks
+// come from a lent table.
 pub fn done_line(
     pairs: &[u16],
     processors: u8,

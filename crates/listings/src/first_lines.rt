@@ -1,4 +1,4 @@
-// The first line of a listing from plain numbers, as bytes in a lent buffer. Its length is worked out first, so that a
+// The first line of a listing from plain numbers, as bytes in a lent buffer. Its length is computed first, so that a
 // buffer that is too short is refused before a byte is written.
 use digits::digit_count;
 use encoding::Outcome;
@@ -72,7 +72,7 @@ fn first_size(processors: u8, resources: u8, count: u8, read: u32, write: u32) -
     45 + (counts + digit_count(read as u64) + digit_count(write as u64))
 }
 
-// Clause 9.6: the first line, of any numbers.
+// Clause 9.6: the first line, for any numbers.
 pub fn numbers_line(
     processors: u8,
     resources: u8,

@@ -1,5 +1,5 @@
-// The first line of a listing, from its plan, and the line of a refusal, as bytes in a lent buffer (specification,
-// section 9). `call_lines` has the line of a call and its reply, which is defined here too. `lockreplay` prints them.
+// The lines of a listing as bytes in a lent buffer: the first line of a plan, the line of a call and its reply, and the
+// line of a refusal. `replay`, `lockreplay` and `query_listing` use it. Specification, section 9.
 mod call_lines;
 mod done_lines;
 mod first_lines;
@@ -21,7 +21,7 @@ ghost use Rattle.encoding.specs.Buffers.{outcomeSays};
 ghost use Rattle.listings.specs.PlainLines.{refusalLine, lineSays, lineBuffer};
 ghost use Rattle.listings.specs.Lines.{firstLine};
 
-// Clause 9.6: the first line, of any plan value.
+// Clause 9.6: the first line, for any plan value.
 pub fn first_line(plan: Plan, buffer: &mut [u8], at: usize) -> Outcome
     ensures outcome { λ r. ⌜ outcomeSays r ≡ lineSays (firstLine plan) (length (now (buffer .entry))) at ⌝ }
     ensures bytes { λ _. ⌜ now (buffer .exit) ≡ lineBuffer (firstLine plan) (now (buffer .entry)) at ⌝ }
@@ -38,7 +38,7 @@ pub fn first_line(plan: Plan, buffer: &mut [u8], at: usize) -> Outcome
     )
 }
 
-// Clause 9.8: the line of a fault of the bytes.
+// Clause 9.8: the line of a fault in the bytes.
 pub fn refusal_line(refusal: Refusal, buffer: &mut [u8], at: usize) -> Outcome
     ensures outcome { λ r. ⌜
         outcomeSays r ≡ lineSays (refusalLine (numberOf refusal)) (length (now (buffer .entry))) at

@@ -1,6 +1,6 @@
-// The lines of refusals from plain numbers, as bytes in a lent buffer (specification, section 9): of a call that is
-// refused, and of a fault of the bytes. `done_lines` has the line of an accepted call, `first_lines` a listing's first
-// line, and `listings` has lines from plans, calls and replies. A line is begun only where all of it fits.
+// The lines of refusals from plain numbers, as bytes in a lent buffer (specification, section 9): of a refused call,
+// and of a fault in the bytes. A line is begun only if all of it fits. The module `done_lines` writes the line of an
+// accepted call, and `first_lines` the first line of a listing.
 use digits::byte_digits;
 use encoding::Outcome;
 use line_fields::put_last;
@@ -11,7 +11,7 @@ ghost use lib.ListN.{length};
 ghost use Rattle.encoding.specs.Buffers.{outcomeSays};
 ghost use Rattle.listings.specs.PlainLines.{refusalLine, fieldsLine, refusedFields, lineSays, lineBuffer};
 
-// Clause 9.7: the line of a call that is refused by a number.
+// Clause 9.7: the line of a call that is refused with this number.
 pub fn refused_line(
     letter: u8,
     processor: u8,
@@ -38,7 +38,7 @@ pub fn refused_line(
     Outcome::Bytes(led + more)
 }
 
-// Clause 9.8: the line of a fault of the bytes, by its number.
+// Clause 9.8: the line of a fault in the bytes, given its number.
 pub fn fault_line(number: u8, buffer: &mut [u8], at: usize) -> Outcome
     ensures outcome { λ r. ⌜ outcomeSays r ≡ lineSays (refusalLine number) (length (now (buffer .entry))) at ⌝ }
     ensures bytes { λ _. ⌜ now (buffer .exit) ≡ lineBuffer (refusalLine number) (now (buffer .entry)) at ⌝ }
@@ -51,7 +51,7 @@ pub fn fault_line(number: u8, buffer: &mut [u8], at: usize) -> Outcome
     }
 }
 
-// How many bytes a line took: none where there was no room.
+// How many bytes a line took, or 0 if there was no room.
 pub fn line_size(line: Outcome) -> usize
     ensures { λ r. ⌜ r ≡ outcomeSays line .value ⌝ }
 {

@@ -1,7 +1,7 @@
-// `lockreplay`: a log on standard input, its listing on standard output. A thin loop over `log_input`, `log_openings`,
-// `log_ends` and `replay`: no contract can say what is read or written, so the work is done on slices there.
-// `whole_listing/specs/Arrivals.antt` has the same turns over the same buffers as a definition, which is proved to be
-// the listing.
+// `lockreplay` reads a log from standard input and writes its listing to standard output. It is a thin loop over
+// `log_input` and `replay`: no contract can state what is read or written, so the work is done there, on slices.
+// `whole_listing/specs/Arrivals.antt` defines the same turns over the same buffers, and they are proved to give the
+// listing.
 use encoding::Outcome;
 use libc::STDERR_FILENO;
 use libc::STDIN_FILENO;
@@ -37,7 +37,7 @@ struct Counted {
     more: bool,
 }
 
-// Reads what is needed behind the bytes at hand. Where a read fails, standard error has why.
+// Reads what is needed after the bytes at hand. If a read fails, standard error says why.
 fn feed(block: &mut [u8], have: usize, needed: usize) -> Fed
     ensures { λ r. ⌜ r .have ≤ length (now (block .exit)) ⌝ }
 {
@@ -48,7 +48,7 @@ fn feed(block: &mut [u8], have: usize, needed: usize) -> Fed
     fed
 }
 
-// Writes lines, and says whether all of them were written. Where a write fails, standard error has why.
+// Writes lines, and returns whether all of them were written. If a write fails, standard error says why.
 fn put(lines: &[u8]) -> bool {
     let written = io::write_all(STDOUT_FILENO, lines);
     if !written {
@@ -65,8 +65,8 @@ fn show(line: Outcome, out: &[u8]) -> bool
     put(&out[..size])
 }
 
-// Goes on behind the bytes that are used up: a record is waited for only where none is whole in the block, and after
-// the last call any byte.
+// Continues after the bytes that are used up. It waits for a record only if no whole one is in the block, and after the
+// last call for any byte.
 fn advance(block: &mut [u8], used: usize, have: usize, left: u16) -> Fed
     ensures { λ r. ⌜ r .have ≤ length (now (block .exit)) ⌝ }
 {
@@ -74,7 +74,7 @@ fn advance(block: &mut [u8], used: usize, have: usize, left: u16) -> Fed
     feed(block, rest, due_size(left))
 }
 
-// Carries out the calls that are whole in a block, and writes their lines. Where a write fails, that is the end too.
+// Carries out the calls that are whole in a block, and writes their lines. A write that fails also ends the replay.
 fn run_block(board: Board, state: State, left: u16, block: &[u8], out: &mut [u8]) -> RanBlock
     ensures { λ r. ⌜ r .calls ≤ left ⌝ }
 {
@@ -85,14 +85,14 @@ fn run_block(board: Board, state: State, left: u16, block: &[u8], out: &mut [u8]
     ran
 }
 
-// After the last call that is there: the line of what is wrong with the log's end, if something is.
+// After the last call that is there: the line of the fault at the log's end, if there is one.
 fn close(left: u16, block: &[u8], out: &mut [u8]) {
     let line = finish(left, block, out);
     show(line, out);
 }
 
-// The calls, as they arrive, behind the call count. A block that carries no call out is the last: no call is left, or
-// the input ended, or a read failed, which happens only where no call is whole in the block.
+// The calls after the call count, as they arrive. A block that carries out no call is the last: no call is left, or the
+// input ended, or a read failed, which happens only if no call is whole in the block.
 fn replay_calls(begun: Begun, calls: u16, block: &mut [u8], filled: usize, out: &mut [u8]) {
     let board = begun.board;
     let mut current = begun.state;
@@ -117,7 +117,7 @@ fn replay_calls(begun: Begun, calls: u16, block: &mut [u8], filled: usize, out: 
     close(left, &block[..have], out);
 }
 
-// The call count, and the line of what is wrong with it, if something is.
+// The call count, and the line of its fault, if there is one.
 fn take_count(block: &[u8], out: &mut [u8]) -> Counted {
     let counted = count(block, out);
     let line = counted.line;
@@ -135,7 +135,8 @@ fn take_count(block: &[u8], out: &mut [u8]) -> Counted {
     }
 }
 
-// After the plan: the bytes that came in with it are the log's next ones. The call count, and then the calls.
+// After the plan: the call count, and then the calls. The bytes that were read with the plan are the next ones of the
+// log.
 fn replay_rest(begun: Begun, bytes: &[u8], block: &mut [u8], out: &mut [u8]) {
     let first = copy_in(bytes, block);
     let fed = feed(block, first, COUNT_BYTES);
@@ -148,7 +149,7 @@ fn replay_rest(begun: Begun, bytes: &[u8], block: &mut [u8], out: &mut [u8]) {
     }
 }
 
-// A log from its plan on, of which the first bytes are there.
+// A log from its plan on; its first bytes are there.
 fn replay_log(plan: &[u8], block: &mut [u8], out: &mut [u8]) {
     let begun = begin(plan, out);
     let line = begun.line;
@@ -161,8 +162,8 @@ fn replay_log(plan: &[u8], block: &mut [u8], out: &mut [u8]) {
     }
 }
 
-// Replays a log. The plan goes into a buffer of its own, which holds the longest plan and begins as zeros; only the
-// filled part is lent.
+// Replays a log. The plan is read into a buffer of its own, which has room for the longest plan and begins as zeros;
+// only the filled part is lent.
 fn replay() {
     let mut plan = [0u8; PLAN_ROOM];
     let mut block = [0u8; BLOCK_ROOM];
@@ -184,7 +185,7 @@ fn help() {
     );
 }
 
-// An argument is answered by the help, and nothing is read: a name would not be opened.
+// With an argument it prints the help and reads nothing, because it would not open a file of that name.
 fn main() {
     if os::arg_count() > 1 {
         help();

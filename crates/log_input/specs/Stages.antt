@@ -1,4 +1,4 @@
--- What is waited for at each stage of a log that arrives in pieces.
+-- How many bytes to wait for at each stage of a log that arrives in pieces.
 use Prim.Native.Nat.{ℕ}
 use mathlib.Core.Bool.{Bool, cond}
 use mathlib.Core.List.{List}
@@ -6,10 +6,11 @@ use lib.Dec.{eqb}
 use Rattle.plans.specs.Reading.{readFault}
 use Rattle.logs.specs.Records.{recordSize}
 
--- Clause 9.10: more of a plan is waited for only while the bytes so far are refused by 1; by anything else they decide.
+-- Clause 9.10: more bytes of a plan are needed only while the bytes so far are refused with 1. Any other answer
+-- decides.
 abbrev pub isShort : List ℕ → Bool
 isShort s = eqb (readFault s) 1
 
--- Clause 9.10: with calls left a whole record is waited for, and after the last call any byte, which would be a tail.
+-- Clause 9.10: with calls left, a whole record is needed; after the last call a single byte, which would be a tail.
 abbrev pub dueSize : ℕ → ℕ
 dueSize left = cond (eqb left 0) 1 recordSize

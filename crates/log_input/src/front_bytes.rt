@@ -1,10 +1,10 @@
-// Bytes to the front of a buffer: from another, or from further back.
+// Moves bytes to the front of a buffer: from another buffer, or from further back in the same one.
 ghost use mathlib.Core.Path.{_≡_};
 ghost use Prim.Native.Nat.{_-_, min};
 ghost use lib.ListN.{length};
 ghost use Rattle.log_input.specs.Fronts.{copiedIn, broughtFront};
 
-// Copies bytes to the front of the buffer, as many as it holds, and gives how many.
+// Copies bytes to the front of the buffer, as many as fit, and returns how many.
 pub fn copy_in(bytes: &[u8], buffer: &mut [u8]) -> usize
     ensures size { λ r. ⌜ r ≡ min (length (now (bytes .entry))) (length (now (buffer .entry))) ⌝ }
     ensures bytes { λ _. ⌜ now (buffer .exit) ≡ copiedIn (now (bytes .entry)) (now (buffer .entry)) ⌝ }
@@ -22,7 +22,7 @@ pub fn copy_in(bytes: &[u8], buffer: &mut [u8]) -> usize
     i
 }
 
-// How many bytes lie between two positions, of which the second counts as far as the buffer goes.
+// How many bytes are between two positions. The second position counts only as far as the buffer goes.
 fn between(from: usize, have: usize, size: usize) -> usize
     ensures { λ r. ⌜ r ≡ min have size - from ⌝ }
 {
@@ -30,7 +30,7 @@ fn between(from: usize, have: usize, size: usize) -> usize
     if from < end { end - from } else { 0 }
 }
 
-// Brings the bytes between two positions of the buffer to its front, and gives how many they are.
+// Moves the bytes between two positions of the buffer to its front, and returns how many there are.
 pub fn bring_to_front(buffer: &mut [u8], from: usize, have: usize) -> usize
     ensures size { λ r. ⌜ r ≡ min have (length (now (buffer .entry))) - from ⌝ }
     ensures bytes { λ _. ⌜ now (buffer .exit) ≡ broughtFront from have (now (buffer .entry)) ⌝ }

@@ -1,5 +1,6 @@
-// A log as it arrives: each read takes what is there, and no more is waited for than is needed to go on. No contract
-// can say what a read gives; these functions promise what they leave of the buffers that they are lent.
+// A log as it arrives: each read takes the bytes that are there, and waits for no more than are needed to go on. No
+// contract can say what a read returns, so these functions promise what they leave in the buffers that they are lent.
+// `lockreplay`, `query_listing` and `register_listing` use it.
 mod front_bytes;
 mod needed_input;
 mod reads;

@@ -1,4 +1,4 @@
-// How much of a log that arrives in pieces is waited for, so that it can go on. Specification, clause 9.10.
+// How many bytes to wait for when a log arrives in pieces. Specification, clause 9.10.
 use encoding::Outcome;
 use logs::RECORD_BYTES;
 use refusals::number;
@@ -16,7 +16,7 @@ fn short_outcome(outcome: Outcome) -> bool
     }
 }
 
-// Whether a plan's bytes are still to come: what is there so far is refused for that alone.
+// Whether more bytes of a plan are needed: the bytes so far are refused for that reason alone.
 pub fn is_short(bytes: &[u8]) -> bool
     ensures { λ r. ⌜ r ≡ isShort (now (bytes .entry)) ⌝ }
 {
@@ -25,7 +25,7 @@ pub fn is_short(bytes: &[u8]) -> bool
     short_outcome(outcome)
 }
 
-// How many bytes are waited for with so many calls left: a record, and after the last call a single byte.
+// How many bytes to wait for with this number of calls left: a record, or a single byte after the last call.
 pub fn due_size(left: u16) -> usize
     ensures { λ r. ⌜ r ≡ dueSize left ⌝ }
 {

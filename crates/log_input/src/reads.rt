@@ -1,22 +1,22 @@
-// Reads into a lent buffer, behind the bytes that it has.
+// Reads into a lent buffer, after the bytes that it already contains.
 use crate::needed_input::is_short;
 ghost use mathlib.Core.Path.{_≡_};
 ghost use Prim.Native.Nat.{_+_, _≤_, min};
 ghost use lib.ListN.{length, take};
 
-// How many bytes a buffer has after some reads, and whether the last of them failed.
+// How many bytes a buffer contains after some reads, and whether the last read failed.
 pub struct Fed {
     pub have: usize,
     pub failed: bool,
 }
 
-// How many bytes one read put there, and whether it failed. None without a failure is the end of the input.
+// How many bytes one read stored, and whether it failed. No bytes without a failure mean the end of the input.
 struct Got {
     bytes: usize,
     failed: bool,
 }
 
-// One read, behind the first bytes of the buffer.
+// One read, into the buffer after its first bytes.
 fn read_behind(input: i32, buffer: &mut [u8], have: usize) -> Got
     requires { ⌜ have ≤ length (now buffer) ⌝ }
     ensures within { λ r. ⌜ have + r .bytes ≤ length (now (buffer .exit)) ⌝ }
@@ -36,8 +36,8 @@ fn least(a: usize, b: usize) -> usize
     if a < b { a } else { b }
 }
 
-// Reads until the buffer has as many bytes as are needed or is full, or the input ends or a read fails. The first
-// bytes stay.
+// Reads until the buffer contains as many bytes as are needed, or is full, or the input ends, or a read fails. The
+// first bytes stay.
 pub fn fill_to(input: i32, buffer: &mut [u8], first: usize, needed: usize) -> Fed
     ensures within { λ r. ⌜ r .have ≤ length (now (buffer .exit)) ⌝ }
     ensures kept { λ _. ⌜ take first (now (buffer .exit)) ≡ take first (now (buffer .entry)) ⌝ }
@@ -60,8 +60,8 @@ pub fn fill_to(input: i32, buffer: &mut [u8], first: usize, needed: usize) -> Fe
     }
 }
 
-// Reads until the plan at the start of the buffer is accepted or refused by what is there, or the input ends or a read
-// fails. A plan that fits is never short once the buffer is full.
+// Reads until the bytes so far decide that the plan at the start of the buffer is accepted or refused, or the input
+// ends, or a read fails. A plan that fits is never short once the buffer is full.
 pub fn fill_plan(input: i32, buffer: &mut [u8]) -> Fed
     ensures within { λ r. ⌜ r .have ≤ length (now (buffer .exit)) ⌝ }
     ensures kept { λ _. ⌜ length (now (buffer .exit)) ≡ length (now (buffer .entry)) ⌝ }

@@ -1,4 +1,4 @@
--- What an answer that is known tells of the bytes it was read from. Assumes nothing.
+-- What a known answer implies for the bytes that it was read from. Assumes nothing.
 use Prim.Native.Nat.{ℕ, _≤_}
 use mathlib.Core.Path.{_≡_, refl, sym, ap, _∙_}
 use mathlib.Core.List.{List}
@@ -13,14 +13,14 @@ use Rattle.logs.specs.Verbs.{recordSays}
 use Rattle.logs.specs.declared.CountAnswer.{CountAnswer}
 use Rattle.logs.specs.Records.{countSize, countSays, readCount, fieldsIn, recordFault, readRecord}
 
--- A count that is taken is there.
+-- If a count is accepted, its bytes are there.
 pub count-there : (s : List ℕ) → readCount s .number ≡ 0 → countSize ≤ length s
 count-there s e = enough-length countSize s e
 
 pub count-is : (a : CountAnswer) (s : List ℕ) (n : ℕ) → countSays a ≡ readCount s → a ≡ CountAnswer.Calls n → readCount s .number ≡ 0
 count-is a s n says e = ap (λ x. x .number) (sym says ∙ ap countSays e)
 
--- The call that a call's fields say is the call.
+-- The call that a call's fields give is the call itself.
 call-back : (c : Call) → callOf (callSays c) ≡ c
 call-back (Call.Issue p e t) = refl
 call-back (Call.Complete p t) = refl

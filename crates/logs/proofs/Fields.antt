@@ -1,4 +1,4 @@
--- What a log's count and a record say, by the numbers that are read from their bytes. Assumes nothing.
+-- The answers for a log's count and for a record, from the numbers that are read from their bytes. Assumes nothing.
 use Prim.Native.Nat.{ℕ, _≤_}
 use mathlib.Core.Path.{_≡_, ap, _∙_}
 use mathlib.Core.List.{List}
@@ -14,7 +14,7 @@ use Rattle.logs.specs.Records.{countSays, readCount, fieldsIn, recordFau
 pub count-read : (s : List ℕ) (n : ℕ) → 2 ≤ length s → n ≡ number (take 8 (take 2 s)) → countSays (CountAnswer.Calls n) ≡ readCount s
 count-read s n h e = rw (le-leb 2 (length s) h, e, part-number 0 2 s (lit< tt))
 
--- A record whose 8 bytes are there is what its fields say.
+-- If the 8 bytes of a record are there, its answer is that of its fields.
 module _ (s : List ℕ) (h : 8 ≤ length s) where
   fields-read : recorded (fieldsIn s) ≡ readRecord s
   unfolding readRecord recordFault

@@ -1,4 +1,4 @@
--- What stands in a log behind its plan, and when it is refused: 1, 2 and 9. Specification, section 9.
+-- The content of a log after its plan, and when it is refused: with 1, 2 or 9. Specification, section 9.
 use Prim.Native.Nat.{ℕ}
 use mathlib.Core.List.{List}
 use lib.Dec.{eqb}
@@ -12,28 +12,28 @@ use Rattle.rules.specs.CallNumbers.{Fields}
 use Rattle.logs.specs.Verbs.{Recorded, recordDue, verbFault}
 use Rattle.logs.specs.declared.CountAnswer.{CountAnswer}
 
--- Clauses 9.1 and 9.2: the bytes of the number of calls, and those of a call.
+-- Clauses 9.1 and 9.2: how many bytes the number of calls takes, and how many a call takes.
 abbrev pub countSize : ℕ
 countSize = 2
 
 abbrev pub recordSize : ℕ
 recordSize = 8
 
--- How many calls follow, in numbers.
+-- How many calls follow, as numbers.
 abbrev pub countSays : CountAnswer → Said
 countSays (CountAnswer.Calls n) = record { number = 0; value = n }
 countSays (CountAnswer.Refused r) = record { number = numberOf r; value = 0 }
 
--- Clauses 9.1 and 9.4: the number of calls, at the start of the bytes behind the plan; 1 where they are too few.
+-- Clauses 9.1 and 9.4: the number of calls, at the start of the bytes after the plan; 1 if there are too few bytes.
 abbrev pub readCount : List ℕ → Said
 readCount s = said (shortFault countSize s) (number (take countSize s))
 
--- Clause 9.2: the fields of the record at the start of the bytes s: its tick is in the last five.
+-- Clause 9.2: the fields of the record at the start of the bytes s. Its tick is in the last five bytes.
 unfoldable pub fieldsIn : List ℕ → Fields
 fieldsIn s =
     record { verb = getD s 0 0; processor = getD s 1 0; entry = getD s 2 0; tick = number (slice 3 recordSize s) }
 
--- Clauses 9.4 and 8.2: the record's bytes are due (1) before its verb is looked at.
+-- Clauses 9.4 and 8.2: the record's bytes are due (1) before its verb is checked.
 unfoldable pub recordFault : List ℕ → ℕ
 recordFault s = firstOf (shortFault recordSize s) (verbFault (fieldsIn s))
 
@@ -41,6 +41,6 @@ recordFault s = firstOf (shortFault recordSize s) (verbFault (fieldsIn s))
 unfoldable pub readRecord : List ℕ → Recorded
 readRecord s = recordDue (recordFault s) (fieldsIn s)
 
--- Clause 9.5: 2 where bytes stand behind the last call.
+-- Clause 9.5: 2 if there are bytes after the last call.
 abbrev pub tailFault : List ℕ → ℕ
 tailFault s = due (eqb (length s) 0) 2

@@ -1,4 +1,4 @@
--- Which fields of a record make a call: 9. Specification, section 9.
+-- Which fields of a record give a call, and which are refused with 9. Specification, section 9.
 use Prim.Native.Nat.{ℕ}
 use mathlib.Core.Bool.{cond, _&&_, _||_}
 use lib.Dec.{eqb}
@@ -15,7 +15,7 @@ verbFault f =
     || ((eqb (f .verb) 1 && eqb (f .entry) 0) || ((eqb (f .verb) 2 && eqb (f .entry) 0) || eqb (f .verb) 3)))
     9
 
--- A record in numbers: what is due, and the call's fields, which are all 0 beside a refusal.
+-- A record as numbers: the number that is due, and the call's fields, which are all 0 if it is refused.
 pub record Recorded : Type 0 where
   pub number : ℕ
   pub fields : Fields
@@ -23,7 +23,7 @@ pub record Recorded : Type 0 where
 abbrev pub noFields : Fields
 noFields = record { verb = 0; processor = 0; entry = 0; tick = 0 }
 
--- What is due, and the fields where nothing is.
+-- The number that is due, and the fields if that number is 0.
 abbrev pub recordDue : ℕ → Fields → Recorded
 recordDue n f = record { number = n; fields = cond (eqb n 0) f noFields }
 
@@ -31,6 +31,6 @@ abbrev pub recordSays : RecordAnswer → Recorded
 recordSays (RecordAnswer.Is c) = record { number = 0; fields = callSays c }
 recordSays (RecordAnswer.Refused r) = record { number = numberOf r; fields = noFields }
 
--- Clause 9.3: what some fields say.
+-- Clause 9.3: the record that these fields give.
 abbrev pub recorded : Fields → Recorded
 recorded f = recordDue (verbFault f) f

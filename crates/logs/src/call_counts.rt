@@ -1,5 +1,5 @@
-// What stands around the records of a log: the number of calls before them, and nothing behind the last (specification,
-// section 9). `logs` has the records. Each function looks only at the bytes from its place on.
+// The number of calls before the records of a log, and the check that nothing follows the last record (specification,
+// section 9). Each function looks only at the bytes from its place on.
 use crate::CountAnswer;
 use encoding::read_number;
 use refusals::Refusal;
@@ -11,7 +11,7 @@ ghost use Rattle.logs.specs.Records.{countSays, readCount, tailFault};
 // The bytes that the call count takes.
 pub const COUNT_BYTES: usize = 2;
 
-// Clause 9.1: how many calls the log has. The bytes are those behind the plan.
+// Clause 9.1: how many calls the log contains. The bytes are those after the plan.
 pub fn read_count(bytes: &[u8]) -> CountAnswer
     ensures { λ r. ⌜ countSays r ≡ readCount (now (bytes .entry)) ⌝ }
 {
@@ -22,7 +22,7 @@ pub fn read_count(bytes: &[u8]) -> CountAnswer
     CountAnswer::Calls(count as u16)
 }
 
-// Clause 9.5: the bytes behind the last call: there are none, or the log is refused by 2.
+// Clause 9.5: checks the bytes after the last call. If there are any, the log is refused with 2.
 pub fn check_tail(bytes: &[u8]) -> Verdict
     ensures { λ r. ⌜ verdictNumber r ≡ tailFault (now (bytes .entry)) ⌝ }
 {

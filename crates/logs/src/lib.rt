@@ -1,6 +1,6 @@
-// A call's record in a log: its 8 bytes (specification, section 9). `call_counts` has the call count before the records
-// and the end behind them, which are defined here too. `lockreplay` reads a log record by record, so each function
-// looks only at the bytes from its record on.
+// The parts of a log after its plan: the call count, the records of the calls, and the end (specification, section 9).
+// `replay`, `lockreplay`, `log_input` and `query_listing` use it. They read a log record by record, so each function
+// looks only at the bytes from its place on.
 mod call_counts;
 mod record_calls;
 
@@ -15,7 +15,7 @@ ghost use mathlib.Core.Path.{_≡_};
 ghost use Rattle.logs.specs.Verbs.{recordSays};
 ghost use Rattle.logs.specs.Records.{readRecord};
 
-// The bytes that a call's record takes. Its tick stands from the fourth byte on.
+// The bytes that a call's record takes. Its tick begins at the fourth byte.
 pub const RECORD_BYTES: usize = 8;
 
 const TICK_PLACE: usize = 3;
@@ -26,7 +26,7 @@ pub enum CountAnswer {
     Refused(Refusal),
 }
 
-// Clause 9.4: the call at the start of the bytes. Refuses by 1, then by 9.
+// Clause 9.4: the call at the start of the bytes. Refuses with 1, then with 9.
 pub fn read_record(bytes: &[u8]) -> RecordAnswer
     ensures { λ r. ⌜ recordSays r ≡ readRecord (now (bytes .entry)) ⌝ }
 {

@@ -1,4 +1,4 @@
-// The call that the fields of a record make. `logs` reads the fields. Specification, section 9.
+// The call that the fields of a record give. `read_record` reads the fields. Specification, section 9.
 use refusals::Refusal;
 use rules::Call;
 ghost use mathlib.Core.Path.{_≡_};
@@ -10,7 +10,7 @@ pub enum RecordAnswer {
     Refused(Refusal),
 }
 
-// Clause 9.3: the call of a verb. Refuses by 9.
+// Clause 9.3: the call of a verb. Refuses with 9.
 pub fn call_by(verb: u8, processor: u8, entry: u8, tick: u64) -> RecordAnswer
     ensures { λ r. ⌜ recordSays r
         ≡ recorded (record { verb = verb; processor = processor; entry = entry; tick = tick }) ⌝ }

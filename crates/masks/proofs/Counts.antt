@@ -1,5 +1,5 @@
--- The lowest place of a set and how many places it has, at any width: what trailing zeros and ones give. Assumes
--- nothing.
+-- The lowest place of a set and the number of its places, at any width: the results of counting trailing zeros and
+-- ones. Assumes nothing.
 use mathlib.Core.Path.{_≡_, refl, sym, ap, ap₂, _∙_}
 use mathlib.Core.Bool.{Bool, true, false, cond, _||_, false≢true}
 use Prim.Native.Nat.{ℕ, zero, suc, _+_, _/_, _%_, _^_, _<_}
@@ -49,7 +49,7 @@ lowest-unique n p k l a b = go (ltb k l) refl (ltb l k) refl
     go false e true f = absurd (not-before n p l k b a (ltb-true l k f))
     go false e false f = omega (arith, ltb-false k l e, ltb-false l k f)
 
--- The zeros below the lowest place of a set are its number.
+-- The number of trailing zeros of a set is its lowest place.
 pub lowest-is : (w n : ℕ) → 0 < n → n < 2 ^ w → trailingZeros w n ≡ lowestOf w (bit n)
 lowest-is w n p h =
     let k = trailingZeros w n in
@@ -65,7 +65,7 @@ unfolding countOf
 count-agree zero p q h = refl
 count-agree (suc n) p q h = ap₂ (λ (x : ℕ) t. x + cond t 1 0) (count-agree n p q h) (h n)
 
--- The first number by itself, and the others one down.
+-- The first number is counted separately, and the others one down.
 count-first : (n : ℕ) (p : ℕ → Bool) → countOf (suc n) p ≡ cond (p 0) 1 0 + countOf n (λ k. p (suc k))
 unfolding countOf
 count-first zero p = omega arith
@@ -82,7 +82,7 @@ unfolding ones countOf
 none zero h = refl
 none (suc n) h = absurd (omega arith)
 
--- The ones of a set are its places.
+-- The number of ones of a set is the number of its places.
 pub ones-are : (w n : ℕ) → n < 2 ^ w → ones n ≡ countOf w (bit n)
 ones-are zero n h = none n h
 ones-are (suc w) n h =

@@ -17,7 +17,7 @@ pub bit-suc : (n k : ℕ) → bit n (suc k) ≡ bit (n / 2) k
 unfolding bit
 bit-suc n k = ap (λ (x : ℕ). eqb (x % 2) 1) (ap (λ (x : ℕ). n / 2 ^ x) (sym (one-add k)) ∙ sym (shr-shr n 1 k))
 
--- What holds of 0 and of 1 holds of a digit.
+-- A property of 0 and of 1 is a property of every digit.
 pub by-digit : (P : ℕ → Type 0) → P 0 → P 1 → (d : ℕ) → d < 2 → P d
 by-digit P none one zero h = none
 by-digit P none one (suc zero) h = one
@@ -32,7 +32,7 @@ digit-lt n = mod-lt n (zero-lt-suc 1)
 pub half-lt : (w n : ℕ) → n < 2 ^ suc w → n / 2 < 2 ^ w
 half-lt w n h = omega arith
 
--- The tests of a place against a width, one place down.
+-- The test that a place is below a width, one place down.
 pub ltb-none : (k : ℕ) → ltb k 0 ≡ false
 ltb-none k = leb·suc-zero k
 

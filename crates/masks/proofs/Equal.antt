@@ -1,5 +1,5 @@
--- Sets of one width with the same places are equal, and a set names only places below w exactly if it is below 2 ^ w.
--- Assumes nothing.
+-- Sets of one width with the same places are equal, and a set contains only places below w exactly if it is below
+-- 2 ^ w. Assumes nothing.
 use mathlib.Core.Path.{_≡_, refl, sym, _∙_}
 use mathlib.Core.Bool.{false}
 use Prim.Native.Nat.{ℕ, zero, suc, _/_, _%_, _^_, _<_, _≤_, suc-le-suc, zero-le}
@@ -12,7 +12,7 @@ use Rattle.masks.specs.Sets.{bit}
 use Rattle.masks.proofs.Digits.{bit-lowest, bit-suc, by-digits, digit-lt, half-lt}
 use Rattle.masks.proofs.Places.{bit-zero}
 
--- Digits that pass the same test for 1 are equal.
+-- Two digits are equal if both are 1 or neither is.
 same-digit : (x y : ℕ) → x < 2 → y < 2 → eqb x 1 ≡ eqb y 1 → x ≡ y
 same-digit =
     by-digits (λ x y. eqb x 1 ≡ eqb y 1 → x ≡ y) (λ e. refl) (λ e. eqb-true 0 1 e) (λ e. sym (eqb-true 0 1 (sym e))) (λ e. refl)

@@ -1,5 +1,5 @@
--- The walk through a mask that gathers a number of each place into a set: a row meets the set exactly if it has one of
--- the numbers. The mask has w places, in a word of W bits, and the set is in one of R. Assumes nothing.
+-- The walk through a mask that collects the number of each place in a set. A row meets the set exactly if it contains
+-- one of the numbers. The mask has w places in a word of W bits, and the set is in a word of R bits. Assumes nothing.
 use mathlib.Core.Path.{_≡_, sym, ap, _∙_}
 use mathlib.Core.Bool.{Bool, _||_, or-false, or-assoc}
 use Prim.Native.Nat.{ℕ, _-_, _^_, _<_}
@@ -11,7 +11,7 @@ use Rattle.masks.proofs.Places.{added-below}
 use Rattle.masks.proofs.Meets.{meets-none, meets-added}
 use Rattle.masks.proofs.Walks.{Left, left-more, someOf, some-lowest, some-last}
 
--- Some place of the mask has its number in the row.
+-- The row contains the number of some place of the mask.
 abbrev pub someIn : ℕ → (ℕ → ℕ) → ℕ → ℕ → Bool
 someIn w f row mask = someOf w (λ k. bit row (f k)) mask
 

@@ -11,7 +11,7 @@ use Rattle.masks.specs.Sets.{bit}
 use Rattle.masks.proofs.Digits.{bit-lowest, bit-suc, by-digit, digit-lt, half-lt}
 use Rattle.masks.proofs.Places.{bit-and}
 
--- The lowest digit and what it makes of the count: the digit is 0 and the half is not empty, or the digit is 1.
+-- Cases on the lowest digit: it is 0, and the half is not empty, or it is 1.
 by-lowest : (n : ℕ) (P : ℕ → Type 0) → (n % 2 ≡ 0 → P 0) → (n % 2 ≡ 1 → P 1) → P (n % 2)
 by-lowest n P even odd = by-digit (λ d. n % 2 ≡ d → P d) even odd (n % 2) (digit-lt n) refl
 
@@ -41,7 +41,7 @@ lowest-first (suc w) n (suc k) l =
     by-lowest n (λ d. suc k < under d (trailingZeros w (n / 2)) → bit n (suc k) ≡ false)
     (λ e l. bit-suc n k ∙ lowest-first w (n / 2) k (le-of-suc-le-suc l)) (λ e l. absurd (not-suc-le-zero l)) l
 
--- One less has every place of n but the lowest one, of those that n has.
+-- Of the places of n, n - 1 contains all but the lowest.
 one-less : (w n k : ℕ) → 0 < n → n < 2 ^ w → (bit n k && bit (n - 1) k) ≡ (bit n k && not (eqb k (trailingZeros w n)))
 unfolding trailingZeros
 one-less zero n k p h = absurd (omega arith)

@@ -29,13 +29,13 @@ mask-below (suc n) p = more-below n (maskOf n p) (p n) (mask-below n p)
 pub mask-below-width : (w n : ℕ) (p : ℕ → Bool) → n ≤ w → maskOf n p < 2 ^ w
 mask-below-width w n p l = wider l (mask-below n p)
 
--- ---- one more place, at the code's n + 1
+-- ---- one more place, with n + 1 as in the code
 
 pub mask-more : (n : ℕ) (p : ℕ → Bool) → maskOf (n + 1) p ≡ maskOf n p + cond (p n) (2 ^ n) 0
 unfolding maskOf
 mask-more n p = ap (λ (m : ℕ). maskOf m p) (add-one n)
 
--- The next place is above all others, so that adding it to the set is a sum.
+-- The next place is above all others, so adding it to the set is a sum.
 sum-added : (n m : ℕ) (t : Bool) → m < 2 ^ n → m + cond t (2 ^ n) 0 ≡ cond t (added m n) m
 sum-added n m true h =
     let joined : added m n ≡ 1 * 2 ^ n + m = ap (λ (x : ℕ). bitOr m x) (sym (one-mul (2 ^ n))) ∙ or-shifted-r 1 n m h in
@@ -45,13 +45,13 @@ sum-added n m false h = omega arith
 pub mask-more-added : (n : ℕ) (p : ℕ → Bool) → maskOf (n + 1) p ≡ cond (p n) (added (maskOf n p) n) (maskOf n p)
 mask-more-added n p = mask-more n p ∙ sum-added n (maskOf n p) (p n) (mask-below n p)
 
--- A set m with the next place, where the flag t says so, is the mask with one place more.
+-- The set m, with the next place added if the flag t is true, is the mask with one more place.
 pub mask-next : (n : ℕ) (p : ℕ → Bool) (m r : ℕ) (t : Bool) → r ≡ cond t (added m n) m → m ≡ maskOf n p → t ≡ p n
     → r ≡ maskOf (n + 1) p
 mask-next n p m r t next made e =
     next ∙ ap₂ (λ t (m : ℕ). cond t (added m n) m) e made ∙ sym (mask-more-added n p)
 
--- The same where the code shifts the place, in a word of w bits.
+-- The same if the code shifts the place, in a word of w bits.
 pub mask-shifted : (w n : ℕ) (p : ℕ → Bool) (m r : ℕ) → n < w → m ≡ maskOf n p → r ≡ cond (p n) (bitOr m (1 * 2 ^ n % 2 ^ w)) m
     → r ≡ maskOf (n + 1) p
 mask-shifted w n p m r l made e =
@@ -85,7 +85,7 @@ bit-mask-at n p k l = bit-mask n p k ∙ ap (λ t. t && p k) (lt-ltb k n l)
 
 -- ---- equal masks
 
--- A set of width n whose places pass the test is the mask of the test.
+-- A set of width n is the mask of a test if it contains exactly the places that pass the test.
 pub is-mask : (n m : ℕ) (p : ℕ → Bool) → m < 2 ^ n → ((k : ℕ) → k < n → bit m k ≡ p k) → m ≡ maskOf n p
 is-mask n m p h same = same-places n m (maskOf n p) h (mask-below n p) (λ k l. same k l ∙ sym (bit-mask-at n p k l))
 
@@ -110,7 +110,7 @@ mask-or n p q =
     is-mask n (bitOr (maskOf n p) (maskOf n q)) (λ k. p k || q k) (or-below n (maskOf n p) (maskOf n q) (mask-below n p) (mask-below n q))
     (λ k l. bit-or (maskOf n p) (maskOf n q) k ∙ ap₂ _||_ (bit-mask-at n p k l) (bit-mask-at n q k l))
 
--- Also where the masks have fewer places than the width w of the complement.
+-- Also if the masks have fewer places than the width w of the complement.
 pub mask-without : (w n : ℕ) (p q : ℕ → Bool) → n ≤ w → without w (maskOf n p) (maskOf n q) ≡ maskOf n (λ k. p k && not (q k))
 mask-without w n p q l =
     is-mask n (without w (maskOf n p) (maskOf n q)) (λ k. p k && not (q k)) (and-below n (maskOf n p) _ (mask-below n p))

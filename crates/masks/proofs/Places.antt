@@ -1,4 +1,4 @@
--- The places of each operation on sets, at any width, and the widths of its results. Assumes nothing.
+-- The places in the result of each operation on sets, at any width, and the width of the result. Assumes nothing.
 use mathlib.Core.Path.{_≡_, refl, sym, ap, ap₂, _∙_}
 use mathlib.Core.Bool.{Bool, true, false, cond, not, _&&_, _||_, and-true, and-false, or-false}
 use Prim.Native.Nat.{ℕ, zero, suc, _-_, _/_, _%_, _^_, _<_, _≤_, min, max}
@@ -27,7 +27,7 @@ min-test = by-digits (λ x y. eqb (min x y) 1 ≡ (eqb x 1 && eqb y 1)) refl ref
 max-test : (x y : ℕ) → x < 2 → y < 2 → eqb (max x y) 1 ≡ (eqb x 1 || eqb y 1)
 max-test = by-digits (λ x y. eqb (max x y) 1 ≡ (eqb x 1 || eqb y 1)) refl refl refl refl
 
--- An operation whose digits go by f has its places by the test g.
+-- An operation that combines digits with f combines places with the test g.
 module _ (op : ℕ → ℕ → ℕ) (f : ℕ → ℕ → ℕ) (g : Bool → Bool → Bool)
     (low : (a b : ℕ) → op a b % 2 ≡ f (a % 2) (b % 2))
     (rest : (a b : ℕ) → op a b / 2 ≡ op (a / 2) (b / 2))
@@ -58,7 +58,7 @@ bit-and = by-places bitAnd min _&&_ and-low and-rest min-test
 pub bit-or : (a b k : ℕ) → bit (bitOr a b) k ≡ (bit a k || bit b k)
 bit-or = by-places bitOr max _||_ or-low or-rest max-test
 
--- One set joined to another where a test says so.
+-- The union with another set if a test holds.
 pub bit-or-if : (a b k : ℕ) (t : Bool) → bit (cond t (bitOr a b) a) k ≡ (bit a k || (t && bit b k))
 bit-or-if a b k true = bit-or a b k
 bit-or-if a b k false = sym (or-false (bit a k))
@@ -116,13 +116,13 @@ bit-added n p k = bit-or n (2 ^ p) k ∙ ap (λ t. bit n k || t) (bit-single p k
 pub bit-removed : (w n p k : ℕ) → n < 2 ^ w → p < w → bit (removed w n p) k ≡ (bit n k && not (eqb k p))
 bit-removed w n p k h l = bit-without w n (2 ^ p) k h (pow-lt l) ∙ ap (λ t. bit n k && not t) (bit-single p k)
 
--- ---- one place, where a test says so: as the code adds and removes only a place below the width
+-- ---- one place, if a test holds: the code adds and removes only a place below the width
 
 pub bit-added-if : (n p k : ℕ) (t : Bool) → bit (cond t (added n p) n) k ≡ (bit n k || (eqb k p && t))
 bit-added-if n p k true = bit-added n p k ∙ ap (λ u. bit n k || u) (sym (and-true (eqb k p)))
 bit-added-if n p k false = sym (or-false (bit n k)) ∙ ap (λ u. bit n k || u) (sym (and-false (eqb k p)))
 
--- A place past the width is not in the set, so that there is nothing to remove.
+-- A place past the width is not in the set, so there is nothing to remove.
 pub bit-removed-if : (w n p k : ℕ) → n < 2 ^ w → bit (cond (ltb p w) (removed w n p) n) k ≡ (bit n k && not (eqb k p))
 bit-removed-if w n p k h = go (ltb p w) refl
   where
@@ -136,7 +136,7 @@ bit-removed-if w n p k h = go (ltb p w) refl
     go true e = bit-removed w n p k h (ltb-true p w e)
     go false e = absent (eqb k p) refl (ltb-false p w e)
 
--- ---- the results keep to the width
+-- ---- the results stay within the width
 
 pub wider : {w W n : ℕ} → w ≤ W → n < 2 ^ w → n < 2 ^ W
 wider fit h = lt-of-lt-of-le h (pow-mono fit)

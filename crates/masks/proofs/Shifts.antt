@@ -1,5 +1,5 @@
--- What the code's shifts come to, at any width: one place as a set, and the test that no place is at or above a count.
--- Assumes nothing.
+-- The results of the code's shifts, at any width: one place as a set, and the test that no place is at or above a
+-- count. Assumes nothing.
 use mathlib.Core.Path.{_≡_, refl, sym, ap, _∙_}
 use mathlib.Core.Bool.{Bool, true, false, cond}
 use Prim.Native.Nat.{ℕ, _-_, _*_, _/_, _%_, _^_, _<_, _≤_}
@@ -23,7 +23,7 @@ pub removes : (w n k : ℕ) → k < w → bitAnd n (2 ^ w - 1 - 1 * 2 ^ k % 2 ^ 
 removes w n k l =
     ap (λ (x : ℕ). bitAnd n (2 ^ w - 1 - x)) (one-shifted w k l) ∙ ap (λ t. cond t (removed w n k) n) (sym (lt-ltb k w l))
 
--- A digit 0 or 1, shifted to the place.
+-- Adding a digit, 0 or 1, that is shifted to the place.
 pub adds-digit : (w n k d : ℕ) → k < w → d < 2 → bitOr n (d * 2 ^ k % 2 ^ w) ≡ cond (eqb d 1) (added n k) n
 adds-digit w n k d l h =
     by-digit (λ (x : ℕ). bitOr n (x * 2 ^ k % 2 ^ w) ≡ cond (eqb x 1) (added n k) n)

@@ -1,4 +1,4 @@
--- Laws of `some`: what a passed or a failed search over the numbers below n tells. Assumes nothing.
+-- Laws of `some`: what follows if a search over the numbers below n succeeds, and if it fails. Assumes nothing.
 use mathlib.Core.Path.{_≡_, refl, sym, ap, ap₂, _∙_}
 use mathlib.Core.Bool.{Bool, true, false, _||_, false≢true, or-true}
 use mathlib.Core.Logic.{⊎-elim}
@@ -14,7 +14,7 @@ or-middle false true true d = refl
 or-middle false true false d = refl
 or-middle false false c d = refl
 
--- One more number, at the code's n + 1.
+-- One more number, with n + 1 as in the code.
 pub some-more : (n : ℕ) (p : ℕ → Bool) → some (n + 1) p ≡ (some n p || p n)
 unfolding some
 some-more n p = ap (λ (m : ℕ). some m p) (add-one n)

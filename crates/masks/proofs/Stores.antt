@@ -1,5 +1,5 @@
--- Lists of w numbers that a loop changes: one value stored at each of w places of a mask, in a word of W bits, and each
--- number changed in turn. Assumes nothing.
+-- Lists of w numbers that a loop changes: it stores one value at each place of a mask of w places, in a word of W bits,
+-- or it changes each number in turn. Assumes nothing.
 use mathlib.Core.Path.{_≡_, refl, sym, ap, ap₂, _∙_}
 use mathlib.Core.Bool.{Bool, true, false, cond, not, _&&_, and-true}
 use mathlib.Core.List.{List}
@@ -16,7 +16,7 @@ use Rattle.masks.specs.Sets.{bit}
 use Rattle.masks.proofs.Places.{bit-first}
 use Rattle.masks.proofs.Walks.{Left, left-first, left-more, lowest-place, bit-left, at-lowest, bit-none}
 
--- What a list has after one store.
+-- The elements of a list after one store.
 pub stored-at : (xs : List ℕ) (p v k : ℕ) → p < length xs → getD (set xs p v) k 0 ≡ cond (eqb k p) v (getD xs k 0)
 stored-at xs p v k l = go (eqb k p) refl
   where
@@ -26,7 +26,7 @@ stored-at xs p v k l = go (eqb k p) refl
 
 -- ---- one value at each place of a mask
 
--- The list so far, with the value at what is left of the mask, is the whole.
+-- The list so far, with the value stored at the places left in the mask, is the result.
 pub record Stored (w W v among : ℕ) (first : List ℕ) (left : ℕ) (out : List ℕ) : Type 0 where
   pub walk : Left w W left
   pub full : length out ≡ w
@@ -65,7 +65,7 @@ stored-last {v = v} {left = left} {out} e h k l = ap (λ t. cond t v (getD out k
 
 -- ---- each number changed in turn
 
--- The first q are changed, and the others are as they were.
+-- The first q numbers are changed, and the others are as they were.
 pub record Each (w : ℕ) (f : ℕ → ℕ) (first : List ℕ) (q : ℕ) (out : List ℕ) : Type 0 where
   pub within : q ≤ w
   pub full : length out ≡ w

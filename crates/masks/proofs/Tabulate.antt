@@ -1,5 +1,5 @@
--- Laws of `tabulate`, for any function and length: its length, its elements, one more, and an array that a loop fills
--- with it. Assumes nothing.
+-- Laws of `tabulate` for any function and length: its length, its elements, one more element, and an array that a loop
+-- fills with it. Assumes nothing.
 use Prim.Native.Nat.{ℕ, zero, suc, _+_, _<_, _≤_}
 use native.Mathlib.Nat.{le-refl, le-step, le-of-suc-le-suc, not-suc-le-zero, eq-or-lt-of-le}
 use native.Mathlib.Numerals.{add-one}
@@ -29,7 +29,7 @@ getD-tabulate (suc n) f i d l =
 pub getD-tabulate-past : (n : ℕ) (f : ℕ → ℕ) (i d : ℕ) → n ≤ i → getD (tabulate n f) i d ≡ d
 getD-tabulate-past n f i d l = List·getD-eq-default (tabulate n f) d {n = i} (omega (arith, length-tabulate n f))
 
--- One more, at the code's n + 1.
+-- One more element, with n + 1 as in the code.
 pub tabulate-more : (n : ℕ) (f : ℕ → ℕ) → tabulate (n + 1) f ≡ tabulate n f ++ (f n ∷ [])
 unfolding tabulate
 tabulate-more n f = ap (λ (m : ℕ). tabulate m f) (add-one n)
@@ -40,7 +40,7 @@ tabulate-agree zero f g same = refl
 tabulate-agree (suc n) f g same =
     ap₂ (λ l (x : ℕ). l ++ (x ∷ [])) (tabulate-agree n f g (λ i l. same i (le-step l))) (same n (le-refl (suc n)))
 
--- A loop that stores f i at place i: what it has filled, with one more, and the whole.
+-- A loop that stores f i at place i: one more place filled, and the whole array.
 pub fill-more : (xs : List ℕ) (i x : ℕ) (f : ℕ → ℕ) → i < length xs → take i xs ≡ tabulate i f → x ≡ f i
     → take (i + 1) (set xs i x) ≡ tabulate (i + 1) f
 fill-more xs i x f l filled e =

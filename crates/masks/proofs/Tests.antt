@@ -1,5 +1,5 @@
--- A number that is the mask of the w places that pass a test, and what the operations on words of W bits make of it.
--- Assumes nothing.
+-- Numbers that are the mask of the places below w that pass a test, and the masks that the operations on words of W
+-- bits make of them. Assumes nothing.
 use mathlib.Core.Path.{_≡_, refl, sym, ap, ap₂, _∙_}
 use mathlib.Core.Bool.{Bool, true, false, cond, not, _&&_, _||_, true≢false}
 use Prim.Native.Nat.{ℕ, _-_, _^_, _<_, _≤_}
@@ -30,13 +30,13 @@ by-bits {w} {P} {a} h same = record { is = is-mask w a P h same }
 pub agree-is : {w : ℕ} {P Q : ℕ → Bool} {a : ℕ} → ((k : ℕ) → k < w → P k ≡ Q k) → Mask w P a → Mask w Q a
 agree-is {w} {P} {Q} same m = record { is = m .is ∙ mask-agree w P Q same }
 
--- Two masks of one test.
+-- Two masks of the same test are equal.
 pub same-is : {w : ℕ} {P : ℕ → Bool} {a b : ℕ} → Mask w P a → Mask w P b → a ≡ b
 same-is ma mb = ma .is ∙ sym (mb .is)
 
--- ---- the masks to begin with
+-- ---- basic masks
 
--- A set of w places, and the first w places of any set.
+-- A set of width w, and the first w places of any set.
 pub own-is : (w n : ℕ) → n < 2 ^ w → Mask w (bit n) n
 own-is w n h = record { is = sym (mask-of-bits w n h) }
 
@@ -70,7 +70,7 @@ or-is {w} {P} {Q} ma mb = record { is = ap₂ bitOr (ma .is) (mb .is) ∙ mask-o
 pub without-is : {w : ℕ} {P Q : ℕ → Bool} {a b : ℕ} (W : ℕ) → w ≤ W → Mask w P a → Mask w Q b → Mask w (λ k. P k && not (Q k)) (without W a b)
 without-is {w} {P} {Q} W fit ma mb = record { is = ap₂ (without W) (ma .is) (mb .is) ∙ mask-without W w P Q fit }
 
--- With any number, of which only the first w places play a part.
+-- The other operand can be any number: only its first w places matter.
 pub and-any : {w : ℕ} {P : ℕ → Bool} {a : ℕ} → Mask w P a → (n : ℕ) → Mask w (λ k. P k && bit n k) (bitAnd a n)
 and-any {w} {P} {a} m n =
     by-bits (and-below w a n (below-is m)) (λ k l. bit-and a n k ∙ ap (λ t. t && bit n k) (bit-is m k l))
@@ -79,7 +79,7 @@ pub any-and : {w : ℕ} {P : ℕ → Bool} {a : ℕ} (n : ℕ) → Mask w P a �
 any-and {w} {P} {a} n m =
     by-bits (lt-of-le-of-lt (and-le-r n a) (below-is m)) (λ k l. bit-and n a k ∙ ap (λ t. bit n k && t) (bit-is m k l))
 
--- ---- one place in, or out
+-- ---- one place added or removed
 
 pub in-is : {w : ℕ} {P : ℕ → Bool} {a : ℕ} (W p : ℕ) → w ≤ W → p < w → Mask w P a → Mask w (λ k. P k || eqb k p) (cond (ltb p W) (added a p) a)
 in-is {w} {P} {a} W p fit l m =
@@ -102,7 +102,7 @@ all-but w W p fit = out-is W p fit (all-is w)
 
 -- ---- empty sets
 
--- A set with no place is empty, and so are two with no place in either.
+-- A mask is empty exactly if no place passes its test. If the union of two masks is empty, both are.
 pub no-place : {w : ℕ} {P : ℕ → Bool} {a : ℕ} → Mask w P a → ((k : ℕ) → k < w → P k ≡ false) → a ≡ 0
 no-place {w} m none = same-is (agree-is none m) (none-is w)
 

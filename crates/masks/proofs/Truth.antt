@@ -1,4 +1,4 @@
--- Cases on truth values: what `and` and `or` tell of their parts, and what the parts tell of them. Assumes nothing.
+-- Cases on truth values: what `and` and `or` imply for their parts, and the parts for them. Assumes nothing.
 use mathlib.Core.Path.{_≡_, refl, sym}
 use mathlib.Core.Bool.{Bool, true, false, not, _&&_, _||_, false≢true}
 use mathlib.Core.Logic.{_⊎_, inl, inr}
@@ -24,7 +24,7 @@ and-three false b c e = absurd (false≢true e)
 pub and-all-three : (a b c : Bool) → a ≡ true → b ≡ true → c ≡ true → (a && (b && c)) ≡ true
 and-all-three a b c e f g = and-both a (b && c) e (and-both b c f g)
 
--- Where `a and not b` is false, a gives b.
+-- If `a and not b` is false, a implies b.
 pub and-not-false : (a b : Bool) → (a && not b) ≡ false → a ≡ true → b ≡ true
 and-not-false true true e f = refl
 and-not-false true false e f = sym e

@@ -1,5 +1,5 @@
--- The walk through the places of a mask, the lowest first: what is left of the mask, what is kept of it by a test, and
--- whether one of its places passes a test. The mask has w places, in a word of W bits. Assumes nothing.
+-- The walk through the places of a mask, the lowest first: what is left of the mask, which places a test keeps, and
+-- whether one of the places passes a test. The mask has w places, in a word of W bits. Assumes nothing.
 use mathlib.Core.Path.{_≡_, refl, sym, ap, ap₂, _∙_}
 use mathlib.Core.Bool.{Bool, true, false, cond, not, _&&_, _||_, true≢false, false≢true, and-true, and-false, or-false}
 use Prim.Native.Nat.{ℕ, _-_, _^_, _<_, _≤_}
@@ -63,7 +63,7 @@ pub kept-first : {w W all : ℕ} (P : ℕ → Bool) → Left w W all → Kept w 
 kept-first {w} {W} {all} P h =
     record { walk = h; width = pow-pos w; places = λ k l. ap (λ t. t || bit all k && P k) (bit-zero k) }
 
--- The place e goes from what is left to what is kept.
+-- Moving place e from the places left to the places kept does not change the result.
 moved : (o l e t u : Bool) → (e ≡ true → (l ≡ true) × (u ≡ t)) → (o || e && u || l && not e && t) ≡ (o || l && t)
 moved true l e t u h = refl
 moved false l false t u h = ap (λ x. x && t) (and-true l)
@@ -95,7 +95,7 @@ kept-last {w} {P = P} {all} {left} {out} e h =
     is-mask w out (λ k. bit all k && P k) (h .width)
     (λ k l. sym (or-false (bit out k)) ∙ ap (λ t. bit out k || t && P k) (sym (bit-none left k e)) ∙ h .places k l)
 
--- With no candidate nothing is kept.
+-- If there are no candidates, nothing is kept.
 pub none-kept : (w : ℕ) (P : ℕ → Bool) (all : ℕ) → all ≡ 0 → 0 ≡ maskOf w (λ k. bit all k && P k)
 none-kept w P all e =
     sym (mask-none w) ∙ mask-agree w (λ k. false) (λ k. bit all k && P k) (λ k l. ap (λ t. t && P k) (sym (bit-none all k e)))
@@ -108,7 +108,7 @@ someOf w P mask = some w (λ k. bit mask k && P k)
 pub some-last : (w : ℕ) (P : ℕ → Bool) (left : ℕ) → left ≡ 0 → someOf w P left ≡ false
 some-last w P left e = some-none w (λ k. bit left k && P k) (λ k l. ap (λ t. t && P k) (bit-none left k e))
 
--- It is the one at p, or one of the others.
+-- The place that passes is p, or it is one of the others.
 one-or-others : (L P : ℕ → Bool) (n p : ℕ) → p < n → L p ≡ true → (P p || some n (λ k. L k && not (eqb k p) && P k)) ≡ some n (λ k. L k && P k)
 one-or-others L P n p l h = go (P p) refl
   where
@@ -129,7 +129,7 @@ some-lowest {w} {W} {n} P l p =
     (λ k m. ap (λ t. t && P k) (bit-left l p k)))
     ∙ one-or-others (bit n) P w (trailingZeros W n) (lowest-place l p) (lowest-bit l p)
 
--- The search: none of the places looked at passes the test.
+-- The search so far: no place that was checked passes the test.
 pub record Sought (w W : ℕ) (P : ℕ → Bool) (among left : ℕ) : Type 0 where
   pub walk : Left w W left
   pub same : someOf w P left ≡ someOf w P among

@@ -1,5 +1,5 @@
--- Clauses 1.6 and 2.6: sets of small numbers as the bits of one number. A mask has bit p for processor p, an entry's
--- names bit r for resource r. A set of width w is a number below 2 ^ w.
+-- Clauses 1.6 and 2.6: sets of small numbers as the bits of one number. Bit p of a mask is processor p, and bit r of an
+-- entry's names is resource r. A set of width w is a number below 2 ^ w.
 use Prim.Native.Nat.{ℕ, zero, suc, _+_, _-_, _/_, _%_, _^_}
 use mathlib.Core.Bool.{Bool, true, false, cond, not, _||_}
 use lib.Bits.{bitAnd, bitOr}
@@ -44,8 +44,8 @@ unfoldable pub countOf : ℕ → (ℕ → Bool) → ℕ
 countOf zero p = 0
 countOf (suc n) p = countOf n p + cond (p n) 1 0
 
--- The lowest number below n that passes the test; n where none does. That it passes, and no smaller one does, is proved
--- beside it.
+-- The lowest number below n that passes the test, or n if none does. proofs/Counts.antt proves that it passes and that
+-- no smaller number does.
 unfoldable pub lowestOf : ℕ → (ℕ → Bool) → ℕ
 lowestOf zero p = 0
 lowestOf (suc n) p = cond (some n p) (lowestOf n p) (cond (p n) n (suc n))

@@ -1,4 +1,4 @@
--- A function's values as a list, for arrays that have a number for each entry or processor.
+-- The values of a function as a list, for arrays that contain a number for each entry or processor.
 use Prim.Native.Nat.{ℕ, zero, suc}
 use mathlib.Core.List.{List, [], _∷_, _++_}
 

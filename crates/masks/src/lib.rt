@@ -1,5 +1,6 @@
-// Sets of small numbers as the bits of an integer: u32 for processors, u64 for resources and entries. No code: definitions
-// in specs/, laws for any width in proofs/. `masks32` and `masks64` carry them out.
+// Sets of small numbers as the bits of an integer: u32 for processors, u64 for resources and entries. The definitions
+// are in specs/, and their laws for any width are in proofs/. The crates that check plans, find conflicts, settle
+// requests and answer queries use it.
 mod masks32;
 mod masks64;
 mod tabulation;

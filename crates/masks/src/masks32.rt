@@ -1,5 +1,5 @@
-// Sets of numbers below 32 as the bits of a u32: sets of processors. A place from 32 on is in no set; adding or removing
-// it changes nothing.
+// Sets of numbers below 32 as the bits of a u32: sets of processors. A place of 32 or more is in no set, and adding or
+// removing it changes nothing.
 ghost use mathlib.Core.Path.{_≡_};
 ghost use mathlib.Core.Bool.{cond};
 ghost use lib.Bits.{bitOr};
@@ -13,14 +13,14 @@ pub fn has32(set: u32, k: u32) -> bool
     if k < 32 { (set >> k) % 2 == 1 } else { false }
 }
 
-// The set with place k in it.
+// The set with place k added.
 pub fn add32(set: u32, k: u32) -> u32
     ensures { λ r. ⌜ r ≡ cond (ltb k 32) (added set k) set ⌝ }
 {
     if k < 32 { set | (1 << k) } else { set }
 }
 
-// The set with place k out of it.
+// The set with place k removed.
 pub fn remove32(set: u32, k: u32) -> u32
     ensures { λ r. ⌜ r ≡ cond (ltb k 32) (removed 32 set k) set ⌝ }
 {
@@ -34,7 +34,7 @@ pub fn without32(a: u32, b: u32) -> u32
     a & !b
 }
 
-// The set, joined with another where the test says so.
+// The union of both sets if the test holds, else the first set.
 pub fn join_if(set: u32, other: u32, test: bool) -> u32
     ensures { λ r. ⌜ r ≡ cond test (bitOr set other) set ⌝ }
 {

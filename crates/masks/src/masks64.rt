@@ -1,5 +1,5 @@
-// Sets of numbers below 64 as the bits of a u64: sets of resources and of entries. A place from 64 on is in no set;
-// adding it changes nothing.
+// Sets of numbers below 64 as the bits of a u64: sets of resources or of entries. A place of 64 or more is in no set,
+// and adding it changes nothing.
 ghost use mathlib.Core.Path.{_≡_};
 ghost use mathlib.Core.Bool.{cond};
 ghost use Prim.Native.Nat.{_^_};
@@ -13,7 +13,7 @@ pub fn has64(set: u64, k: u32) -> bool
     if k < 64 { (set >> k) % 2 == 1 } else { false }
 }
 
-// The set with place k in it.
+// The set with place k added.
 pub fn add64(set: u64, k: u32) -> u64
     ensures { λ r. ⌜ r ≡ cond (ltb k 64) (added set k) set ⌝ }
 {
@@ -27,7 +27,7 @@ pub fn meet64(row: u64, set: u64) -> bool
     row & set != 0
 }
 
-// Whether every place of the set is below the count. With 64 or more every place is.
+// Whether every place of the set is below the count. If the count is 64 or more, this is true for every set.
 pub fn below64(set: u64, count: u32) -> bool
     ensures { λ r. ⌜ r ≡ ltb set (2 ^ count) ⌝ }
 {

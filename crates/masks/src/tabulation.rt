@@ -1,9 +1,9 @@
-// A list with a number for each entry or processor, as the arrays of a board and a state are: `tabulate` is a function's
-// values in a row. Here is the read of one of them.
+// Reads from a list that contains a number for each entry, such as the rows of a board. The definition `tabulate` makes
+// such lists.
 ghost use mathlib.Core.Path.{_≡_};
 ghost use lib.ListN.{getD};
 
-// The entries that an entry conflicts with: its row of the rows. Past the rows there are none.
+// The row of an entry: the set of the entries that it conflicts with. Past the last row the set is empty.
 pub fn row_at(rows: &[u64], entry: u32) -> u64
     ensures { λ r. ⌜ r ≡ getD (now (rows .entry)) entry 0 ⌝ }
 {

@@ -1,5 +1,4 @@
--- What the checks of the queries tell of an accepted one, and the direct waits of a counted processor.
--- Assumes nothing.
+-- What follows when the checks of a query accept it, and the direct waits of a processor that counts. Assumes nothing.
 use Prim.Native.Nat.{ℕ, _<_, _≤_}
 use mathlib.Core.Path.{_≡_, refl, ap, _∙_}
 use mathlib.Core.List.{List}

@@ -1,5 +1,5 @@
--- A chain of direct waits, however long, can be had with as many waits as a state holds processors: to reach is to have
--- a chain, on every board and state. Assumes nothing.
+-- If a chain of direct waits leads from p to q, however long, then so does one with at most as many waits as a state
+-- has places. So p reaches q exactly if there is a chain, on every board and state. Assumes nothing.
 use Prim.Native.Nat.{ℕ, zero, suc, _≤_}
 use mathlib.Core.Path.{_≡_, refl, subst}
 use mathlib.Core.Bool.{Bool, true, false, _&&_, false≢true}
@@ -47,7 +47,7 @@ module _ (b : Board) (s : State) where
   chained-chain zero p q e = absurd (chained-nothing p q e)
   chained-chain (suc n) p q e = chained-cases n p q e direct (λ r w f. through w (chained-chain n r q f))
 
-  -- More waits may be had than are needed.
+  -- A chain of at most n waits is also one of at most n + 1.
   chained-more : (n p q : ℕ) → chained b s n p q ≡ true → chained b s (suc n) p q ≡ true
   chained-more zero p q e = absurd (chained-nothing p q e)
   chained-more (suc n) p q e =
@@ -64,7 +64,7 @@ module _ (b : Board) (s : State) where
       (λ less. chained-more n p q (chained-up-to m n p q (le-of-suc-le-suc less) e))
       (eq-or-lt-of-le l)
 
-  -- Where m + 1 waits lead from no more processors to q than m waits do, m waits are enough for every chain to q.
+  -- If m + 1 waits lead to q from no more processors than m waits do, then m waits are enough for every chain to q.
   enough : (m q : ℕ) → Within slots (λ p. chained b s (suc m) p q) (λ p. chained b s m p q) → (p : ℕ) → Chain b s p q → chained b s m p q ≡ true
   enough m q stable p (direct e) = stable p (waits-below b s p q e .0) (chained-direct m p q e)
   enough m q stable p (through {r = r} e c) = stable p (waits-below b s p r e .0) (chained-through m p r q e (enough m q stable r c))
@@ -79,7 +79,7 @@ module _ (b : Board) (s : State) where
   unfolding reaches
   reaches-chain p q = chained-chain slots p q
 
-  -- Clause 7.3: reach goes by chains of any length.
+  -- Clause 7.3: to reach is to have a chain, of any length.
   pub reaches-is-chain : (p q : ℕ) → (reaches b s p q ≡ true) ↔ Chain b s p q
   reaches-is-chain p q = (reaches-chain p q, chain-reaches p q)
 

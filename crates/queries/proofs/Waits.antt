@@ -1,4 +1,4 @@
--- Who waits for whom: the four ways, and that both are processors of the plan that a state holds, on every board and
+-- Who waits for whom: the four ways. Both are processors of the plan and have a place in a state, on every board and
 -- state. Assumes nothing.
 use Prim.Native.Nat.{ℕ, _<_}
 use mathlib.Core.Path.{_≡_, sym, _∙_}
@@ -32,7 +32,7 @@ module _ (f : Facts) (ph : Phases) (p q : ℕ) where
   abbrev c : Bool
   c = conflicts f p q
 
-  -- The four lines of the definition, in its order.
+  -- The four cases of the definition, in its order.
   abbrev way1 : Bool
   way1 = entitledRead f ph p && (holdingWrite f ph q && c)
 
@@ -80,7 +80,7 @@ module _ (f : Facts) (ph : Phases) (p q : ℕ) where
       let earlier : earlierWrite ≡ true = and-all-three (isEarlier f q p) (active ph q) (isWriter f q) before a w in
       or-right way1 _ (or-right way2 _ (or-right way3 way4 (and-all-three (waitingWrite f ph p) earlierWrite c h earlier x)))
 
--- ---- both are the plan's, and among those that a state holds
+-- ---- both are the plan's, and have a place in a state
 
 marked-passes : (w : ℕ) (test : ℕ → Bool) (k : ℕ) → bit (maskOf w test) k ≡ true → test k ≡ true
 marked-passes w test k e = and-right (ltb k w) (test k) (sym (bit-mask w test k) ∙ e)

@@ -1,4 +1,4 @@
--- The whole board: each processor's part is what the single queries answer for it, and the code's parts are those.
+-- The whole board: each processor's part is what the single queries answer for it, and the code makes these parts.
 -- Assumes nothing.
 use Prim.Native.Nat.{ℕ, suc, _+_, _*_, _≤_, _<_}
 use mathlib.Core.Path.{_≡_, refl, sym, ap, ap₂, _∙_}
@@ -30,7 +30,7 @@ module _ (b : Board) (s : State) where
   abbrev k : ℕ
   k = maskSizeOf b
 
-  -- The part of p stands behind the count and the parts of those before it.
+  -- The part of p comes after the count and the parts of the processors before p.
   pub part-in-list : (p : ℕ) → p < listed b
       → take (partSize k) (drop (1 + partSize k * p) (boardBytes b s)) ≡ boardPart b s p
   unfolding boardPart listBytes
@@ -44,7 +44,7 @@ module _ (b : Board) (s : State) where
       let plans : p < b .terms .processors = omega arith in
       rw (lt-ltb p slots slot, lt-ltb p (b .terms .processors) plans)
 
-  -- For a processor that is listed the single queries refuse nothing, and their answers are in its part.
+  -- For a processor that is listed, the single queries refuse nothing, and its part contains their answers.
   pub part-is-queries : (p : ℕ) → p < listed b
       → (phaseQuery b s p .number ≡ 0) × (waitsQuery b s p .number ≡ 0)
       × (take (partSize k) (drop (1 + partSize k * p) (boardBytes b s))
@@ -55,7 +55,7 @@ module _ (b : Board) (s : State) where
       let none = listed-counted p l in
       (none, none, rw none (part-in-list p l))
 
-  -- The code's parts, by the phases that count and the direct waits of all.
+  -- The parts as the code makes them, from the phases that count and the direct waits of all processors.
   module _ (ph : Phases) (waits : List ℕ) (counted : ph ≡ phasesOf b s) (direct : waits ≡ directRows b s) where
     part-found : (p : ℕ) → p < listed b → partIn k ph (s .last) (s .entry) (s .since) waits p ≡ boardPart b s p
     unfolding partIn boardPart stateNumber

@@ -6,7 +6,7 @@ use Rattle.queries.specs.declared.query_answers.Phase.{Phase}
 use Rattle.queries.specs.declared.query_answers.PhaseAnswer.{PhaseAnswer}
 use Rattle.queries.specs.declared.query_answers.MaskAnswer.{MaskAnswer}
 
--- Clause 7.1: the states by number.
+-- Clause 7.1: the numbers of the states.
 abbrev pub phaseNumber : Phase → ℕ
 phaseNumber Phase.Idle = 0
 phaseNumber Phase.Waiting = 1

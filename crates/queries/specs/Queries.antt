@@ -1,4 +1,4 @@
--- The state of a processor, its direct waits, and all that it reaches. Specification, section 7.
+-- The state of a processor, its direct waits, and its reach. Specification, section 7.
 use Prim.Native.Nat.{ℕ, zero, suc}
 use mathlib.Core.Bool.{Bool, true, false, _&&_, _||_}
 use mathlib.Core.List.{List}
@@ -16,11 +16,11 @@ use Rattle.board_list.specs.Fields.{stateIn}
 use Rattle.queries.specs.Words.{wordCount, wordsOf, wordsSize}
 use Rattle.waits.specs.Waits.{waitsIn}
 
--- Clauses 7.1 and 4.10: the state of processor p is that of its request, where that counts; else p is idle.
+-- Clauses 7.1 and 4.10: the state of processor p is the state of its request, if that counts; otherwise p is idle.
 unfoldable pub stateNumber : Board → State → ℕ → ℕ
 stateNumber b s p = stateIn (phasesOf b s) p
 
--- Clause 7.5: 11 for a processor that is not the plan's, else the state.
+-- Clause 7.5: 11 for a processor that is not the plan's, otherwise the state.
 abbrev pub phaseQuery : Board → State → ℕ → Said
 phaseQuery b s p = said (processorFault (b .terms) p) (stateNumber b s p)
 
@@ -42,8 +42,8 @@ unfoldable pub chained : Board → State → ℕ → ℕ → ℕ → Bool
 chained b s zero p q = false
 chained b s (suc n) p q = waitsFor b s p q || some slots (λ r. waitsFor b s p r && chained b s n r q)
 
--- Clause 7.3: p reaches q. Among so many processors no chain needs more waits; that this is `Chain`, of any length, is
--- proved beside it.
+-- Clause 7.3: p reaches q. Among so many processors no chain needs more waits. proofs/Chains.antt proves that this is
+-- the same as a `Chain` of any length.
 unfoldable pub reaches : Board → State → ℕ → ℕ → Bool
 reaches b s p q = chained b s slots p q
 
@@ -51,12 +51,12 @@ reaches b s p q = chained b s slots p q
 abbrev pub maskSizeOf : Board → ℕ
 maskSizeOf b = maskSizeFor (b .terms .processors)
 
--- Clause 7.4: how many bytes of scratch m processors need: 32 for up to 16, 128 for more.
+-- Clause 7.4: how many bytes of scratch m processors need: 32 for up to 16 processors, 128 for more.
 abbrev pub scratchSize : ℕ → ℕ
 scratchSize m = wordsSize (maskSizeFor m)
 
--- Clause 7.4: the scratch has a word for each processor that has a bit in a word, and a word has as many bytes as a
--- mask: in word p bit q is set where p reaches q, else clear.
+-- Clause 7.4: the scratch contains a word for each processor that has a bit in a word, and a word has as many bytes as
+-- a mask. Bit q of word p is set if p reaches q, and clear if not.
 unfoldable pub reachBytes : Board → State → List ℕ
 reachBytes b s = wordsOf (maskSizeOf b) (wordCount (maskSizeOf b)) (λ p. maskOf slots (reaches b s p))
 
@@ -65,10 +65,10 @@ unfoldable pub reachFault : Board → ℕ → List ℕ → ℕ
 reachFault b p scratch =
     firstOf (processorFault (b .terms) p) (roomFault (scratchSize (b .terms .processors)) (length scratch) 0)
 
--- Clause 7.3: the mask of all that processor p reaches.
+-- Clause 7.3: the mask of all processors that p reaches.
 abbrev pub reachQuery : Board → State → ℕ → List ℕ → Said
 reachQuery b s p scratch = said (reachFault b p scratch) (maskOf slots (reaches b s p))
 
--- Clauses 7.4 and 7.5: the scratch after the query. Bytes behind the words stay, and on a refusal all do.
+-- Clauses 7.4 and 7.5: the scratch after the query. Bytes after the words stay, and after a refusal all bytes do.
 unfoldable pub reachScratch : Board → State → ℕ → List ℕ → List ℕ
 reachScratch b s p scratch = bufferAfter (reachFault b p scratch) (reachBytes b s) scratch 0

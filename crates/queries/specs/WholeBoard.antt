@@ -28,14 +28,14 @@ boardPart b s p =
 abbrev pub boardBytes : Board → State → List ℕ
 boardBytes b s = listBytes (listed b) (boardPart b s)
 
--- Clause 7.9: 16 for a buffer that is too short, and for nothing else.
+-- Clause 7.9: 16 for a buffer that is too short; nothing else is refused.
 abbrev pub boardFault : Board → List ℕ → ℕ
 boardFault b buffer = listFault (maskSizeOf b) (listed b) buffer
 
--- Clause 7.9: how many bytes it takes.
+-- Clause 7.9: how many bytes the list takes.
 abbrev pub boardQuery : Board → List ℕ → Said
 boardQuery b buffer = said (boardFault b buffer) (listSize (maskSizeOf b) (listed b))
 
--- Clause 7.9: the buffer after it. Bytes behind the list stay, and on a refusal all do.
+-- Clause 7.9: the buffer after the query. Bytes after the list stay, and after a refusal all bytes do.
 abbrev pub boardBuffer : Board → State → List ℕ → List ℕ
 boardBuffer b s buffer = listBuffer (maskSizeOf b) (listed b) (boardPart b s) buffer

@@ -14,15 +14,15 @@ wordsOf k n f = inTurn n (λ p. bytesOf k (f p))
 abbrev pub wordCount : ℕ → ℕ
 wordCount k = 8 * k
 
--- Clause 7.4: how many bytes these words take: 32 of words of two bytes, 128 of words of four.
+-- Clause 7.4: how many bytes these words take: 32 for words of two bytes, 128 for words of four.
 abbrev pub wordsSize : ℕ → ℕ
 wordsSize k = k * wordCount k
 
--- Clauses 7.4 and 8.1: 16 for a scratch that is too short for them.
+-- Clauses 7.4 and 8.1: 16 for a scratch that is too short for these words.
 abbrev pub wordsFault : ℕ → List ℕ → ℕ
 wordsFault k scratch = roomFault (wordsSize k) (length scratch) 0
 
--- Clause 7.4: the scratch with the rows. Bytes behind them stay, and on a refusal all do.
+-- Clause 7.4: the scratch with the rows. Bytes after them stay, and after a refusal all bytes do.
 abbrev pub wordsScratch : ℕ → List ℕ → List ℕ → List ℕ
 wordsScratch k rows scratch =
     bufferAfter (wordsFault k scratch) (wordsOf k (wordCount k) (λ p. getD rows p 0)) scratch 0

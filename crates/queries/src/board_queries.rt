@@ -1,5 +1,5 @@
-// The whole board in one buffer, in one pass: who writes and which requests count is worked out once. Specification,
-// clauses 7.7 to 7.9.
+// The whole board in one buffer, in one pass: which requests write and which count is computed only once.
+// Specification, clauses 7.7 to 7.9.
 use encoding::Outcome;
 use plans::ENTRIES;
 use plans::SLOTS;
@@ -15,8 +15,8 @@ ghost use Rattle.encoding.specs.Buffers.{outcomeSays};
 ghost use Rattle.rules.specs.InPlace.{boardBy, stateBy};
 ghost use Rattle.queries.specs.WholeBoard.{boardQuery, boardBuffer};
 
-// Fills the buffer with the list and answers how many bytes it took; bytes behind it stay. The parts of a board and a
-// state are lent, as to a call in place. Refuses by 16 a buffer that is too short, and then writes nothing.
+// Fills the buffer with the list and returns how many bytes it took; bytes after it stay. The parts of a board and a
+// state are lent, as in a call in place. A buffer that is too short is refused with 16, and then nothing is written.
 pub fn list_board_in_place(
     terms: Terms,
     rows: &[u64; ENTRIES],

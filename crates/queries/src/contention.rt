@@ -1,4 +1,4 @@
-// Which resource two entries of a board fight over: what an integrator asks who sees that they conflict. Nothing is
+// Which resources two entries of a board conflict over, for an integrator who sees that they conflict. Nothing is
 // changed.
 use conflicts::Conflict;
 use conflicts::conflict_by;
@@ -19,7 +19,7 @@ pub enum SharedAnswer {
     Refused(Refusal),
 }
 
-// The conflict of two entries, by which entries are writes, and the names and widened sets of all.
+// The conflict of two entries, given which entries are writes and the names and widened sets of all entries.
 fn conflict_in(
     writes: u64,
     names: &[u64; ENTRIES],
@@ -45,7 +45,8 @@ fn conflict_in(
     )
 }
 
-// Clause 7.10: what two entries of a board conflict over, with the board's names and widened sets lent. Refuses by 12.
+// Clause 7.10: what two entries of a board conflict over, with the board's names and widened sets lent. Refused with
+// 12.
 pub fn shared_on(
     terms: Terms,
     names: &[u64; ENTRIES],
@@ -64,7 +65,7 @@ pub fn shared_on(
     SharedAnswer::Is(conflict_in(terms.writes, names, widened, first, second))
 }
 
-// The same of a board by value.
+// The same with the board by value.
 pub fn shared_by(board: Board, first: u8, second: u8) -> SharedAnswer
     ensures { λ r. ⌜ sharedSays r ≡ sharedQuery board first second ⌝ }
 {

@@ -1,5 +1,6 @@
-// What a viewer asks of a state, as definitions (specs/): who holds and who waits, for whom, and for whom by a chain.
-// `phase_queries`, `wait_queries` and `reach_queries` answer it, and `board_queries` the whole board at once.
+// The queries on a board and a state (specification, section 7): the state of a processor, its direct waits, the list
+// of the whole board, and what two entries conflict over. specs/ also defines reach, which the crate `reach` computes.
+// `c_boards`, `c_queries`, `reach` and the test programs `query_listing` and `conflict_listing` use it.
 mod board_queries;
 mod contention;
 mod phase_queries;

@@ -1,4 +1,4 @@
-// The state of a processor: whether it holds, waits or is idle. Nothing is changed. Specification, clause 7.1.
+// The state of a processor: idle, waiting, entitled or holding. Nothing is changed. Specification, clause 7.1.
 use crate::query_answers::Phase;
 use crate::query_answers::PhaseAnswer;
 use crate::query_checks::check_processor;
@@ -17,7 +17,7 @@ ghost use Rattle.queries.specs.Answers.{phaseNumber, phaseSays};
 ghost use Rattle.queries.specs.Queries.{phaseQuery};
 ghost use Rattle.queries.specs.Parts.{boardWith, stateWith};
 
-// The phase of processor p, by the masks of phases.
+// The phase of processor p, from the masks of the phases.
 fn phase_at(phases: Phases, p: u32) -> Phase
     ensures { λ r. ⌜ phaseNumber r ≡ stateIn phases p ⌝ }
 {
@@ -34,7 +34,7 @@ fn phase_at(phases: Phases, p: u32) -> Phase
     }
 }
 
-// The state of a processor, with the parts of a board and a state lent, as to a call in place. Refuses by 11.
+// The state of a processor, with the parts of a board and a state lent, as in a call in place. Refused with 11.
 pub fn phase_in_place(
     terms: Terms,
     entries: &[u8; SLOTS],

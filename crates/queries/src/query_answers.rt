@@ -1,9 +1,8 @@
-// What the queries of one processor answer, and the number of a state. Specification, section 7.
+// The answers of the queries about one processor, and the number of a state. Specification, section 7.
 use refusals::Refusal;
 ghost use mathlib.Core.Path.{_≡_};
 ghost use Rattle.queries.specs.Answers.{phaseNumber};
 
-// The state of a processor.
 pub enum Phase {
     Idle,
     Waiting,

@@ -1,4 +1,4 @@
-// When a query of one processor is refused. Specification, clause 7.5. `reach_checks` has more for a reach.
+// When a query about one processor is refused. Specification, clause 7.5. The crate `reach` also checks its scratch.
 use plans::SLOTS;
 use refusals::Refusal;
 use refusals::Verdict;
@@ -8,7 +8,7 @@ ghost use mathlib.Core.Path.{_≡_};
 ghost use Rattle.refusals.specs.Number.{verdictNumber};
 ghost use Rattle.rules.specs.Faults.{processorFault};
 
-// Clause 7.5: refuses by 11 a processor that is not the plan's.
+// Clause 7.5: refuses with 11 a processor that is not the plan's.
 pub fn check_processor(terms: Terms, processor: u8) -> Verdict
     ensures { λ r. ⌜ verdictNumber r ≡ processorFault terms processor ⌝ }
 {

@@ -1,4 +1,4 @@
-// For whom a processor waits directly. Nothing is changed. Specification, clause 7.2.
+// The direct waits of a processor. Nothing is changed. Specification, clause 7.2.
 use crate::query_answers::MaskAnswer;
 use crate::query_checks::check_processor;
 use plans::ENTRIES;
@@ -33,7 +33,7 @@ pub fn direct_rows(
     waits_of_all(rows, terms.writes, entry, earlier, counted)
 }
 
-// The direct waits of a processor, a mask, with the parts of a board and a state lent. Refuses by 11.
+// The direct waits of a processor, as a mask, with the parts of a board and a state lent. Refused with 11.
 pub fn direct_waits_in_place(
     terms: Terms,
     rows: &[u64; ENTRIES],

@@ -1,5 +1,5 @@
-// The bytes of the whole board's list as hexadecimal digits, and of 16 bytes behind it. The buffer is filled with 170
-// before.
+// The bytes of the whole board's list and of the 16 bytes after it, as hexadecimal digits. The buffer is filled with
+// 170 first.
 use crate::text::Page;
 use crate::text::put_bytes;
 use board_list::list_size;
@@ -8,7 +8,7 @@ use queries::list_board;
 use rules::Board;
 use rules::State;
 
-// The bytes of the longest list, and of what is behind it.
+// The size of the longest list and of the bytes after it.
 const MOST: usize = 17 + 10 * SLOTS;
 
 pub fn put_list(page: Page, board: Board, state: State) -> Page {

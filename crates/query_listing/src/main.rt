@@ -1,6 +1,6 @@
-// Replays a log from standard input, and after each call prints what the queries answer for every processor and
-// one past the last: its number, state, direct waits and reach; then the bytes of the whole board's list, and those of
-// a scratch after a reach. A test program: its output is compared with another's.
+// Test program: replays a log from standard input, and after each call prints what the queries answer for every
+// processor and one past the last: its number, state, direct waits and reach; then the bytes of the whole board's list,
+// and those of a scratch after a reach. Its output is compared with another program's.
 mod board_line;
 mod input;
 mod query_line;
@@ -32,7 +32,7 @@ use text::print;
 use text::put;
 use text::put_line;
 
-// The processors that are asked for: all that a state holds, and one past them.
+// The processors that are asked for: all that have a place in a state, and one more.
 const ASKED: u8 = SLOTS as u8 + 1;
 
 // The state before a call, and the input from its record on.
@@ -74,7 +74,7 @@ fn print_call(board: Board, state: State, bytes: [u8; INPUT_ROOM]) -> RanBlock {
     ran
 }
 
-// A call, and then the input as far as it is needed with so many calls left: none after the end.
+// A call, and then as much of the input as is needed with so many calls left: none after the end.
 fn take_turn(board: Board, turn: Turn, left: u16) -> Turn {
     let state = turn.state;
     let input = turn.input;

@@ -28,7 +28,7 @@ fn put_mask(line: Line, answer: MaskAnswer, digits: usize) -> Line {
     }
 }
 
-// Two digits for each byte of a mask. The scratch is as large as a reach needs, so that none is refused for it.
+// Two digits for each byte of a mask. The scratch has as much room as a reach needs, so that none is refused for it.
 fn put_waits(line: Line, board: Board, state: State, processor: u8) -> Line {
     let mut scratch = [0u8; MOST_ROOM];
     let digits = 2 * mask_size(board.terms.processors);

@@ -1,5 +1,5 @@
-// The bytes of the scratch after processor 0's reach as hexadecimal digits, and of 16 bytes behind it. The scratch is
-// filled with 170 before.
+// The bytes of the scratch after processor 0's reach and of the 16 bytes after it, as hexadecimal digits. The scratch
+// is filled with 170 first.
 use crate::text::Page;
 use crate::text::put_bytes;
 use reach::MOST_ROOM;
@@ -8,7 +8,7 @@ use reach::room_of;
 use rules::Board;
 use rules::State;
 
-// The bytes of the longest scratch, and of what is behind it.
+// The size of the longest scratch and of the bytes after it.
 const MOST: usize = MOST_ROOM + 16;
 
 pub fn put_scratch(page: Page, board: Board, state: State) -> Page {

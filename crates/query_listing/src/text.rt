@@ -1,11 +1,11 @@
-// Text by value: a short line is made piece by piece, and a page collects the lines of one call, which are written at
-// once. Both have room for all that is put there; a place is taken modulo the room so that it is in range.
+// Text by value: a short line is built piece by piece, and a page collects the lines of one call, which are written
+// together. Both have room for all that is added; a place is taken modulo the room so that it is in range.
 use libc::STDOUT_FILENO;
 
-// The longest line that is made by pieces has 23 bytes: a number, a state and two masks.
+// The longest line that is built from pieces has 23 bytes: a number, a state and two masks.
 const LINE_ROOM: usize = 32;
 
-// All lines of a call have less than 2000 bytes.
+// All lines of a call take less than 2000 bytes.
 pub const PAGE_ROOM: usize = 2048;
 
 pub struct Line {

@@ -1,5 +1,5 @@
--- Numbers that are due: what 0 tells of the parts, what a test or a verdict that is known makes of them, and the order
--- of several. Assumes nothing.
+-- Numbers that are due: what follows for the parts if the number is 0, the number for a known test or verdict, and the
+-- order of several numbers. Assumes nothing.
 use Prim.Native.Nat.{ℕ, zero, suc, _<_}
 use mathlib.Core.Path.{_≡_, refl, sym, ap, _∙_}
 use mathlib.Core.Bool.{Bool, true, false}
@@ -64,7 +64,7 @@ first-refuses v w h = rw (positive-not-zero v h)
 pub first-passes : (v w : ℕ) → v ≡ 0 → firstOf v w ≡ w
 first-passes v w e = rw e
 
--- The same of a verdict that is known.
+-- The same for a known verdict.
 pub first-accepts-verdict : (v : Verdict) (w : ℕ) → v ≡ Verdict.Accepted → firstOf (verdictNumber v) w ≡ w
 first-accepts-verdict v w e = rw e
 
@@ -78,7 +78,7 @@ first-assoc (suc n) b c = rw (eqb·suc-zero n, eqb·suc-zero n)
 pub first-of-four : (a b c d : ℕ) → firstOf a (firstOf b (firstOf c d)) ≡ firstOf (firstOf a (firstOf b c)) d
 first-of-four a b c d = sym (first-assoc a (firstOf b c) d ∙ ap (λ v. firstOf a v) (first-assoc b c d))
 
--- What comes after a fault does not matter.
+-- The checks after a fault do not matter.
 pub first-same : (a b c : ℕ) → (a ≡ 0 → b ≡ c) → firstOf a b ≡ firstOf a c
 first-same zero b c h = h refl
 first-same (suc n) b c h = rw (eqb·suc-zero n)

@@ -1,4 +1,4 @@
--- The numbers of the words of refusal. Specification, section 8.
+-- The number of each refusal word. Specification, section 8.
 use Prim.Native.Nat.{ℕ}
 use Rattle.refusals.specs.declared.Refusal.{Refusal}
 use Rattle.refusals.specs.declared.Refusal.the-variants.{Short, Tail, Processors, Resources, Entries, Kind, Set, Length, Verb, Tick, Processor, Entry, Busy, Idle, Unheld, Room, Held, Register}
@@ -25,7 +25,7 @@ numberOf Room = 16
 numberOf Held = 17
 numberOf Register = 18
 
--- A verdict in numbers: 0 if accepted, else the refusal's number.
+-- A verdict as a number: 0 if accepted, else the refusal's number.
 abbrev pub verdictNumber : Verdict → ℕ
 verdictNumber Verdict.Accepted = 0
 verdictNumber (Verdict.Refused r) = numberOf r

@@ -1,14 +1,15 @@
-// Why a plan, a log record, a query or a call is refused: a variant and a number for each word of clause 8.1.
+// Why a plan, a log record, a query, a call or a register access is refused: a variant and a number for each word of
+// clause 8.1. Every crate that refuses something uses it.
 ghost use mathlib.Core.Path.{_≡_};
 ghost use Rattle.refusals.specs.Number.{numberOf, verdictNumber};
 ghost use Rattle.refusals.specs.Due.{due, firstOf};
 
 pub enum Refusal {
-    // Bytes end before a count, an entry or a call that is due.
+    // The bytes end before a count, an entry or a call that is due.
     Short,
-    // Bytes stand behind the last call of a log.
+    // There are bytes after the last call of a log.
     Tail,
-    // A count of processors that is not 1 to 16.
+    // A count of processors that is not 1 to 32.
     Processors,
     // A count of resources that is not 1 to 64.
     Resources,
@@ -16,25 +17,26 @@ pub enum Refusal {
     Entries,
     // A kind that is neither 0 nor 1.
     Kind,
-    // No names, or one that is not counted.
+    // An entry without names, or with one that is not counted.
     Set,
     // A length of 0.
     Length,
-    // A verb above 2, or a completion or a withdrawal with an entry.
+    // A verb above 3, or a completion or a withdrawal with an entry.
     Verb,
     // A tick below the last accepted one, or above the largest.
     Tick,
-    // A processor that is not the plan's.
+    // A processor that is not one of the plan's.
     Processor,
-    // An entry that is not the plan's.
+    // An entry that is not one of the plan's.
     Entry,
     // An issue while the processor's request is active.
     Busy,
-    // A completion or a withdrawal with no active request.
+    // A completion, a withdrawal or a handover with no active request.
     Idle,
-    // A completion while the request is unsatisfied.
+    // A completion or a handover while the request is unsatisfied.
     Unheld,
-    // Too few bytes from the position, a position past the end, or a scratch that is too short.
+    // Too few bytes from the position on, a position past the end, or a scratch or a buffer for a list that is too
+    // short.
     Room,
     // A withdrawal of a request that holds.
     Held,
@@ -42,7 +44,7 @@ pub enum Refusal {
     Register,
 }
 
-// Whether something is taken: a plan, an entry, a record, a call.
+// Whether something is accepted: a plan, an entry, a record, a call.
 pub enum Verdict {
     Accepted,
     Refused(Refusal),
@@ -85,7 +87,7 @@ pub fn refuse_unless(holds: bool, refusal: Refusal) -> Verdict
     }
 }
 
-// The earlier of two checks decides.
+// Of two checks, the earlier one decides if it refuses.
 pub fn first_of(earlier: Verdict, later: Verdict) -> Verdict
     ensures { λ r. ⌜ verdictNumber r ≡ firstOf (verdictNumber earlier) (verdictNumber later) ⌝ }
 {

@@ -6,8 +6,8 @@ use lib.Dec.{eqb}
 use Rattle.rules.specs.declared.calls.Call.{Call}
 use Rattle.registers.specs.Registers.{processorIn, requestedIn, tickIn}
 
--- Clause 10.7: the call that a command makes of the registers: 1 issues, 2 completes, 3 withdraws, 4 hands over. A
--- completion and a withdrawal take no notice of the entry.
+-- Clause 10.7: the call that a command makes from the registers: 1 issues, 2 completes, 3 withdraws, 4 hands over. A
+-- completion and a withdrawal ignore the entry.
 unfoldable pub commandCall : List ℕ → ℕ → Call
 commandCall bytes command =
     cond (eqb command 1) (Call.Issue (processorIn bytes) (requestedIn bytes) (tickIn bytes))

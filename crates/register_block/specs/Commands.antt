@@ -15,7 +15,7 @@ use Rattle.register_block.specs.Registers.{repliedBlock}
 use Rattle.register_block.specs.declared.commands.Change.{Change}
 use Rattle.register_block.specs.declared.commands.Written.{Written}
 
--- What a write answers, 0 or 18, and the block and the state after it.
+-- What a write returns, 0 or 18, and the block and the state after it.
 pub record WriteAnswer : Type 0 where
   pub number : ℕ
   pub block : Block
@@ -24,19 +24,19 @@ pub record WriteAnswer : Type 0 where
 abbrev pub unmoved : ℕ → Block → State → WriteAnswer
 unmoved number block state = record { number = number; block = block; state = state }
 
--- Clauses 10.8 and 10.9: a command that was answered, by acceptance or by refusal, is an accepted write.
+-- Clauses 10.8 and 10.9: a command that the arbiter answers, whether it accepts or refuses it, is an accepted write.
 abbrev pub carriedOut : Block → Answer → WriteAnswer
 carriedOut block answer =
     record { number = 0; block = repliedBlock (block .bytes) (answer .reply); state = answer .state }
 
--- Clause 10.7: writing a command: 0 changes nothing, and one above 4 is refused by 18.
+-- Clause 10.7: writing a command: 0 changes nothing, and one above 4 is refused with 18.
 unfoldable pub commanded : Board → State → Block → ℕ → WriteAnswer
 commanded board state block command =
     cond (eqb command 0) (unmoved 0 block state)
     (cond (ltb 4 command) (unmoved 18 block state)
     (carriedOut block (answered board state (commandCall (block .bytes) command))))
 
--- Clauses 10.5 to 10.7: by the register. What is refused leaves block and state as they were.
+-- Clauses 10.5 to 10.7: one case for each register. A refused write leaves block and state as they were.
 abbrev pub writtenTo : Register → Board → State → Block → ℕ → ℕ → WriteAnswer
 writtenTo Register.Command board state block offset value = commanded board state block value
 writtenTo Register.Argument board state block offset value = unmoved 0 (stored block offset value) state

@@ -1,5 +1,5 @@
 // What the reply to a command leaves in the registers of a block. Specification, clauses 10.8 and 10.9. `command_calls`
-// has what a command takes from them.
+// reads what a command takes from them.
 use encoding::write_number;
 use refusals::number;
 use registers::BLOCK;
@@ -13,7 +13,7 @@ ghost use lib.ListN.{set};
 ghost use Rattle.rules.specs.Replies.{replySays};
 ghost use Rattle.register_block.specs.Registers.{withMask, acceptedBlock, repliedBlock};
 
-// The bytes with a mask in four of them.
+// The bytes with a mask stored in four of them.
 fn put_mask(bytes: [u8; BLOCK], place: usize, mask: u64) -> [u8; BLOCK]
     requires { ⌜ place + 4 ≤ 32 ⌝ }
     ensures { λ r. ⌜ r ≡ withMask place mask bytes ⌝ }
@@ -23,7 +23,7 @@ fn put_mask(bytes: [u8; BLOCK], place: usize, mask: u64) -> [u8; BLOCK]
     kept
 }
 
-// Clause 10.8: the answer of an accepted command, in the registers.
+// Clause 10.8: stores the answer to an accepted command in the registers.
 fn accept(bytes: [u8; BLOCK], granted: u32, entitled: u32, late: u8) -> Block
     ensures { λ r. ⌜ r ≡ acceptedBlock bytes (replySays (Reply.Done granted entitled late)) ⌝ }
 {
@@ -36,7 +36,7 @@ fn accept(bytes: [u8; BLOCK], granted: u32, entitled: u32, late: u8) -> Block
     with_line(third)
 }
 
-// Clause 10.9: the number of a refused command, in its register.
+// Clause 10.9: stores the number of a command's refusal in its register.
 fn refuse(bytes: [u8; BLOCK], number: u8) -> Block
     ensures { λ r. ⌜ r ≡ record { bytes = set bytes 3 number } ⌝ }
 {

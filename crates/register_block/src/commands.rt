@@ -12,19 +12,19 @@ ghost use mathlib.Core.Path.{_≡_};
 ghost use Rattle.rules.specs.InPlace.{boardBy};
 ghost use Rattle.register_block.specs.Commands.{commanded, changeSays};
 
-// Whether a write is taken, and the state after it.
+// Whether a write is accepted, and the state after it.
 pub struct Written {
     pub verdict: Verdict,
     pub state: State,
 }
 
-// The block after a write, and what the write answers.
+// The block after a write, and what the write returns.
 pub struct Change {
     pub block: Block,
     pub written: Written,
 }
 
-// A verdict, with the block and the state as they are.
+// A verdict, with the block and the state unchanged.
 pub fn unmoved(verdict: Verdict, block: Block, state: State) -> Change
     ensures { λ r. ⌜ r ≡ record { block = block; written = record { verdict = verdict; state = state } } ⌝ }
 {
@@ -37,7 +37,7 @@ pub fn unmoved(verdict: Verdict, block: Block, state: State) -> Change
     }
 }
 
-// Clause 10.7: a command is carried out.
+// Clause 10.7: carries out a command.
 pub fn command(
     terms: Terms,
     rows: &[u64; ENTRIES],

@@ -1,5 +1,6 @@
-// The register block as a driver knows it: lent to a call, and changed by it. Each function takes the block apart,
-// calls the one by value, and puts the block back. The arbiter's state goes in by value and comes back.
+// The register block as a driver uses it: the driver lends the block to each read and write, and passes the arbiter's
+// state by value (specification, section 10). `registers` defines the block. `register_listing` uses this crate, and
+// `register_runs` proves what holds after every run.
 mod command_calls;
 mod command_registers;
 mod commands;
@@ -19,14 +20,14 @@ ghost use Rattle.rules.specs.InPlace.{boardBy};
 ghost use Rattle.registers.specs.Registers.{registerRead, registerSays};
 ghost use Rattle.register_block.specs.Commands.{registerWrite, writtenSays};
 
-// Reads an offset of the block. Refused by 18.
+// Reads an offset of the block. Refused with 18.
 pub fn read_register(block: &Block, offset: u8) -> ReadAnswer
     ensures { λ r. ⌜ registerSays r ≡ registerRead (now (block .entry)) offset ⌝ }
 {
     read(*block, offset)
 }
 
-// Writes a byte to an offset of the block. Refused by 18; then block and state stay as they were.
+// Writes a byte to an offset of the block. Refused with 18; then block and state stay as they were.
 pub fn write_register(
     block: &mut Block,
     terms: Terms,

@@ -15,7 +15,7 @@ ghost use mathlib.Core.Path.{_≡_};
 ghost use Rattle.rules.specs.InPlace.{boardBy};
 ghost use Rattle.register_block.specs.Commands.{registerWrite, changeSays};
 
-// Writes a byte to an offset of a block. Refused by 18.
+// Writes a byte to an offset of a block. Refused with 18.
 pub fn write(
     terms: Terms,
     rows: &[u64; ENTRIES],

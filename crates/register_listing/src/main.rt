@@ -1,7 +1,7 @@
-// Reads a plan from standard input, and then operations on a register block, 3 bytes each: 0 reads and 1 writes, the
-// offset, and the value, which is 0 for a read. Prints a line for each: `r OFFSET VALUE` or `w OFFSET VALUE`, with
-// `refused 18` where it is, and the bytes of the block after it. It ends at the end of the input, or at what is no
-// operation. A test program: its output is compared with another's.
+// Test program: reads a plan from standard input, and then operations on a register block, 3 bytes each: 0 to read or 1
+// to write, the offset, and the value, which is 0 for a read. Prints a line for each: `r OFFSET VALUE` or `w OFFSET
+// VALUE`, with `refused 18` if it is refused, and the bytes of the block after it. It ends at the end of the input, or
+// at bytes that are not an operation. Its output is compared with another program's.
 mod driver;
 mod text;
 
@@ -28,12 +28,12 @@ use text::put_block;
 use text::put_number;
 use text::put_word;
 
-// The bytes of the input's buffer, which holds the longest plan, and of an operation.
+// The size of the input's buffer, which has room for the longest plan, and of an operation.
 const INPUT_ROOM: usize = 4096;
 
 const OPERATION: usize = 3;
 
-// How many counts of bytes the buffer can have, from none to all.
+// How many counts of bytes are possible in the buffer, from none to all.
 const COUNTS: usize = INPUT_ROOM + 1;
 
 // What a driver keeps.
@@ -43,7 +43,7 @@ struct Kept {
     block: Block,
 }
 
-// The input's bytes that are read and not yet used are the first ones.
+// The bytes of the input that were read and not yet used come first.
 struct Input {
     bytes: [u8; INPUT_ROOM],
     have: usize,
@@ -69,7 +69,7 @@ fn write_line(offset: u8, value: u8, verdict: Verdict) -> Line {
     }
 }
 
-// A line with the bytes of the block behind it.
+// Prints a line, and the bytes of the block after it.
 fn print_line(line: Line, block: Block) {
     let bytes = block.bytes;
     print(put(put_block(put(line, 32), bytes), 10));
@@ -95,7 +95,7 @@ fn write_at(kept: Kept, offset: u8, value: u8) -> Kept {
     }
 }
 
-// The operation in front of the input, printed.
+// Carries out the operation at the start of the input, and prints it.
 fn operate(kept: Kept, input: Input) -> Kept {
     let offset = input.bytes[1];
     if input.bytes[0] == 0 {
@@ -107,14 +107,14 @@ fn operate(kept: Kept, input: Input) -> Kept {
     }
 }
 
-// Whether an operation is in front of the input.
+// Whether an operation is at the start of the input.
 fn has_operation(input: Input) -> bool {
     let kind = input.bytes[0];
     let value = input.bytes[2];
     (OPERATION <= input.have) & ((kind == 1) | ((kind == 0) & (value == 0)))
 }
 
-// So many bytes are used, and behind them the next operation is read, as far as the input goes.
+// So many bytes are used. After them the next operation is read, as far as the input goes.
 fn after(input: Input, used: usize) -> Input {
     let mut bytes = input.bytes;
     let first = bring_to_front(&mut bytes, used, input.have);
@@ -128,8 +128,8 @@ fn after(input: Input, used: usize) -> Input {
     }
 }
 
-// A proved loop has to end, and nothing says that the input does. So it counts its turns down, from a number that no
-// run uses up.
+// A proved loop must end, and nothing states that the input does. So the loop counts its turns down, from a number that
+// no run uses up.
 fn take_turns(first: Kept, given: Input) {
     let mut kept = first;
     let mut input = given;

@@ -1,8 +1,8 @@
-// The text of a line, by value: each function gives the line with more behind it.
+// The text of a line, by value: each function returns the line with more text at its end.
 use libc::STDOUT_FILENO;
 use registers::BLOCK;
 
-// More than the longest line has.
+// More than the size of the longest line.
 const LINE_ROOM: usize = 96;
 
 // The bytes of a line so far, and how many they are.

@@ -1,5 +1,5 @@
--- The bytes of a block: what stores and an accepted command leave of pending, of the line, and of the reply. Assumes
--- nothing.
+-- The bytes of a block: what stores and an accepted command leave in pending, in the interrupt line, and in the reply.
+-- Assumes nothing.
 use Prim.Native.Nat.{ℕ, zero, suc, _+_, _/_, _%_, _^_, _≤_, _<_}
 use mathlib.Core.Path.{_≡_, refl, sym, ap, ap₂, subst, _∙_}
 use mathlib.Core.Bool.{Bool, true, false, cond, not, _&&_, _||_, and-true, or-false}
@@ -26,7 +26,7 @@ use Rattle.register_runs.specs.Steps.{replyIn}
 use Rattle.register_runs.proofs.Bytes.{bit-number, getD-slice, listed, by-elements}
 use Rattle.register_runs.proofs.Replies.{Holdable}
 
--- A block of 32 bytes, of which the pending ones are bytes indeed.
+-- A block of 32 bytes whose pending registers are below 256.
 pub record Whole (bytes : List ℕ) : Type 0 where
   pub full : length bytes ≡ 32
   pub small : AreBytes (slice 20 24 bytes)
@@ -38,7 +38,7 @@ pending-bit bytes h p few =
     let inside : 20 + p / 8 < 24 = omega arith in
     bit-number (slice 20 24 bytes) (h .small) p ∙ ap (λ (x : ℕ). bit x (p % 8)) (getD-slice 20 24 bytes (p / 8) inside)
 
--- ---- the line at its place
+-- ---- the interrupt line at its offset
 
 at-line : (l : List ℕ) → length l ≡ 32 → (x : ℕ) → getD (set l 28 x) 28 0 ≡ x
 at-line l e x = getD-set-same l 28 x 0 (omega arith)
@@ -126,7 +126,7 @@ module _ (bytes : List ℕ) (h : Whole bytes) (o v : ℕ) where
   unfolding stored
   stored-line = line-right (set bytes o new) (set-whole .full)
 
-  -- A bit is cleared where a one is written to it, and every other stays.
+  -- A bit is cleared if a 1 is written to it, and every other bit stays.
   pub stored-pending : (p : ℕ) → p < 32
       → bit (pendingIn (stored (record { bytes = bytes }) o v .bytes)) p ≡ (bit (pendingIn bytes) p && not (eqb o (20 + p / 8) && bit v (p % 8)))
   unfolding stored cleared
@@ -170,7 +170,7 @@ module _ (bytes : List ℕ) (h : Whole bytes) (x : ℕ) where
 
 -- ---- an accepted command
 
--- What stands in the block, before the line is put there.
+-- What the block contains before the interrupt line is stored.
 pub record Answered (bytes : List ℕ) (reply : Response) (l : List ℕ) : Type 0 where
   pub full : length l ≡ 32
   pub pending : slice 20 24 l ≡ bytesOf 4 (joined (pendingIn bytes) (reply .granted))

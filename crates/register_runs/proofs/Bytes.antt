@@ -1,4 +1,4 @@
--- Bits of a number in bytes, and lists of which every element is known. Assumes nothing.
+-- Bits of a number in bytes, and lists whose elements are all known. Assumes nothing.
 use Prim.Native.Nat.{ℕ, zero, suc, _+_, _-_, _*_, _/_, _%_, _^_, _≤_, _<_}
 use mathlib.Core.Path.{_≡_, refl, sym, ap, ap₂, subst, _∙_}
 use mathlib.Core.Bool.{Bool, true, false}
@@ -75,7 +75,7 @@ unfolding listed
 is-listed [] = refl
 is-listed (x ∷ l) = ap (λ r. x ∷ r) (is-listed l)
 
--- What holds of all lists of n elements, each written out, holds of a list of that length.
+-- What is true of all lists of n elements, each written out, is true of every list of that length.
 pub by-elements : (n : ℕ) (P : List ℕ → Type 0) → ((f : ℕ → ℕ) → P (listed n f)) → (l : List ℕ) → length l ≡ n → P l
 by-elements n P h l e =
     subst P (sym (is-listed l ∙ ap (λ (m : ℕ). listed m (λ i. getD l i 0)) e)) (h (λ i. getD l i 0))

@@ -1,5 +1,5 @@
--- What every answer of the arbiter has: masks that four bytes hold, and a refusal that is its number alone. Assumes
--- nothing.
+-- What is true of every answer of the arbiter: its masks fit into four bytes, and a refusal is its number alone.
+-- Assumes nothing.
 use Prim.Native.Nat.{ℕ, _^_, _<_}
 use mathlib.Core.Path.{_≡_, refl}
 use mathlib.Core.Bool.{Bool, true, false, cond, true≢false}
@@ -14,7 +14,7 @@ use Rattle.rules.specs.declared.states.State.{State}
 use Rattle.rules.specs.Faults.{issueFault, handoverFault}
 use Rattle.rules.specs.Calls.{Answer, phasesOf, putState, takenState, done, ruled, settledDone, issued, left, completed, withdrawn, both, handedOver, answered}
 
--- A reply that registers can hold.
+-- A reply that fits into the registers.
 pub record Holdable (r : Response) : Type 0 where
   pub granted : r .granted < 2 ^ 32
   pub entitled : r .entitled < 2 ^ 32

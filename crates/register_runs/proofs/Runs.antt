@@ -1,5 +1,5 @@
--- Every run of reads, writes and direct calls from a block of zeros: what is pending, the line, and the calls. Assumes
--- nothing.
+-- Every run of reads, writes and direct calls from a block of zeros: what is pending, the interrupt line, and the
+-- calls. Assumes nothing.
 use Prim.Native.Nat.{ℕ, suc, _+_, _/_, _%_, _<_}
 use mathlib.Core.Path.{_≡_, refl, sym, ap, ap₂, subst, _∙_}
 use mathlib.Core.Bool.{Bool, true, false, cond, not, _&&_, _||_, and-true, or-false, or-true, true≢false}
@@ -31,7 +31,7 @@ use Rattle.register_runs.proofs.Replies.{answer-holdable}
 use Rattle.register_runs.proofs.Blocks.{Whole, stored-whole, stored-line, stored-pending, replied-whole, replied-line, replied-pending, replied-reply}
 use Rattle.register_runs.proofs.Writes.{Wrote, unchanged, kept, carried, wrote}
 
--- What every block of a run has.
+-- What is true of every block of a run.
 record Sound (d : Device) : Type 0 where
   whole : Whole (d .block .bytes)
   line : getD (d .block .bytes) 28 0 ≡ lineOf (d .block .bytes)
@@ -62,7 +62,7 @@ step-sound b d (writes o v) h = go (wrote b (d .state) (d .block) v o)
           line = subst (λ (w : WriteAnswer). getD (w .block .bytes) 28 0 ≡ lineOf (w .block .bytes)) (sym e) (replied-line (d .block .bytes) (h .whole) a held (h .line));
         }
 
--- Bits are set by grants and cleared by ones that are written to them, and by nothing else.
+-- A grant sets a bit, a 1 that is written to the bit clears it, and nothing else changes it.
 step-pending : (b : Board) (d : Device) (s : Step) → Sound d → (p : ℕ) → p < 32
     → bit (pendingIn (stepped b d s .block .bytes)) p ≡ ((bit (pendingIn (d .block .bytes)) p || grants b d s p) && not (clears s p))
 step-pending b d (reads o) h p few = sym (and-true _ ∙ or-false _)
@@ -94,7 +94,7 @@ step-pending b d (writes o v) h p few = go (wrote b (d .state) (d .block) v o)
         ∙ replied-pending (d .block .bytes) (h .whole) _ (answer-holdable b (d .state) (commandCall (d .block .bytes) v)) p few
         ∙ sym (ap₂ (λ t u. (was || (t && granted)) && not (u && bit v (p % 8))) c (free (p / 8) byte) ∙ and-true _)
 
--- The replies that are seen are those of the calls, and the state is theirs.
+-- The replies that are seen are those of the calls, and so is the state.
 step-seen : (b : Board) (d : Device) (s : Step) → Sound d → seenIn b d s ≡ events b (d .state) (callsIn d s)
 unfolding events
 step-seen b d (reads o) h = refl
@@ -215,7 +215,7 @@ calls-of-run b steps = record { replies = after-seen b freshDevice steps fresh-s
 
 -- ---- a grant's bit
 
--- A command that grants writes no one to a pending bit.
+-- A command that grants writes no 1 to a pending bit.
 grant-clears-none : (b : Board) (d : Device) (s : Step) (p : ℕ) → p < 32 → grants b d s p ≡ true → clears s p ≡ false
 grant-clears-none b d (reads o) p few g = refl
 grant-clears-none b d (calls c) p few g = refl
@@ -232,7 +232,7 @@ grant-clears-none b d (writes o v) p few g = go (wrote b (d .state) (d .block) v
     go (kept c e) = absurd (true≢false (sym g ∙ ap (λ t. t && granted) c))
     go (carried c free e) = ap (λ t. t && bit v (p % 8)) (free (p / 8) byte)
 
--- Where no one is written to it, it stays.
+-- If no 1 is written to the bit, it stays.
 stays : (b : Board) (d : Device) (other : Step) (later : List Step) (p : ℕ) → ((i : ℕ) → i < length later → clears (getD later i other) p ≡ false)
     → unanswered b d true later p ≡ true
 unfolding unanswered

@@ -19,7 +19,7 @@ use Rattle.register_block.specs.Commands.{unmoved, carriedOut, commanded, writt
 use Rattle.register_runs.specs.Steps.{carries}
 use Rattle.register_runs.proofs.Blocks.{pending-place}
 
--- The offset is none of the four pending ones.
+-- The offset is not one of the four pending ones.
 abbrev pub Apart : ℕ → Type 0
 Apart o = (k : ℕ) → k < 4 → eqb o (20 + k) ≡ false
 
@@ -29,7 +29,7 @@ pub data Wrote (b : Board) (s : State) (block : Block) (o v : ℕ) : Type 0 wher
   carried : carries o v ≡ true → Apart o
       → registerWrite b s block o v ≡ carriedOut block (answered b s (commandCall (block .bytes) v)) → Wrote b s block o v
 
--- ---- by the register
+-- ---- by register
 
 at-zero : registerAt 0 ≡ Command
 unfolding registerAt

@@ -17,31 +17,31 @@ use Rattle.register_runs.specs.Steps.{Step, Device, freshDevice, after, 
 abbrev pub bytesAfter : Board → List Step → List ℕ
 bytesAfter b steps = after b freshDevice steps .block .bytes
 
--- Clause 10.12: a processor's bit is pending exactly where a command granted the processor and no one was written to
+-- Clause 10.12: a processor's bit is pending exactly if a command granted the processor and no 1 has been written to
 -- the bit since.
 abbrev pub PendingAreGrants : Board → List Step → Type 0
 PendingAreGrants b steps =
     (p : ℕ) → p < 32 → bit (pendingIn (bytesAfter b steps)) p ≡ unanswered b freshDevice false steps p
 
--- Clause 10.12: whatever comes before and after a command that grants a processor, its bit is pending as long as none
--- of the steps after it writes a one there.
+-- Clause 10.12: whatever comes before and after a command that grants a processor, the processor's bit is pending as
+-- long as none of the later steps writes a 1 to it.
 abbrev pub GrantStays : Board → List Step → Step → List Step → Type 0
 GrantStays b before command later =
     (p : ℕ) → p < 32 → grants b (after b freshDevice before) command p ≡ true
     → ((i : ℕ) → i < length later → clears (getD later i command) p ≡ false)
     → bit (pendingIn (bytesAfter b (before ++ command ∷ later))) p ≡ true
 
--- Clause 10.13: byte 28 is the line: 1 where some bit is both pending and enabled, else 0.
+-- Clause 10.13: byte 28 is the interrupt line: 1 if some bit is both pending and enabled, otherwise 0.
 abbrev pub LineIsRight : Board → List Step → Type 0
 LineIsRight b steps = getD (bytesAfter b steps) 28 0 ≡ lineOf (bytesAfter b steps)
 
--- Clause 10.14: the commands and the direct calls are a list of calls to the arbiter: the replies in the registers, and
--- the state, are those of the list.
+-- Clause 10.14: the commands and the direct calls are a list of calls to the arbiter: the replies that the registers
+-- show, and the state, are those of the list.
 pub record CallsOfRun (b : Board) (steps : List Step) : Type 0 where
   pub replies : seenOf b freshDevice steps ≡ events b freshState (callsOf b freshDevice steps)
   pub state : after b freshDevice steps .state ≡ stateAfter b freshState (callsOf b freshDevice steps)
 
--- Clauses 10.12 to 10.14: all of it, for the arbiter of a plan, with what demand 3 says of the list of calls.
+-- Clauses 10.12 to 10.14: all of it, for the arbiter of a plan, with demand 3 for the list of calls.
 pub record RegisterRuns (p : Plan) (steps : List Step) : Type 0 where
   pub pending : PendingAreGrants (boardOf p) steps
   pub line : LineIsRight (boardOf p) steps

@@ -1,4 +1,4 @@
--- Runs of steps on a register block and the arbiter behind it. Specification, section 10.
+-- Runs of steps on a register block and its arbiter. Specification, section 10.
 use Prim.Native.Nat.{ℕ, _+_, _/_, _%_}
 use mathlib.Core.Bool.{Bool, false, cond, not, _&&_, _||_}
 use mathlib.Core.List.{List, [], _∷_, _++_}
@@ -23,7 +23,7 @@ pub data Step : Type 0 where
   writes : (offset value : ℕ) → Step
   calls : Call → Step
 
--- The block, and the state of the arbiter behind it.
+-- The block, and the state of its arbiter.
 pub record Device : Type 0 where
   pub block : Block
   pub state : State
@@ -58,20 +58,20 @@ grants b d (writes offset value) p =
     carries offset value && bit (answered b (d .state) (commandCall (d .block .bytes) value) .reply .granted) p
 grants b d (calls c) p = false
 
--- Clause 10.12: the step writes a one to processor p's pending bit, which is bit p % 8 of offset 20 + p / 8.
+-- Clause 10.12: the step writes a 1 to processor p's pending bit, which is bit p % 8 of offset 20 + p / 8.
 abbrev pub clears : Step → ℕ → Bool
 clears (reads offset) p = false
 clears (writes offset value) p = eqb offset (20 + p / 8) && bit value (p % 8)
 clears (calls c) p = false
 
--- Clause 10.12: processor p has been granted by a command, and no one has been written to its bit since. `was` is
--- whether that holds before the run.
+-- Clause 10.12: a command has granted processor p, and no 1 has been written to its bit since. `was` says whether this
+-- was true before the run.
 unfoldable pub unanswered : Board → Device → Bool → List Step → ℕ → Bool
 unanswered b d was [] p = was
 unanswered b d was (s ∷ later) p =
     unanswered b (stepped b d s) ((was || grants b d s p) && not (clears s p)) later p
 
--- Clause 10.14: the calls that a step makes of the arbiter.
+-- Clause 10.14: the calls that a step makes to the arbiter.
 abbrev pub callsIn : Device → Step → List Call
 callsIn d (reads offset) = []
 callsIn d (writes offset value) = cond (carries offset value) (commandCall (d .block .bytes) value ∷ []) []
@@ -81,15 +81,15 @@ unfoldable pub callsOf : Board → Device → List Step → List Call
 callsOf b d [] = []
 callsOf b d (s ∷ later) = callsIn d s ++ callsOf b (stepped b d s) later
 
--- Clause 10.14: the reply to the last command, as a driver reads it off the registers.
+-- Clause 10.14: the reply to the last command, as a driver reads it from the registers.
 abbrev pub replyIn : List ℕ → Response
 replyIn bytes =
     cond (eqb (refusalIn bytes) 0)
     (record { number = 0; granted = grantedIn bytes; entitled = entitledIn bytes; late = lateIn bytes })
     (refusedWith (refusalIn bytes))
 
--- Clause 10.14: the calls of a step with their replies: a command's as the registers have it after the step, a direct
--- call's as it was answered.
+-- Clause 10.14: the calls of a step with their replies: for a command the reply in the registers after the step, for a
+-- direct call its answer.
 abbrev pub seenIn : Board → Device → Step → List Event
 seenIn b d (reads offset) = []
 seenIn b d (writes offset value) =

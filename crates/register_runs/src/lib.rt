@@ -1,2 +1,2 @@
-// Runs of reads, writes and direct calls on a register block, and what holds after each. No code: definitions in
-// specs/, theorems in proofs/.
+// What holds after every run of reads, writes and direct calls on a register block (specification, section 10). No
+// code: definitions are in specs/, theorems in proofs/. `demands` uses the theorems.

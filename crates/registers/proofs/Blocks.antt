@@ -1,4 +1,4 @@
--- The line as the code works it out. Assumes nothing.
+-- The interrupt line as the code computes it. Assumes nothing.
 use Prim.Native.Nat.{ℕ, _^_, _<_}
 use mathlib.Core.Path.{_≡_, ap₂, _∙_}
 use mathlib.Core.List.{List}
@@ -6,7 +6,7 @@ use Rattle.masks.specs.Sets.{meets}
 use Rattle.masks.proofs.Meets.{meets-some}
 use Rattle.registers.specs.Registers.{pendingIn, enabledIn, raised}
 
--- The line is raised where the two numbers share a bit.
+-- The interrupt line is raised exactly if the two numbers share a bit.
 pub raised-meets : (bytes : List ℕ) (pending enabled : ℕ) → pending ≡ pendingIn bytes → enabled ≡ enabledIn bytes → pending < 2 ^ 32
     → meets pending enabled ≡ raised bytes
 unfolding raised

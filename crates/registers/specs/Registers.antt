@@ -1,4 +1,4 @@
--- The register block: what stands at which offset, and what a read gives. Specification, section 10.
+-- The register block: which register is at which offset, and what a read returns. Specification, section 10.
 use Prim.Native.Nat.{ℕ}
 use mathlib.Core.Bool.{Bool, cond, _&&_, _||_}
 use mathlib.Core.List.{List}
@@ -19,7 +19,7 @@ between first last offset = leb first offset && leb offset last
 
 -- Clause 10.2: 0 is the command; 1 the processor, 2 the entry and 4 to 8 the tick are its arguments; 3 the last
 -- refusal, 9 late, 12 to 15 granted and 16 to 19 entitled are its answer; 20 to 23 are pending, 24 to 27 enabled, 28
--- the line. No other offset is listed.
+-- the interrupt line. No other offset is listed.
 unfoldable pub registerAt : ℕ → Register
 registerAt offset =
     cond (eqb offset 0) Command
@@ -27,7 +27,7 @@ registerAt offset =
     (cond (eqb offset 3 || (eqb offset 9 || between 12 19 offset)) Answer
     (cond (between 20 23 offset) Pending (cond (between 24 27 offset) Enabled (cond (eqb offset 28) Line Unlisted)))))
 
--- Clause 10.2: the numbers in the registers, low byte first, of a block's bytes.
+-- Clause 10.2: the numbers in the registers, low byte first, from the bytes of a block.
 abbrev pub processorIn : List ℕ → ℕ
 processorIn bytes = getD bytes 1 0
 
@@ -59,11 +59,11 @@ enabledIn bytes = number (slice 24 28 bytes)
 unfoldable pub raised : List ℕ → Bool
 raised bytes = some 32 (λ p. bit (pendingIn bytes) p && bit (enabledIn bytes) p)
 
--- Clause 10.3: the line is 1 where it is raised, else 0.
+-- Clause 10.3: the interrupt line is 1 if it is raised, else 0.
 abbrev pub lineOf : List ℕ → ℕ
 lineOf bytes = cond (raised bytes) 1 0
 
--- Clause 10.3: the block of these bytes with its line at offset 28.
+-- Clause 10.3: the block with these bytes and its interrupt line at offset 28.
 unfoldable pub withLine : List ℕ → Block
 withLine bytes = record { bytes = set bytes 28 (lineOf bytes) }
 
@@ -77,7 +77,7 @@ registerFault Enabled = 0
 registerFault Line = 0
 registerFault Unlisted = 18
 
--- Clause 10.4: the command reads 0, the line whether it is raised, every other register its byte.
+-- Clause 10.4: the command reads as 0, the interrupt line as 1 if it is raised, every other register as its byte.
 abbrev pub shownAt : Register → List ℕ → ℕ → ℕ
 shownAt Command bytes offset = 0
 shownAt Argument bytes offset = getD bytes offset 0
@@ -91,7 +91,7 @@ shownAt Unlisted bytes offset = 0
 unfoldable pub registerRead : Block → ℕ → Said
 registerRead block offset = said (registerFault (registerAt offset)) (shownAt (registerAt offset) (block .bytes) offset)
 
--- A read's answer in numbers: the value, or the refusal.
+-- The answer to a read as numbers: the value, or the refusal.
 abbrev pub registerSays : ReadAnswer → Said
 registerSays (ReadAnswer.Value value) = record { number = 0; value = value }
 registerSays (ReadAnswer.Refused r) = record { number = numberOf r; value = 0 }

@@ -1,4 +1,4 @@
--- What a write that is no command leaves in a register block. Specification, section 10.
+-- What a write that is not a command leaves in a register block. Specification, section 10.
 use Prim.Native.Nat.{ℕ}
 use mathlib.Core.Bool.{not, _&&_}
 use lib.ListN.{getD, set}
@@ -8,7 +8,7 @@ use Rattle.registers.specs.declared.Register.the-variants.{Command, Argu
 use Rattle.registers.specs.declared.Block.{Block}
 use Rattle.registers.specs.Registers.{registerAt, withLine}
 
--- Clause 10.6: a one that is written clears its bit of a byte, a zero does not.
+-- Clause 10.6: writing a one clears that bit of a byte, writing a zero does not.
 unfoldable pub cleared : ℕ → ℕ → ℕ
 cleared old value = maskOf 8 (λ i. bit old i && not (bit value i))
 

@@ -1,6 +1,5 @@
-// The register block of the arbiter: 32 bytes, and the numbers and the line in them. What stands at which offset and what
-// a read gives is defined here too, and `register_reads` has the functions. Writes are in the crates `register_stores`
-// and `commands`.
+// The register block without the arbiter: the layout of its 32 bytes, what a read returns, and what a write that is not
+// a command stores. `register_block`, which adds the commands, and `register_listing` use it.
 mod register_reads;
 mod register_stores;
 
@@ -17,22 +16,22 @@ ghost use Rattle.registers.specs.Registers.{tickIn, pendingIn, enabledIn
 // How many bytes a block has.
 pub const BLOCK: usize = 32;
 
-// Any 32 bytes are a block. Offset 0 first.
+// Any 32 bytes are a block. The byte at offset 0 comes first.
 pub struct Block {
     pub bytes: [u8; BLOCK],
 }
 
-// What stands at an offset. Clause 10.2.
+// The register at an offset. Clause 10.2.
 pub enum Register {
-    // 0: a write carries a command out.
+    // 0: writing it carries out a command.
     Command,
     // 1, 2 and 4 to 8: the processor, the entry and the tick of the next command.
     Argument,
     // 3, 9 and 12 to 19: the last refusal, late, and the masks of the last accepted command.
     Answer,
-    // 20 to 23: who was granted.
+    // 20 to 23: the processors that were granted.
     Pending,
-    // 24 to 27: for whom the line is raised.
+    // 24 to 27: the processors for which the interrupt line is raised.
     Enabled,
     // 28: the interrupt line.
     Line,
@@ -61,14 +60,14 @@ pub fn pending_in(bytes: [u8; BLOCK]) -> u64
     read_number(&bytes[20..24])
 }
 
-// The processors for which the line is raised.
+// The processors for which the interrupt line is raised.
 fn enabled_in(bytes: [u8; BLOCK]) -> u64
     ensures { λ r. ⌜ r ≡ enabledIn bytes ⌝ }
 {
     read_number(&bytes[24..28])
 }
 
-// Clause 10.3: 1 where some bit is both pending and enabled.
+// Clause 10.3: 1 if some bit is both pending and enabled, else 0.
 pub fn line_of(bytes: [u8; BLOCK]) -> u8
     ensures { λ r. ⌜ r ≡ lineOf bytes ⌝ }
 {
@@ -79,7 +78,7 @@ pub fn line_of(bytes: [u8; BLOCK]) -> u8
     }
 }
 
-// The block of these bytes with its line.
+// The block with these bytes and its interrupt line.
 pub fn with_line(bytes: [u8; BLOCK]) -> Block
     ensures { λ r. ⌜ r ≡ withLine bytes ⌝ }
 {

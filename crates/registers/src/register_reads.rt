@@ -1,4 +1,4 @@
-// Which register stands at an offset of a block, and what a read of it gives. Specification, clauses 10.2 and 10.4.
+// Which register is at an offset of a block, and what a read of it returns. Specification, clauses 10.2 and 10.4.
 use crate::Block;
 use crate::ReadAnswer;
 use crate::Register;
@@ -8,7 +8,7 @@ use refusals::Refusal;
 ghost use mathlib.Core.Path.{_≡_};
 ghost use Rattle.registers.specs.Registers.{registerAt, registerRead, registerSays};
 
-// Which register an offset is.
+// The register at an offset.
 pub fn register_at(offset: u8) -> Register
     ensures { λ r. ⌜ r ≡ registerAt offset ⌝ }
 {
@@ -33,7 +33,7 @@ pub fn register_at(offset: u8) -> Register
     Register::Unlisted
 }
 
-// Reads an offset of a block. Refused by 18.
+// Reads an offset of a block. Refuses with 18 if the offset is not listed.
 pub fn read(block: Block, offset: u8) -> ReadAnswer
     ensures { λ r. ⌜ registerSays r ≡ registerRead block offset ⌝ }
 {

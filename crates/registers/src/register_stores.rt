@@ -1,4 +1,4 @@
-// What a write that is no command leaves in a register block. Specification, clause 10.6.
+// What a write that is not a command leaves in a register block. Specification, clause 10.6.
 use crate::BLOCK;
 use crate::Block;
 use crate::Register;
@@ -9,14 +9,14 @@ ghost use mathlib.Core.Path.{_≡_};
 ghost use lib.ListN.{set};
 ghost use Rattle.registers.specs.Stores.{cleared, newByte, stored};
 
-// Clause 10.6: the bits of a byte without those that the value has.
+// Clause 10.6: the bits of a byte without those that are set in the value.
 fn cleared_by(old: u8, value: u8) -> u8
     ensures { λ r. ⌜ r ≡ cleared old value ⌝ }
 {
     old & !value
 }
 
-// The bytes with one changed. Past the end nothing is.
+// The bytes with one of them changed. A place past the end changes nothing.
 fn put_byte(bytes: [u8; BLOCK], place: usize, byte: u8) -> [u8; BLOCK]
     ensures { λ r. ⌜ r ≡ set bytes place byte ⌝ }
 {

@@ -1,4 +1,4 @@
--- The loop over a block's records: what holds before each, that a turn keeps it, and what it gives at the end. Assumes
+-- The loop over a block's records: its invariant, that each turn keeps it, and what it gives at the end. Assumes
 -- nothing.
 use Prim.Native.Nat.{ℕ, suc, _+_, _-_, _*_, _≤_, _<_}
 use mathlib.Core.Path.{_≡_, refl, ap, sym, _∙_}
@@ -26,8 +26,8 @@ use Rattle.replay.specs.Blocks.{Ran, ran, ranBlock}
 use Rattle.replay.proofs.Records.{step, step-room, front, remaining, step-then-more}
 use Rattle.replay.proofs.Turns.{over-over}
 
--- Before a record, or after one that ended the replay: what is left from the state st and the bytes behind the calls so
--- far still gives the whole block.
+-- Before a record, or after one that ended the replay: what is left, from the state st and the bytes after the calls so
+-- far, still gives the whole block.
 pub record Leaves (whole : Ran) (b : Board) (due : ℕ) (s out₀ : List ℕ) (st : State) (calls at : ℕ) (ended : Bool) (out : List ℕ) : Type 0 where
   pub some : calls ≤ due
   pub room : ended ≡ false → at ≤ lineRoom * calls
@@ -52,7 +52,7 @@ first-turn b st due s out =
       ends = rw all refl;
     }
 
--- Another turn is due where a call is left and no refusal ended the replay.
+-- Another turn is due if a call is left and no refusal ended the replay.
 module _ (calls due : ℕ) (ended : Bool) where
   pub more-due : (ltb calls due && not ended) ≡ true → calls < due
   more-due e = ltb-true calls due (and-left (ltb calls due) (not ended) e)
@@ -60,18 +60,18 @@ module _ (calls due : ℕ) (ended : Bool) where
   pub not-ended : (ltb calls due && not ended) ≡ true → ended ≡ false
   not-ended e = not-true ended (and-right (ltb calls due) (not ended) e)
 
--- A record is a call, or it ends the replay and is none.
+-- A record is one call, or it ends the replay and is no call.
 pub at-most-one : (ended : Bool) → boolByte (not ended) ≤ 1
 at-most-one true = omega arith
 at-most-one false = omega arith
 
--- A turn leaves less: a call fewer, or the end is new.
+-- Each turn leaves less to do: one call fewer, or the replay has just ended.
 pub fewer : (calls due : ℕ) (ended later : Bool) → (ltb calls due && not ended) ≡ true
     → due - (calls + boolByte (not later)) + boolByte (not later) < due - calls + boolByte (not ended)
 fewer calls due ended later e =
     rw (not-ended calls due ended e) (omega (arith, more-due calls due ended e, at-most-one later))
 
--- A line takes no more than its room, wherever it goes.
+-- A line takes no more bytes than its room, wherever it is written.
 pub written-room : (pairs : List ℕ) (b : Board) (st : State) (s : List ℕ) (size at : ℕ) (r : Stands) → pairs ≡ hexPairs
     → r ≡ stands (recordStep pairs b st s) size at
     → r .written ≤ lineRoom
@@ -84,7 +84,7 @@ written-room pairs b st s size at r table told =
     at-most true n = omega arith
     at-most false n = omega arith
 
--- Where none is due, nothing is left.
+-- If no turn is due, nothing is left.
 none-left : (b : Board) (st : State) (calls due : ℕ) (ended : Bool) (s : List ℕ) → (ltb calls due && not ended) ≡ false
     → remaining ended b st (due - calls) s ≡ record { lines = []; state = st; calls = 0; ended = ended }
 unfolding ran
@@ -120,7 +120,7 @@ module _ (whole : Ran) (b : Board) (due : ℕ) (s out₀ : List ℕ) (st : State
     go-on : ended ≡ false
     go-on = not-ended calls due ended test
 
-    -- The bytes behind the calls so far, and the step of the record in front of them.
+    -- The bytes after the calls so far, and the step of the record at their start.
     abbrev rest : List ℕ
     rest = drop (8 * calls) s
 
@@ -130,7 +130,7 @@ module _ (whole : Ran) (b : Board) (due : ℕ) (s out₀ : List ℕ) (st : State
     module _ (pairs : List ℕ) (table : pairs ≡ hexPairs) (r : Stands) (out′ : List ℕ)
         (told : r ≡ stands (recordStep pairs b st (take (length s - 8 * calls) (drop (8 * calls) s))) (length out) at)
         (put : out′ ≡ lineBuffer (recordStep pairs b st (take (length s - 8 * calls) (drop (8 * calls) s)) .line) out at) where
-      -- The bytes from the position on are lent whole.
+      -- All bytes from the position on are lent.
       lent : take (length s - 8 * calls) (drop (8 * calls) s) ≡ drop (8 * calls) s
       lent = take-all (length s - 8 * calls) (drop (8 * calls) s) (rw length-drop (le-refl _))
 

@@ -1,5 +1,5 @@
--- The first record of some bytes: what it adds to a listing, that it is one step and then the rest, and that its line
--- has room. Assumes nothing.
+-- The first record of some bytes: what it adds to a listing, that it is one step followed by the rest, and that its
+-- line has room. Assumes nothing.
 use Prim.Native.Nat.{ℕ, suc, _+_, _≤_}
 use mathlib.Core.Path.{_≡_, refl}
 use mathlib.Core.Bool.{Bool, true, false, cond, not}
@@ -57,7 +57,7 @@ module _ (b : Board) (st : State) (s : List ℕ) where
     unfolding ran
     ran-refused e = rw e
 
-  -- The step of the record, by the digits of every byte.
+  -- The step of the record, with the digits of every byte in a table.
   abbrev pub step : Step
   step = recordStep hexPairs b st s
 
@@ -77,15 +77,15 @@ module _ (b : Board) (st : State) (s : List ℕ) where
         | refused e ↦ rw (step-refused e) (omega (arith, any-refusal (recordFault s)))
       ]
 
--- What n calls and their lines add in front of later records.
+-- n calls and their lines, in front of what the later records give.
 abbrev pub front : List ℕ → ℕ → Ran → Ran
 front lines n r = record { lines = lines ++ r .lines; state = r .state; calls = n + r .calls; ended = r .ended }
 
--- What is left: nothing where a refusal ended the replay, and else k records.
+-- What is left: nothing if a refusal ended the replay, otherwise k records.
 abbrev pub remaining : Bool → Board → State → ℕ → List ℕ → Ran
 remaining ended b st k s = cond ended (record { lines = []; state = st; calls = 0; ended = true }) (ran b st k s)
 
--- One step and then what is left.
+-- One step, and then what is left.
 pub step-then-more : (b : Board) (st : State) (k : ℕ) (s : List ℕ)
     → ran b st (suc k) s
     ≡ front (step b st s .line) (boolByte (not (step b st s .ended))) (remaining (step b st s .ended) b (step b st s .state) k (drop recordSize s))

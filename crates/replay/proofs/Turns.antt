@@ -1,4 +1,4 @@
--- Bytes behind bytes, and what records read of a board. Assumes nothing.
+-- Bytes written after other bytes, and the parts of a board that records read. Assumes nothing.
 use Prim.Native.Nat.{ℕ, zero, suc, _+_, _≤_}
 use mathlib.Core.Path.{_≡_, refl}
 use mathlib.Core.List.{List, _++_, append-assoc}
@@ -16,7 +16,7 @@ use Rattle.logs.specs.Records.{recordSize}
 use Rattle.replay.specs.Records.{callIn}
 use Rattle.replay.specs.Blocks.{ran}
 
--- Some bytes and then some more, from a position.
+-- Writing some bytes and then some more, from a position, is writing all of them.
 pub over-over : (x : List ℕ) (at : ℕ) (l m : List ℕ) → at + length l ≤ length x
     → overwritten (overwritten x at l) (at + length l) m ≡ overwritten x at (l ++ m)
 over-over x at l m h =
@@ -31,7 +31,7 @@ over-over x at l m h =
     )
     (simp (append-assoc, length-append, add-assoc))
 
--- Of a board the records read what a call reads of it.
+-- Records read only those parts of a board that a call reads.
 pub ran-reads : (b : Board) (k : ℕ) (st : State) (s : List ℕ) → ran (boardBy (b .terms) (b .rows) (b .lengths)) st k s ≡ ran b st k s
 unfolding ran
 ran-reads b zero st s = refl

@@ -1,4 +1,4 @@
--- A log in pieces: what a block of its bytes adds to the listing, and where the next one goes on.
+-- A log in blocks: what a block of its bytes adds to the listing, and where the next block continues.
 use Prim.Native.Nat.{ℕ, zero, suc}
 use mathlib.Core.Bool.{Bool, true, false, cond}
 use mathlib.Core.List.{List, [], _++_}
@@ -14,7 +14,8 @@ use Rattle.replay.specs.Records.{callIn}
 use Rattle.replay.specs.Budgets.{budgetOf}
 use Rattle.replay.specs.declared.RanBlock.{RanBlock}
 
--- The lines of some records, the state after them, how many calls were carried out, and whether a refusal ended it.
+-- The lines of some records, the state after them, how many calls were carried out, and whether a refusal ended the
+-- replay.
 pub record Ran : Type 0 where
   pub lines : List ℕ
   pub state : State
@@ -26,7 +27,7 @@ abbrev pub oneMore : List ℕ → Ran → Ran
 oneMore line later =
     record { lines = line ++ later .lines; state = later .state; calls = suc (later .calls); ended = later .ended }
 
--- k records of the bytes s, or up to the first that is refused.
+-- k records of the bytes s, or those up to the first that is refused.
 unfoldable pub ran : Board → State → ℕ → List ℕ → Ran
 ran b st zero s = record { lines = []; state = st; calls = 0; ended = false }
 ran b st (suc k) s =
@@ -39,11 +40,11 @@ ran b st (suc k) s =
 abbrev pub budget : ℕ → List ℕ → ℕ → ℕ
 budget left s room = budgetOf left (length s) room
 
--- What follows some records: nothing after a refusal, and else what the state after them makes of the rest.
+-- What follows some records: nothing after a refusal, otherwise what `later` gives for the state after them.
 abbrev pub goingOn : Ran → (State → List ℕ) → List ℕ
 goingOn r later = cond (r .ended) (r .lines) (r .lines ++ later (r .state))
 
--- What a block answers: the state after its records, how many calls were carried out, how many bytes their lines take,
--- and whether a refusal ended it.
+-- What a block returns: the state after its records, how many calls were carried out, how many bytes their lines take,
+-- and whether a refusal ended the replay.
 abbrev pub ranBlock : Ran → RanBlock
 ranBlock r = record { state = r .state; calls = r .calls; written = length (r .lines); ended = r .ended }

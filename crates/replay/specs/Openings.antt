@@ -7,6 +7,6 @@ use Rattle.plans.specs.Reading.{readFault, planRead}
 use Rattle.listings.specs.PlainLines.{refusalLine}
 use Rattle.listings.specs.Lines.{firstLine}
 
--- Clauses 9.6 and 9.8: the first line where the plan is accepted, else the line of its refusal.
+-- Clauses 9.6 and 9.8: the first line if the plan is accepted, otherwise the line of its refusal.
 abbrev pub openingLine : List ℕ → List ℕ
 openingLine s = cond (eqb (readFault s) 0) (firstLine (planRead s)) (refusalLine (readFault s))

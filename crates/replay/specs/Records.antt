@@ -20,7 +20,7 @@ abbrev pub refusalStep : State → ℕ → Step
 refusalStep st number = record { line = refusalLine number; state = st; ended = true }
 
 -- Clauses 9.4, 9.7 and 9.8: the record at the start of the bytes s is a call, or it is refused. The digits of masks
--- come from a table of pairs.
+-- come from a table of digit pairs.
 unfoldable pub recordStep : List ℕ → Board → State → List ℕ → Step
 recordStep pairs b st s =
     cond (eqb (recordFault s) 0) (callStep pairs b st (callIn s)) (refusalStep st (recordFault s))

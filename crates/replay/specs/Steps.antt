@@ -17,8 +17,8 @@ pub record Step : Type 0 where
   pub state : State
   pub ended : Bool
 
--- Clause 9.7: a call is carried out and has its line, here with the digits of masks from a table of pairs. The replay
--- goes on, also after a call that is refused.
+-- Clause 9.7: a call is carried out and gets its line, here with the digits of masks from a table of digit pairs. The
+-- replay goes on, also after a call that is refused.
 unfoldable pub callStep : List ℕ → Board → State → Call → Step
 callStep pairs b st c =
     record {
@@ -27,18 +27,19 @@ callStep pairs b st c =
       ended = false;
     }
 
--- What a step tells: the state after it, how many bytes its line took, and whether it ends the replay.
+-- What a step returns: the state after it, how many bytes its line took, and whether it ends the replay.
 pub record Stands : Type 0 where
   pub state : State
   pub written : ℕ
   pub ended : Bool
 
--- The line goes into a buffer of so many bytes, from a position. It takes none where there is no room for it.
+-- The line is written into a buffer of `size` bytes, from the position `at`. It takes no bytes if there is no room for
+-- it.
 unfoldable pub stands : Step → ℕ → ℕ → Stands
 stands step size at =
     record { state = step .state; written = lineSays (step .line) size at .value; ended = step .ended }
 
--- The same of what a function returns and leaves in the arrays of the state.
+-- The same for what a function returns and leaves in the arrays of the state.
 abbrev pub carriedBy : Carried → List ℕ → List ℕ → List ℕ → Stands
 carriedBy c entry since earlier =
     record { state = stateBy (c .moment) entry since earlier; written = c .written; ended = c .ended }

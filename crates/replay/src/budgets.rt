@@ -1,10 +1,10 @@
-// How many records of a log a block of its bytes carries out, so that each is whole and its line has room
-// (specification, section 9). `replay` carries them out.
+// How many records of a log a block of its bytes carries out, so that each record is whole and its line has room
+// (specification, section 9). `run` carries them out.
 use logs::RECORD_BYTES;
 ghost use mathlib.Core.Path.{_≡_};
 ghost use Rattle.replay.specs.Budgets.{budgetOf};
 
-// The room that a line needs: the longest of a call, whatever the plan, or of a refusal, rounded up.
+// The room that a line needs: the longest line of a call, whatever the plan, or of a refusal, rounded up.
 const LINE_ROOM: usize = 88;
 
 // How many records a block carries out: those that are left, are whole in the bytes, and have room for their lines.

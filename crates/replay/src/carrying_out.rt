@@ -1,5 +1,5 @@
-// A call of a log: it is carried out on the arrays of a state in place, and its line goes into a lent buffer
-// (specification, sections 4 and 9). `replay_records` has the record that it stands in.
+// One call of a log: it is carried out in place on the arrays of a state, and its line is written into a lent buffer
+// (specification, sections 4 and 9). `replay_records` reads the record that contains the call.
 use calls_in_place::answer_in_place;
 use listings::call_line_by;
 use listings::line_size;
@@ -14,16 +14,16 @@ ghost use Rattle.rules.specs.InPlace.{boardBy, stateBy};
 ghost use Rattle.listings.specs.PlainLines.{lineBuffer};
 ghost use Rattle.replay.specs.Steps.{callStep, stands, carriedBy};
 
-// What one record did beside the arrays of the state: the moment after it, how many bytes its line took, and whether it
-// ended the replay.
+// What one record did, apart from the arrays of the state: the moment after it, how many bytes its line took, and
+// whether it ended the replay.
 pub struct Carried {
     pub moment: Moment,
     pub written: usize,
     pub ended: bool,
 }
 
-// A call is carried out and has its line, and the replay goes on. The arrays of the board and of the state are lent,
-// and so are the digits of every byte.
+// Carries out a call and writes its line; the replay goes on. The arrays of the board and of the state are lent, and so
+// is the table with the digits of every byte.
 pub fn carry_out(
     terms: Terms,
     rows: &[u64; ENTRIES],

@@ -1,6 +1,6 @@
-// The calls of a log to their lines, block by block: what `lockreplay` does between reading and writing (specification,
-// section 9). The bytes of a log come in blocks of any size, and each block's lines go into a lent buffer.
-// `replay_records` has a record, and `log_openings` and `log_ends` have the lines before and after the calls.
+// Replays a log: its bytes come in blocks of any size, each call is carried out, and the lines of a block are written
+// into a lent buffer (specification, section 9). `lockreplay` and `query_listing` call it between reading and writing.
+// `whole_listing` proves that all blocks together give the listing of the log.
 mod budgets;
 mod carrying_out;
 mod log_ends;
@@ -33,8 +33,8 @@ ghost use Rattle.replay.specs.Budgets.{lineRoom};
 ghost use Rattle.replay.specs.Blocks.{ran, budget, ranBlock};
 ghost use Rattle.replay.specs.inner.Parts.{ranBy};
 
-// What some records did beside the arrays of the state: the moment after them, how many calls were carried out, how
-// many bytes their lines took, and whether a refusal ended the replay.
+// What some records did, apart from the arrays of the state: the moment after them, how many calls were carried out,
+// how many bytes their lines took, and whether a refusal ended the replay.
 struct Progress {
     moment: Moment,
     calls: u16,
@@ -51,7 +51,7 @@ pub struct RanBlock {
     pub ended: bool,
 }
 
-// What a state has beside its arrays.
+// The part of a state that is not in its arrays.
 fn moment_of(state: State) -> Moment
     ensures { λ r. ⌜ stateBy r (state .entry) (state .since) (state .earlier) ≡ state ⌝ }
 {
@@ -81,8 +81,8 @@ fn state_of(
     }
 }
 
-// So many records, one by one, up to the first that is refused. Their lines go to the start of `out`. The arrays of the
-// board and of the state are lent, and so are the digits of every byte.
+// Carries out so many records one by one, up to the first that is refused. Their lines are written at the start of
+// `out`. The arrays of the board and of the state are lent, and so is the table with the digits of every byte.
 fn run_records(
     terms: Terms,
     rows: &[u64; ENTRIES],
@@ -146,7 +146,8 @@ fn run_records(
     }
 }
 
-// The records of a block, one by one, up to the first that is refused. Their lines go to the start of `out`.
+// Carries out the records of a block one by one, up to the first that is refused. Their lines are written at the start
+// of `out`.
 pub fn run(board: Board, state: State, left: u16, bytes: &[u8], out: &mut [u8]) -> RanBlock
     ensures result { λ r. ⌜
         r

@@ -1,5 +1,5 @@
-// The lines of a log's call count and of its end (specification, section 9). `log_openings` has the line before them,
-// and `replay` the calls between them. A line goes to the start of a lent buffer.
+// The lines of a log's call count and of its end (specification, section 9). `log_openings` writes the line before
+// them, and `run` writes those of the calls between them. Each line is written at the start of a lent buffer.
 use encoding::Outcome;
 use listings::refusal_line;
 use logs::CountAnswer;
@@ -16,7 +16,7 @@ ghost use Rattle.logs.specs.Records.{countSays, readCount};
 ghost use Rattle.listings.specs.PlainLines.{lineSays, lineBuffer};
 ghost use Rattle.replay.specs.Ends.{faultLine, countLine, endFault, endLine};
 
-// How many calls follow, or the refusal, and the refusal's line.
+// How many calls follow, or the refusal; and the line of the refusal.
 pub struct CallCount {
     pub calls: CountAnswer,
     pub line: Outcome,
@@ -24,7 +24,7 @@ pub struct CallCount {
 
 // ---- before the calls
 
-// The line of a refusal, and none where there is no refusal.
+// The line of a refusal, and no line if there is no refusal.
 fn verdict_line(verdict: Verdict, out: &mut [u8]) -> Outcome
     ensures outcome { λ r. ⌜
         outcomeSays r ≡ lineSays (faultLine (verdictNumber verdict)) (length (now (out .entry))) 0
@@ -48,7 +48,8 @@ fn count_verdict(calls: CountAnswer) -> Verdict
     }
 }
 
-// Reads the call count at the start of the bytes after the plan. Its refusal's line goes to the start of `out`.
+// Reads the call count at the start of the bytes after the plan. If it is refused, the line of the refusal is written
+// at the start of `out`.
 pub fn count(bytes: &[u8], out: &mut [u8]) -> CallCount
     ensures calls { λ r. ⌜ countSays (r .calls) ≡ readCount (now (bytes .entry)) ⌝ }
     ensures line { λ r. ⌜
@@ -67,7 +68,7 @@ pub fn count(bytes: &[u8], out: &mut [u8]) -> CallCount
 
 // ---- after the calls
 
-// What the bytes at the end of the input are refused by: a call that is due, or after the last one any byte.
+// The refusal of the bytes at the end of the input: a call is due, or there is a byte after the last call.
 fn end_fault(left: u16, bytes: &[u8]) -> Verdict
     ensures { λ r. ⌜ verdictNumber r ≡ endFault left (now (bytes .entry)) ⌝ }
 {
@@ -81,7 +82,7 @@ fn end_fault(left: u16, bytes: &[u8]) -> Verdict
     }
 }
 
-// The line that ends the listing, if any, where the input ends with less than a record left over, or no call is left.
+// The line that ends the listing, if any. The input has ended with less than a record left over, or no call is left.
 pub fn finish(left: u16, bytes: &[u8], out: &mut [u8]) -> Outcome
     ensures outcome { λ r. ⌜
         outcomeSays r ≡ lineSays (endLine left (now (bytes .entry))) (length (now (out .entry))) 0

@@ -1,5 +1,6 @@
-// The opening of a log: its plan is read, the plan's fresh arbiter is made, and the line that opens the listing goes to
-// the start of a lent buffer (specification, sections 2, 5 and 9). `log_ends` has the call count and the end.
+// The opening of a log: its plan is read, the plan's fresh arbiter is made, and the line that opens the listing is
+// written at the start of a lent buffer (specification, sections 2, 5 and 9). `log_ends` handles the call count and the
+// end.
 use boards::fresh_of;
 use encoding::Outcome;
 use listings::first_line;
@@ -39,8 +40,8 @@ fn opening_line(outcome: Outcome, plan: Plan, out: &mut [u8]) -> Outcome
     }
 }
 
-// Reads the plan at the start of a log, makes its fresh arbiter, and puts the line that opens the listing at the start
-// of `out`. Where `out` is too short for the line nothing is written.
+// Reads the plan at the start of a log, makes its fresh arbiter, and writes the line that opens the listing at the
+// start of `out`. If `out` is too short for the line, nothing is written.
 pub fn begin(bytes: &[u8], out: &mut [u8]) -> Begun
     ensures outcome { λ r. ⌜ outcomeSays (r .outcome) ≡ readSays (now (bytes .entry)) ⌝ }
     ensures board { λ r. ⌜ r .board ≡ freshBoard (planRead (now (bytes .entry))) ⌝ }

@@ -1,5 +1,5 @@
-// A record of a log, replayed: its call is carried out and has its line, or its refusal has one and ends the replay
-// (specification, section 9). `replay` has the records of a block, one by one.
+// One record of a log, replayed: its call is carried out and gets its line, or its refusal gets a line and ends the
+// replay (specification, section 9). `run` replays the records of a block one by one.
 use crate::carrying_out::Carried;
 use crate::carrying_out::carry_out;
 use listings::line_size;
@@ -17,8 +17,8 @@ ghost use Rattle.listings.specs.PlainLines.{lineBuffer};
 ghost use Rattle.replay.specs.Steps.{stands, carriedBy};
 ghost use Rattle.replay.specs.Records.{recordStep};
 
-// One record: its call is carried out and has its line, or its refusal is a line of its own and ends the replay. The
-// arrays of the board and of the state are lent, and so are the digits of every byte.
+// One record: its call is carried out and gets its line, or its refusal is a line of its own and ends the replay. The
+// arrays of the board and of the state are lent, and so is the table with the digits of every byte.
 pub fn replay_record(
     terms: Terms,
     rows: &[u64; ENTRIES],

@@ -1,5 +1,5 @@
--- In a state that calls lead to, a number falls along every direct wait: 0 for a processor that holds, 1 for an
--- entitled one, and for a waiting one 2 more than the active writes earlier than its request. Assumes nothing.
+-- In a state that calls lead to, a number falls along every direct wait. It is 0 for a processor that holds, 1 for an
+-- entitled one, and for a waiting one 2 plus the number of active writes earlier than its request. Assumes nothing.
 use Prim.Native.Nat.{ℕ, _+_, _≤_, _<_}
 use mathlib.Core.Path.{_≡_, refl, sym, ap, _∙_}
 use mathlib.Core.Bool.{true, not}
@@ -68,7 +68,7 @@ module _ (b : Board) (s : State) (r : Reached b s) where
   unfolding distance
   distance-at-most i = cost-at-most (phaseIn s i) (rank slots R (phaseIn s) i)
 
-  -- The number falls, and whoever is waited for is active.
+  -- The number falls, and the processor that is waited for is active.
   reason-falls : (i j : ℕ) → i < slots → j < slots → Reason f ph i j
       → (distance j < distance i) × (phaseIn s j ≡ idle → ⊥)
   reason-falls i j li lj (entitled-read h k x) =
@@ -96,7 +96,7 @@ module _ (b : Board) (s : State) (r : Reached b s) where
         active-not-idle ph j a,
       )
 
-  -- Nothing is left to clean.
+  -- The state is clean, so its own phases are those that count.
   pub waits-here : (i j : ℕ) → waitsFor b s i j ≡ waitsIn (factsOf b s) (s .phases) i j
   unfolding waitsFor
   waits-here i j = ap (λ x. waitsIn f x i j) (clean-phases b s (r .clean))

@@ -56,7 +56,7 @@ no-deadlock p taken calls =
       whoever-waits-reaches-a-holder = to-a-holder (boardOf p) (reachedBy p calls) r;
     }
 
--- The same of the reach that the query answers: no processor is in its own.
+-- The same for the reach that the query returns: no processor is in its own reach.
 pub not-in-own-reach : (p : Plan) → planFault p ≡ 0 → (calls : List Call) → (q : ℕ)
     → reaches (boardOf p) (reachedBy p calls) q q ≡ false
 not-in-own-reach p taken calls q =

@@ -1,5 +1,5 @@
--- Two handovers, counted: the old request ends and the new one is issued at one tick, and who waited is let in between.
--- One run of plan F, answer by answer and request by request. Assumes nothing.
+-- Two handovers, counted: the old request ends and the new one is issued at one tick, and a request that waited is
+-- granted in between. One run of plan F, answer by answer and request by request. Assumes nothing.
 use Prim.Native.Nat.{ℕ}
 use mathlib.Core.Path.{_≡_, refl}
 use mathlib.Core.List.{List, [], _∷_, map}
@@ -21,14 +21,15 @@ use Rattle.runs.specs.Claim.{historyOf}
 use Rattle.runs.proofs.PlanF.{planF, read, write}
 use Rattle.runs.proofs.Withdrawn.{counted}
 
--- A write of resource 2 holds on processor 0, another waits on 1. 0 hands over to a read of resource 2: 1 holds, and
--- the read is entitled behind it. When 1 is done the read holds, and 0 hands over to a write of resource 0: it is free.
+-- A write of resource 2 holds on processor 0, and another waits on processor 1. Processor 0 hands over to a read of
+-- resource 2: processor 1 holds, and the read is entitled behind it. When 1 completes, the read holds, and 0 hands over
+-- to a write of resource 0, which is free.
 unfoldable pub calls : List Call
 calls =
     Call.Issue 0 0 0 ∷ Call.Issue 1 0 1 ∷ Call.Handover 0 4 5 ∷ Call.Complete 1 12 ∷ Call.Handover 0 2 18 ∷ []
 
--- The granted mask, the entitled mask and late. The second handover is late: the read held for 6 ticks, its length is
--- 5.
+-- The granted mask, the entitled mask and late. The second handover is late: the read held for 6 ticks, and its length
+-- is 5.
 unfoldable pub answer : ℕ → ℕ → ℕ → Response
 answer granted entitled late = record { number = 0; granted = granted; entitled = entitled; late = late }
 

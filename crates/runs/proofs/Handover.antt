@@ -1,5 +1,5 @@
--- What an accepted handover does, said by its two halves, and by the states before and after it: no grant and no
--- entitlement is lost or invented. Assumes nothing.
+-- What an accepted handover does, in terms of its two halves, and in terms of the states before and after it: no grant
+-- and no entitlement is lost or invented. Assumes nothing.
 use Prim.Native.Nat.{ℕ, _<_}
 use mathlib.Core.Path.{_≡_, sym, ap, subst, _∙_}
 use mathlib.Core.Bool.{Bool, true, false, not, _&&_, _||_, false≢true}
@@ -18,7 +18,7 @@ use Rattle.runs.proofs.history.Frame.{ruled-accepted, bothAnswer, BothA
 use Rattle.runs.proofs.history.Compared.{holdsAt, entitledAt, granted-by-both, entitled-by-both}
 use Rattle.runs.proofs.refinement.Clean.{Clean, clean-phases}
 
--- ---- by its halves, on every state
+-- ---- in terms of its halves, on every state
 
 module _ (b : Board) (s : State) (p e t : ℕ) (ok : handoverFault (b .terms) (s .last) (phasesOf b s) p e t ≡ 0) where
   abbrev whole : Answer
@@ -34,12 +34,12 @@ module _ (b : Board) (s : State) (p e t : ℕ) (ok : handoverFault (b .terms) (s
   unfolding handedOver
   is-both-halves = ruled-accepted _ s (both first second) ok
 
-  -- The state is that of the completion and then the issue.
+  -- The state is the one that the completion and then the issue leave.
   pub leaves-what-both-leave : handedOver b s p e t .state ≡ issued b (completed b s p t .state) p e t .state
   unfolding both
   leaves-what-both-leave = ap (λ x. x .state) is-both-halves
 
-  -- Who began to hold by either half.
+  -- The processors that began to hold in either half.
   pub grants-of-both : (q : ℕ) → q < slots
       → bit (handedOver b s p e t .reply .granted) q
       ≡ (bit (completed b s p t .reply .granted) q || bit (issued b (completed b s p t .state) p e t .reply .granted) q)
@@ -48,7 +48,7 @@ module _ (b : Board) (s : State) (p e t : ℕ) (ok : handoverFault (b .terms) (s
       ap (λ x. bit (x .reply .granted) q) is-both-halves
       ∙ bit-mask-at slots (λ q. bit (first .reply .granted) q || bit (second .reply .granted) q) q l
 
-  -- Who became entitled by either half and is so at the end.
+  -- The processors that became entitled in either half and are entitled at the end.
   pub entitlements-of-both : (q : ℕ) → q < slots
       → bit (handedOver b s p e t .reply .entitled) q
       ≡ ((bit (completed b s p t .reply .entitled) q
@@ -65,7 +65,7 @@ module _ (b : Board) (s : State) (p e t : ℕ) (ok : handoverFault (b .terms) (s
       (λ x. (bit (first .reply .entitled) q || bit (second .reply .entitled) q) && bit (x .phases .entitled) q)
       (sym leaves-what-both-leave)
 
--- ---- by the states before and after, where calls led to the state
+-- ---- in terms of the states before and after, in a state that calls led to
 
 right-of-none : (a b : Bool) → (a || b) ≡ false → b ≡ false
 right-of-none true b none = absurd (false≢true (sym none))
@@ -82,7 +82,8 @@ module _ (b : Board) (s : State) (p e t : ℕ) (c : Clean b s)
   is-two-acts : handedOver b s p e t ≡ bothAnswer b s t p e late
   is-two-acts = is-both-halves b s p e t ok ∙ handover-acts b s p e t c ok .1
 
-  -- The granted mask has who holds after it and did not before, and p itself if its new request holds.
+  -- The granted mask contains the processors that hold after the handover and did not before, and p itself if its new
+  -- request holds.
   pub grants-exactly : (q : ℕ) → q < slots
       → bit (handedOver b s p e t .reply .granted) q
       ≡ (bit (handedOver b s p e t .state .phases .holding) q && (not (bit (s .phases .holding) q) || eqb q p))
@@ -96,7 +97,7 @@ module _ (b : Board) (s : State) (p e t : ℕ) (c : Clean b s)
       let satisfied = completed-satisfied (b .terms) (s .last) (phasesOf b s) p t (halves-accepted b s p e t ok .0) in
       right-of-none (bit (s .phases .waiting) p) _ (sym (ap (λ ph. unsatisfied ph p) (clean-phases b s c)) ∙ satisfied)
 
-  -- The entitled mask has who is entitled after it and was not before.
+  -- The entitled mask contains the processors that are entitled after the handover and were not before.
   pub entitles-exactly : (q : ℕ) → q < slots
       → bit (handedOver b s p e t .reply .entitled) q
       ≡ (bit (handedOver b s p e t .state .phases .entitled) q && not (bit (s .phases .entitled) q))

@@ -1,5 +1,5 @@
--- In a state that calls lead to, every unsatisfied request waits directly for another, and in the end for a holder: I4
--- to I7, and the number that falls along a wait. Assumes nothing.
+-- In a state that calls lead to, every unsatisfied request waits directly for another, and through a chain for a
+-- holder: I4 to I7, and the number that falls along a wait. Assumes nothing.
 use Prim.Native.Nat.{ℕ, zero, suc, _≤_, _<_}
 use mathlib.Core.Path.{_≡_, refl, ap, _∙_}
 use mathlib.Core.Bool.{Bool, true, false, not}
@@ -79,7 +79,7 @@ module _ (b : Board) (s : State) (r : Reached b s) where
   unsatisfied-waits i l (inl e) = waiting-waits i l e (isWriter f i) refl
   unsatisfied-waits i l (inr e) = entitled-waits i l e (isWriter f i) refl
 
-  -- Whoever waits, waits in the end for a holder. Recursion on a bound of the number that falls.
+  -- From every request that waits a chain leads to a holder. Recursion on a bound of the number that falls.
   pub reaches-holder : (n i : ℕ) → distance b s r i ≤ n → i < slots → Unsatisfied (phaseIn s i)
       → (h : ℕ) × Chain b s i h × (phaseIn s h ≡ holding) × (h < slots)
   reaches-holder zero i m l u =

@@ -36,7 +36,7 @@ planF =
       entries = write 4 30 ∷ write 6 20 ∷ write 1 40 ∷ read 3 10 ∷ read 4 5 ∷ replicate 59 blankEntry;
     }
 
--- A call and its answer, a line of the listing.
+-- A call and its answer: one line of the listing.
 line : Call → Response → Event
 line c r = record { call = c; reply = r }
 
@@ -44,7 +44,7 @@ line c r = record { call = c; reply = r }
 done-with : ℕ → ℕ → ℕ → Response
 done-with granted entitled late = record { number = 0; granted = granted; entitled = entitled; late = late }
 
--- The twelve calls in the order of the listing. The eleventh comes before the last accepted tick: 10.
+-- The twelve calls in the order of the listing. The tick of the eleventh is before the last accepted tick: refusal 10.
 pub table : List Event
 table =
     line (Call.Issue 0 0 0) (done-with 1 0 0)

@@ -28,7 +28,7 @@ module _ (p : Plan) (taken : planFault p ≡ 0) where
   abbrev b : Board
   b = boardOf p
 
-  -- No entry is outside the group of all.
+  -- No entry is outside the group of all entries.
   closed : Closed p everyEntry
   closed i j g x = refl
 

@@ -1,5 +1,5 @@
--- Demand 3, said of whole lists of calls. A reader needs this page and the definitions that it names. Specification,
--- section 6.
+-- Demand 3, stated for whole lists of calls. A reader needs only this page and the definitions that it names.
+-- Specification, section 6.
 use Prim.Native.Nat.{ℕ, _-_, _*_, _≤_, _<_}
 use mathlib.Core.Path.{_≡_}
 use mathlib.Core.Bool.{Bool, true, false, cond}
@@ -22,7 +22,7 @@ historyOf p calls = countedIn nothing (events (boardOf p) freshState calls)
 abbrev pub request : History → ℕ → Request
 request h i = getD (h .requests) i (arrival 0 0 0)
 
--- Clause 6.8: of two requests that hold, their entries do not conflict.
+-- Clause 6.8: if two requests hold, their entries do not conflict.
 abbrev pub Exclusive : Plan → History → Type 0
 Exclusive p h =
     (i j : ℕ) → i < length (h .requests) → j < length (h .requests) → (i ≡ j → ⊥) → holds (request h i) ≡ true
@@ -34,7 +34,7 @@ KeepToLengths p group h =
     (i : ℕ) → i < length (h .requests) → group (request h i .entry) ≡ true
     → holdOf (h .last) (request h i) ≤ entryAt p (request h i .entry) .length
 
--- Clause 6.9: no read of the group has waited longer than the one figure, and no write longer than the other.
+-- Clause 6.9: no read of the group has waited longer than the first figure, and no write longer than the second.
 abbrev pub WaitAtMost : Plan → (ℕ → Bool) → ℕ → ℕ → History → Type 0
 WaitAtMost p group read write h =
     (i : ℕ) → i < length (h .requests) → group (request h i .entry) ≡ true
@@ -53,12 +53,12 @@ LengthsAtMost p group Lr Lw =
 abbrev pub everyEntry : ℕ → Bool
 everyEntry i = true
 
--- The claim of a group of entries, with figures of its own.
+-- The claim for a group of entries, with figures of its own.
 pub record GroupRuns (p : Plan) (group : ℕ → Bool) (read write : ℕ) (calls : List Call) : Type 0 where
   pub exclusive : Exclusive p (historyOf p calls)
   pub waits : KeepToLengths p group (historyOf p calls) → WaitAtMost p group read write (historyOf p calls)
 
--- Demand 3. Clauses 6.8 and 6.9: conflicting requests never hold together; and where every holder keeps to its length,
--- no read waits longer than the read figure and no write longer than the write figure.
+-- Demand 3. Clauses 6.8 and 6.9: conflicting requests never hold together; and if every holder keeps to its length, no
+-- read waits longer than the read figure and no write longer than the write figure.
 abbrev pub WholeRuns : Plan → List Call → Type 0
 WholeRuns p calls = GroupRuns p everyEntry (readFigure p) (writeFigure p) calls

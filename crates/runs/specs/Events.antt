@@ -11,8 +11,8 @@ pub record Event : Type 0 where
   pub call : Call
   pub reply : Response
 
--- Clause 6.1: each call gets the state that the one before it left. The answers are those of `answered`, the very
--- definition that the promises of the arbiter cite.
+-- Clause 6.1: each call gets the state that the call before it left. The answers are those of `answered`, the same
+-- definition that the contracts of the arbiter use.
 unfoldable pub events : Board → State → List Call → List Event
 events b s [] = []
 events b s (c ∷ later) = record { call = c; reply = answered b s c .reply } ∷ events b (answered b s c .state) later

@@ -1,4 +1,4 @@
--- Freedom from deadlock, said of whole lists of calls. Specification, clause 6.10.
+-- Freedom from deadlock, stated for whole lists of calls. Specification, clause 6.10.
 use Prim.Native.Nat.{ℕ}
 use mathlib.Core.Path.{_≡_}
 use mathlib.Core.Bool.{Bool, true}
@@ -14,7 +14,7 @@ use Rattle.boards.specs.Fresh.{boardOf, freshState}
 use Rattle.runs.specs.Events.{stateAfter}
 use Rattle.queries.specs.Queries.{Chain}
 
--- Clause 6.1: from the fresh arbiter. The theorem asks that the plan is accepted.
+-- Clause 6.1: the state that calls to the fresh arbiter lead to. The theorem requires that the plan is accepted.
 abbrev pub reachedBy : Plan → List Call → State
 reachedBy p calls = stateAfter (boardOf p) freshState calls
 
@@ -22,8 +22,8 @@ reachedBy p calls = stateAfter (boardOf p) freshState calls
 abbrev pub holdsIn : Board → State → ℕ → Bool
 holdsIn b s p = isHolding (b .terms) (s .entry) (s .phases) p
 
--- Clause 6.10: after any calls, no chain of direct waits leads from a processor back to itself; and from each whose
--- request is unsatisfied, one leads to a processor that holds, and so can complete.
+-- Clause 6.10: after any calls, no chain of direct waits leads from a processor back to itself; and from each processor
+-- whose request is unsatisfied, a chain leads to one that holds, and so can complete.
 pub record NoDeadlock (p : Plan) (calls : List Call) : Type 0 where
   pub nobody-reaches-itself : (q : ℕ) → Chain (boardOf p) (reachedBy p calls) q q → ⊥
   pub whoever-waits-reaches-a-holder : (q : ℕ) → unsatisfied (phasesOf (boardOf p) (reachedBy p calls)) q ≡ true

@@ -18,7 +18,7 @@ abbrev pub happened : When → Bool
 happened never = false
 happened (at t) = true
 
--- The tick, or the other one where it has not happened.
+-- The tick, or the other one if it has not happened.
 abbrev pub tickOr : When → ℕ → ℕ
 tickOr never other = other
 tickOr (at t) other = t
@@ -35,7 +35,7 @@ pub record Request : Type 0 where
 abbrev pub holds : Request → Bool
 holds r = happened (r .grant) && not (happened (r .end))
 
--- Clause 6.4: what a call carries out: a request is put in, or taken out.
+-- Clause 6.4: what a call carries out: a request is added or removed.
 pub data Act : Type 0 where
   puts : (processor entry : ℕ) → Act
   takes : (processor : ℕ) → Act
@@ -80,7 +80,8 @@ pub record History : Type 0 where
   pub requests : List Request
   pub last : ℕ
 
--- Clauses 6.3 and 6.4: one call more: its acts, and then its grants. A refused call and its tick count nowhere.
+-- Clauses 6.3 and 6.4: one more call: its acts, and then its grants. A refused call does not count anywhere, and
+-- neither does its tick.
 abbrev pub counting : History → Call → Response → History
 counting h c reply =
     cond (eqb (reply .number) 0)
@@ -98,10 +99,11 @@ countedIn h (e ∷ later) = countedIn (counting h (e .call) (e .reply)) later
 abbrev pub nothing : History
 nothing = record { requests = []; last = 0 }
 
--- Clause 6.5: how long the request has been held: from its grant to its end, or else to the last accepted tick.
+-- Clause 6.5: how long the request has held: from its grant to its end, or to the last accepted tick if it has no end.
 abbrev pub holdOf : ℕ → Request → ℕ
 holdOf last r = cond (happened (r .grant)) (tickOr (r .end) last - tickOr (r .grant) last) 0
 
--- Clause 6.6: how long it has waited: from its issue to its grant, else to its end, else to the last accepted tick.
+-- Clause 6.6: how long it has waited: from its issue to its grant; without a grant to its end; without both to the last
+-- accepted tick.
 abbrev pub waitOf : ℕ → Request → ℕ
 waitOf last r = tickOr (r .grant) (tickOr (r .end) last) - r .issued

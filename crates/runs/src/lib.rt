@@ -1,1 +1,2 @@
-// Whole runs: the claim over every list of calls, and its proof. No code: definitions in specs/, theorems in proofs/.
+// What holds over every run of calls: mutual exclusion, the two figures, and freedom from deadlock (specification,
+// section 6). No code: definitions are in specs/, theorems in proofs/. `register_runs` and `demands` use the theorems.

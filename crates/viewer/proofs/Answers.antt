@@ -1,4 +1,4 @@
--- From what the reader and the figures promise to what the viewer promises. Assumes nothing.
+-- From the contracts of the reader and of the figures to those of the viewer. Assumes nothing.
 use Prim.Native.Nat.{ℕ}
 use mathlib.Core.Path.{_≡_, ap, _∙_}
 use mathlib.Core.List.{List}
@@ -12,14 +12,14 @@ use Rattle.plans.specs.Reading.{readFault, readSays, planRead}
 use Rattle.plans.specs.declared.Figures.{Figures}
 use Rattle.plans.specs.declared.Read.{Read}
 
--- A value beside an outcome that is known.
+-- The value for a known outcome.
 pub value-read : (o : Outcome) (n x : ℕ) → o ≡ Outcome.Bytes n → x ≡ said (outcomeSays o .number) x .value
 value-read o n x e = rw e
 
 pub value-refused : (o : Outcome) (r : Refusal) (x : ℕ) → o ≡ Outcome.Refused r → 0 ≡ said (outcomeSays o .number) x .value
 value-refused o r x e = rw (e, number-not-zero r)
 
--- Whichever figure is picked, of the plan that was read.
+-- Either figure of the plan that was read.
 pub is-figure : (s : List ℕ) (read : Read) → outcomeSays (read .outcome) ≡ readSays s
     → (pick : Figures → ℕ) (figures : Figures) → read .plan ≡ planRead s → figures ≡ figuresOf (read .plan)
     → (x : ℕ) → x ≡ said (outcomeSays (read .outcome) .number) (pick figures) .value

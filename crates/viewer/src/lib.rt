@@ -1,12 +1,13 @@
-// What a viewer in C calls: plan bytes in, a number out. include/bittmelon.h declares these functions.
-// A refused plan has figures 0, and an accepted one can too: ask for the refusal number first.
+// What a viewer in C calls: the functions are given the bytes of a plan and return a number. include/bittmelon.h
+// declares them. The figures of a refused plan are 0, and those of an accepted one can be 0 too: ask for the refusal
+// number first.
 use encoding::Outcome;
 ghost use mathlib.Core.Path.{_≡_};
 ghost use Rattle.refusals.specs.Due.{said};
 ghost use Rattle.encoding.specs.Buffers.{outcomeSays};
 ghost use Rattle.viewer.specs.Viewer.{planRefusal, planReadFigure, planWriteFigure};
 
-// 0 where the plan was read, else the refusal's number.
+// 0 if the plan was read, else the refusal's number.
 fn number_of(outcome: Outcome) -> u32
     ensures { λ r. ⌜ r ≡ outcomeSays outcome .number ⌝ }
 {
@@ -16,7 +17,7 @@ fn number_of(outcome: Outcome) -> u32
     }
 }
 
-// The figure where the plan was read, else 0.
+// The figure if the plan was read, else 0.
 fn figure_or_zero(outcome: Outcome, figure: u32) -> u32
     ensures { λ r. ⌜ r ≡ said (outcomeSays outcome .number) figure .value ⌝ }
 {
@@ -26,7 +27,7 @@ fn figure_or_zero(outcome: Outcome, figure: u32) -> u32
     }
 }
 
-// The refusal number of the plan in the bytes, 0 if it is accepted.
+// The refusal number of the plan in the bytes, or 0 if it is accepted.
 #[no_mangle]
 pub extern "C" fn bittmelon_plan_refusal(bytes: &[u8]) -> u32
     ensures { λ r. ⌜ r ≡ planRefusal (now (bytes .entry)) ⌝ }

@@ -1,5 +1,5 @@
 -- What is written block by block is what the bytes of all blocks give: a block's lines have room, and a block that
--- carries no call out is the last. Assumes nothing.
+-- carries out no call is the last. Assumes nothing.
 use Prim.Native.Nat.{ℕ, zero, suc, _-_, _*_, _/_, _≤_, _<_, min}
 use mathlib.Core.Path.{_≡_, refl, ap, sym, _∙_}
 use mathlib.Core.Bool.{Bool, true, false, cond}
@@ -20,24 +20,25 @@ use Rattle.whole_listing.specs.Arrivals.{together, Arrived, fed, waited,
 use Rattle.whole_listing.proofs.Waits.{Fed, fed-until-enough, after-wait, all-at-hand}
 use Rattle.whole_listing.proofs.Calls.{callsBy, piece-then-rest, all-carried-out, end-of-input, still-open, tail-is-told, record-due}
 
--- How many records the bytes s give while n calls are left.
+-- How many records the bytes s contain while n calls are left.
 abbrev wholeRecords : ℕ → List ℕ → ℕ
 wholeRecords n s = min n (length s / recordSize)
 
--- In the program's buffers all records that are whole have room for their lines: 512 records at most, and 819 lines.
+-- In the program's buffers all whole records have room for their lines: there are at most 512 records, and room for 744
+-- lines.
 block-has-room : (n : ℕ) (s : List ℕ) → length s ≤ blockRoom → budget n s linesRoom ≡ wholeRecords n s
 block-has-room n s h = omega arith
 
--- A full block has more than is waited for.
+-- A full block contains more bytes than the program waits for.
 full-block : (n : ℕ) (s : List ℕ) → blockRoom ≤ length s → callThere n s ≡ true
 full-block zero s h = le-leb 1 (length s) (omega arith)
 full-block (suc n) s h = le-leb (dueSize (suc n)) (length s) (omega (arith, record-due n))
 
--- Fewer bytes at hand than are waited for: the input is closed, and nothing is to come.
+-- If fewer bytes are at hand than the program waits for, the input is closed and nothing more will come.
 abbrev Ended : Bool → ℕ → List ℕ → List (List ℕ) → Type 0
 Ended closed n s t = length s < dueSize n → (closed ≡ true) × (together t ≡ [])
 
--- A wait for a call goes on with what the bytes give.
+-- A wait for a call continues with what the bytes give.
 pub waits-for-call : (closed : Bool) (b : Board) (n : ℕ) (st : State) (s : List ℕ) (t : List (List ℕ))
     (next : List ℕ → List (List ℕ) → List ℕ)
     → length s ≤ blockRoom
@@ -58,7 +59,7 @@ waits-for-call closed b n st s t next fits goes =
     whole : callsBy closed b st n (a .bytes ++ together (a .later)) ≡ callsBy closed b st n (s ++ together t)
     whole = ap (callsBy closed b st n) (f .whole)
 
--- A block without a record that is due gives the line that ends the listing, if any.
+-- A block without a whole record that is due gives the line that ends the listing, if any.
 last-block : (closed : Bool) (b : Board) (st : State) (n : ℕ) (s : List ℕ) (t : List (List ℕ)) → wholeRecords n s ≡ 0 → Ended closed n s t
     → callsBy closed b st n (s ++ together t) ≡ endLine n s
 last-block closed b st zero s t none ends = go (leb 1 (length s)) refl
@@ -79,7 +80,7 @@ same-rest r f g h = go (r .ended) h
     go true same = refl
     go false same = ap (λ l. r .lines ++ l) (same refl)
 
--- The calls, block by block, have the lines of all calls.
+-- The calls, block by block, give the lines of all calls.
 pub in-blocks : (closed : Bool) (turns : ℕ) (b : Board) (st : State) (n : ℕ) (s : List ℕ) (t : List (List ℕ)) → n < turns → length s ≤ blockRoom
     → Ended closed n s t
     → inBlocks closed turns b st n s t ≡ callsBy closed b st n (s ++ together t)

@@ -1,4 +1,4 @@
--- The lines of a log's calls, with the input closed behind the bytes or still open: some records and then the rest, and
+-- The lines of a log's calls, with the input closed after the bytes or still open: some records and then the rest, and
 -- what fewer bytes than a record give. Assumes nothing.
 use Prim.Native.Nat.{ℕ, zero, suc, _+_, _-_, _*_, _≤_, _<_}
 use mathlib.Core.Path.{_≡_, refl, ap, sym, _∙_}
@@ -22,7 +22,7 @@ use Rattle.replay.proofs.Records.{Found, found, lineIn, stateIn, ran-call, ran-
 use Rattle.whole_listing.specs.Listing.{callsListing}
 use Rattle.whole_listing.specs.SoFar.{callsSoFar}
 
--- The lines of n calls in the bytes s, where the input is closed behind them or still open.
+-- The lines of n calls in the bytes s, with the input closed after them or still open.
 unfoldable pub callsBy : Bool → Board → State → ℕ → List ℕ → List ℕ
 callsBy closed b st zero s = faultLine (tailFault s)
 callsBy closed b st (suc n) s =
@@ -40,7 +40,7 @@ unfolding callsBy callsSoFar
 open-calls b zero st s = refl
 open-calls b (suc n) st s = rw (open-calls b n (stateIn b st s) (drop recordSize s))
 
--- A record that is whole: a call's line and what follows it, or a refusal's line.
+-- A record that is whole gives a call's line and what follows it, or a refusal's line.
 module _ (closed : Bool) (b : Board) (st : State) (s : List ℕ) (k : ℕ) (there : recordSize ≤ length s) where
   looked-at : (closed || leb recordSize (length s)) ≡ true
   looked-at = or-right closed (leb recordSize (length s)) (le-leb recordSize (length s) there)
@@ -59,13 +59,13 @@ line-in-front : (line : List ℕ) (e : Bool) (x y : List ℕ) → line ++ cond e
 line-in-front line true x y = refl
 line-in-front line false x y = sym (append-assoc line x y)
 
--- The bytes after one record more.
+-- The bytes after one more record.
 drop-record : (k : ℕ) (s : List ℕ) → drop (recordSize * suc k) s ≡ drop (recordSize * k) (drop recordSize s)
 drop-record k s =
     let e : 8 * suc k ≡ 8 + 8 * k = omega arith in
     ap (λ (n : ℕ). drop n s) e ∙ sym (drop-drop (8 * k) 8 s)
 
--- The lines of k records that are there and m more are those of the k, and what follows them.
+-- The lines of k records that are there and of m more are the lines of the k records, and then what follows them.
 records-then-rest : (closed : Bool) (b : Board) (k m : ℕ) (st : State) (s : List ℕ) → recordSize * k ≤ length s
     → callsBy closed b st (k + m) s ≡ goingOn (ran b st k s) (λ st′. callsBy closed b st′ m (drop (recordSize * k) s))
 unfolding ran
@@ -80,7 +80,7 @@ records-then-rest closed b (suc k) m st s whole =
       | Found.refused e ↦ rw (suc-add, listed-refused closed b st s (k + m) there e, ran-refused b st s k e)
     ]
 
--- Records that no refusal ended are all carried out.
+-- If no refusal ended the records, all of them were carried out.
 pub all-carried-out : (b : Board) (k : ℕ) (st : State) (s : List ℕ) → ran b st k s .ended ≡ false → ran b st k s .calls ≡ k
 unfolding ran
 all-carried-out b zero st s e = refl
@@ -93,7 +93,7 @@ all-carried-out b (suc k) st s e =
     no-end : true ≡ false → ⊥
     no-end h = let z : _≡_ {A = ℕ} 0 1 = cc in omega arith
 
--- A record that is whole in the front is read there.
+-- A record that is whole in s is read from s, whatever follows.
 module _ (s t : List ℕ) (h : recordSize ≤ length s) where
   pub fields-in-front : fieldsIn (s ++ t) ≡ fieldsIn s
   unfolding fieldsIn
@@ -110,7 +110,7 @@ module _ (s t : List ℕ) (h : recordSize ≤ length s) where
       let longer : 8 ≤ length (s ++ t) = simp length-append (omega arith) in
       rw (fields-in-front, le-leb 8 (length (s ++ t)) longer, le-leb 8 (length s) h)
 
--- So are records that are whole in the front.
+-- The same for several records.
 records-in-front : (b : Board) (k : ℕ) (st : State) (s t : List ℕ) → recordSize * k ≤ length s → ran b st k (s ++ t) ≡ ran b st k s
 unfolding ran
 records-in-front b zero st s t h = refl
@@ -119,8 +119,8 @@ records-in-front b (suc k) st s t h =
     let later : 8 * k ≤ length (drop 8 s) = simp length-drop (omega arith) in
     rw (fault-in-front s t one, fields-in-front s t one, drop-append-le 8 s t one, records-in-front b k (stateIn b st s) (drop 8 s) t later)
 
--- Of the bytes s that came, and t that are still to come, the lines of the records in s, and then those of what is left
--- of s with t.
+-- For the bytes s that have arrived and t that are still to come: the lines of the records in s, and then those of the
+-- rest of s with t.
 pub piece-then-rest : (closed : Bool) (b : Board) (k n : ℕ) (st : State) (s t : List ℕ) → k ≤ n → recordSize * k ≤ length s
     → callsBy closed b st n (s ++ t) ≡ goingOn (ran b st k s) (λ st′. callsBy closed b st′ (n - k) (drop (recordSize * k) s ++ t))
 piece-then-rest closed b k n st s t h w =
@@ -128,12 +128,12 @@ piece-then-rest closed b k n st s t h w =
     ap (λ (m : ℕ). callsBy closed b st m (s ++ t)) (sym (add-sub-of-le h))
     ∙ rw (records-then-rest closed b k (n - k) st (s ++ t) longer, records-in-front b k st s t w, drop-append-le (8 * k) s t w)
 
--- With a call left a record is waited for.
+-- While a call is left, the program waits for a record.
 pub record-due : (n : ℕ) → dueSize (suc n) ≡ recordSize
 record-due n = rw (ne-eqb (suc n) 0 (λ e. omega arith))
 
--- With fewer bytes than are waited for: at the end of the input the line that ends the listing, if any, and else
--- nothing.
+-- With fewer bytes than the program waits for: at the end of the input the line that ends the listing, if any, and
+-- otherwise nothing.
 pub end-of-input : (b : Board) (n : ℕ) (st : State) (s : List ℕ) → length s < dueSize n → callsBy true b st n s ≡ endLine n s
 unfolding callsBy endFault recordFault
 end-of-input b zero st s h = refl
@@ -149,7 +149,7 @@ still-open b (suc n) st s h =
     let few : length s < 8 = omega (arith, record-due n) in
     rw (lt-leb 8 (length s) few)
 
--- A byte behind the last call is told whatever follows it.
+-- A byte after the last call gives its line, whatever follows it.
 pub tail-is-told : (closed : Bool) (b : Board) (st : State) (s t : List ℕ) → 0 < length s → callsBy closed b st 0 (s ++ t) ≡ endLine 0 s
 unfolding callsBy endFault
 tail-is-told closed b st [] t h = absurd (omega arith)

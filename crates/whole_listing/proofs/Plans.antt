@@ -1,4 +1,4 @@
--- A plan that is not short is decided: bytes behind it change nothing, and a full buffer is never short. Assumes
+-- A plan that is not short is decided: bytes after it change nothing, and a full buffer is never short. Assumes
 -- nothing.
 use Prim.Native.Nat.{ℕ, zero, suc, _*_, _^_, _≤_, _<_}
 use mathlib.Core.Path.{_≡_, refl, ap, sym, _∙_}
@@ -35,12 +35,12 @@ first-not-short : (a b : ℕ) → NotShort a → (a ≡ 0 → NotShort b) → No
 first-not-short zero b na nb = nb refl
 first-not-short (suc n) b na nb = λ e. na (rw (eqb·suc-zero n) at e)
 
--- Behind a look that is the same: the same number, where what is looked at later is decided.
+-- After a first check with the same number: the number is the same if what is checked later is decided.
 look-same : (a b c : ℕ) → (a ≡ 0 → NotShort b → b ≡ c) → NotShort (firstOf a b) → firstOf a b ≡ firstOf a c
 look-same zero b c h decided = h refl decided
 look-same (suc n) b c h decided = rw (eqb·suc-zero n)
 
--- Behind bytes that are due and are there.
+-- The same after bytes that are due and are there.
 due-same : (k : ℕ) (s t : List ℕ) (b c : ℕ) → (k ≤ length s → NotShort b → b ≡ c) → NotShort (firstOf (shortFault k s) b)
     → firstOf (shortFault k s) b ≡ firstOf (shortFault k (s ++ t)) c
 due-same k s t b c h decided = go (leb k (length s)) refl decided
@@ -54,7 +54,7 @@ due-same k s t b c h decided = go (leb k (length s)) refl decided
 
 -- ---- entries
 
--- An entry that is whole in the front is read there.
+-- An entry that is whole in s is read from s, whatever follows.
 entry-in-front : (s t : List ℕ) → 11 ≤ length s → entryIn (s ++ t) ≡ entryIn s
 unfolding entryIn
 entry-in-front s t h =
@@ -64,7 +64,7 @@ entry-in-front s t h =
     let len : slice 9 11 (s ++ t) ≡ slice 9 11 s = ap (drop 9) (take-append-le 11 s t h) in
     rw (List·getD-append s t 0 0 h0, set, len)
 
--- So are the entries of a section.
+-- The same for the entries of a section.
 entries-in-front : (n : ℕ) (s t : List ℕ) → 11 * n ≤ length s → entriesIn n (s ++ t) ≡ entriesIn n s
 unfolding entriesIn
 entries-in-front zero s t h = refl
@@ -73,7 +73,7 @@ entries-in-front (suc n) s t h =
     let later : 11 * n ≤ length (drop 11 s) = simp length-drop (omega arith) in
     rw (entry-in-front s t one, drop-append-le 11 s t one, entries-in-front n (drop 11 s) t later)
 
--- And their first fault, where it is not that they are short.
+-- The same for their first fault, unless it is that they are short.
 section-decided : (r n : ℕ) (s t : List ℕ) → NotShort (sectionFault r n s) → sectionFault r n s ≡ sectionFault r n (s ++ t)
 unfolding sectionFault
 section-decided r zero s t decided = refl
@@ -100,7 +100,7 @@ section-not-short r (suc n) s h =
 
 -- ---- a whole plan
 
--- The plan's buffer has room for every plan: full, it is never short.
+-- The plan's buffer has room for every plan: when it is full, the plan is not short.
 pub full-plan : (s : List ℕ) → planRoom ≤ length s → not (isShort s) ≡ true
 unfolding countsFault
 full-plan s h = rw (ne-eqb (readFault s) 1 decided)

@@ -1,5 +1,5 @@
--- What is written before a piece arrives stays at the front of what is written after it: it hangs on earlier pieces
--- alone. Assumes nothing.
+-- What is written before a piece arrives stays at the front of what is written after it: it depends on the earlier
+-- pieces alone. Assumes nothing.
 use Prim.Native.Nat.{ℕ, zero, suc, _≤_, _<_}
 use mathlib.Core.Path.{_≡_, refl, ap, sym, _∙_}
 use mathlib.Core.Bool.{Bool, true, false, cond, not}
@@ -109,7 +109,7 @@ together-more [] later = refl
 together-more (piece ∷ now) later =
     ap (λ l. piece ++ l) (together-more now later) ∙ sym (append-assoc piece (together now) (together later))
 
--- Whatever comes later, closed or not.
+-- This holds whatever comes later, and whether or not the input is closed then.
 pub written-stays : (closed : Bool) (now later : List (List ℕ)) → Begins (programListing closed (now ++ later)) (programListing false now)
 written-stays closed now later =
     begins-by _ _ _ _

@@ -1,5 +1,5 @@
 -- What `lockreplay` writes for an input that arrives in pieces: the listing of the pieces together, and before the
--- input ends the lines that they decide. Assumes nothing.
+-- input ends the lines that the pieces decide. Assumes nothing.
 use Prim.Native.Nat.{ℕ, suc, _≤_, _<_}
 use mathlib.Core.Path.{_≡_, refl, ap, sym, _∙_}
 use mathlib.Core.Bool.{Bool, true, false, cond, not, _||_}
@@ -34,14 +34,14 @@ use Rattle.whole_listing.proofs.Stages.{countedBy, acceptedBy, listedBy
 
 -- ---- the number of calls
 
--- A number of calls that is there is read there, whatever follows.
+-- A number of calls that is there is read from there, whatever follows.
 count-in-front : (s t : List ℕ) → countSize ≤ length s → readCount (s ++ t) ≡ readCount s
 count-in-front s t h =
     let longer : 2 ≤ length (s ++ t) = simp length-append (omega arith) in
     rw (le-leb 2 (length (s ++ t)) longer, le-leb 2 (length s) h, take-append-le 2 s t h)
 
 module _ (closed : Bool) (b : Board) (st : State) where
-  -- What is written from a block with the number of calls in front, and what its bytes give.
+  -- What is written from a block that begins with the number of calls is what its bytes give.
   written-from : (s : List ℕ) (t : List (List ℕ)) → readCount s .number ≡ 0
       → fromCount closed b st s t
       ≡ waited closed (callThere (readCount s .value)) (fed blockRoom (callThere (readCount s .value)) (drop countSize s) t)
@@ -71,11 +71,11 @@ module _ (closed : Bool) (b : Board) (st : State) where
       (λ s′ t′ fits′ ends. in-blocks closed (suc n) b st n s′ t′ (omega arith) fits′ ends)
       ∙ sym (counted-from s (together t) two none)
 
-  -- At the end of the input without one.
+  -- The input ends without a number of calls.
   not-counted : (s : List ℕ) (t : List (List ℕ)) → countThere s ≡ false → fromCount closed b st s t ≡ countedBy true b st s
   not-counted s t few = rw (few, append-nil)
 
-  -- The wait for it, from the bytes behind the plan.
+  -- The wait for the number of calls, from the bytes after the plan.
   pub waits-for-count : (s : List ℕ) (t : List (List ℕ)) → length s ≤ blockRoom
       → waited closed countThere (fed blockRoom countThere s t) (λ s′ t′. fromCount closed b st s′ t′)
       ≡ countedBy closed b st (s ++ together t)
@@ -97,7 +97,7 @@ module _ (closed : Bool) (b : Board) (st : State) where
 -- ---- the plan
 
 module _ (closed : Bool) (s : List ℕ) (t : List (List ℕ)) where
-  -- A plan that is there and refused: its line.
+  -- A plan that is there and is refused gives its line.
   pub listed-refused : (u : List ℕ) → planThere s ≡ true → eqb (readFault s) 0 ≡ false → listedBy closed (s ++ u) ≡ refusalLine (readFault s)
   unfolding listedBy
   listed-refused u there faulty = rw (← fault-decided s u there, or-right closed (planThere s) there, faulty)
@@ -108,7 +108,7 @@ module _ (closed : Bool) (s : List ℕ) (t : List (List ℕ)) where
       written : fromPlan closed s t ≡ refusalLine (readFault s)
       written = rw (faulty, append-nil)
 
-  -- A plan that is there and accepted: the first line, and what follows.
+  -- A plan that is there and is accepted gives the first line, and then what follows.
   written-after : readFault s ≡ 0
       → fromPlan closed s t
       ≡ firstLine (planRead s)
@@ -150,7 +150,7 @@ module _ (closed : Bool) (s : List ℕ) (t : List (List ℕ)) where
       go true e = accepted holds there (eqb-true (readFault s) 0 e)
       go false e = refused there e
 
-  -- At the end of the input without one: refusal 1.
+  -- If the input ends without a plan: refusal 1.
   short-listed : planThere s ≡ false → fromPlan closed s t ≡ listedBy true s
   unfolding listedBy
   short-listed few =
@@ -175,11 +175,11 @@ program-lists closed pieces =
     all : planThere (a .bytes) ≡ false → together pieces ≡ a .bytes
     all few = all-at-hand (a .bytes) (together (a .later)) (together pieces) (f .whole) (f .ended few)
 
--- For an input in any pieces, what is written is the listing of the pieces together.
+-- For an input in any pieces, the program writes the listing of the pieces together.
 pub program-writes-listing : (pieces : List (List ℕ)) → programListing true pieces ≡ listingOf (together pieces)
 program-writes-listing pieces = program-lists true pieces ∙ closed-listing (together pieces)
 
--- Before the input ends, or where a read fails, the lines that the pieces so far decide are written, all of them and no
--- other.
+-- Before the input ends, or if a read fails, the program writes the lines that the pieces so far decide: all of them
+-- and no others.
 pub program-writes-so-far : (pieces : List (List ℕ)) → programListing false pieces ≡ listingSoFar (together pieces)
 program-writes-so-far pieces = program-lists false pieces ∙ open-listing (together pieces)

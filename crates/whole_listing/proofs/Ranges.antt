@@ -1,4 +1,4 @@
--- What a block answers lies within the block, the calls that are left and the buffer. Assumes nothing.
+-- What a block returns is within the block, the calls that are left and the buffer. Assumes nothing.
 use Prim.Native.Nat.{ℕ, zero, suc, _+_, _*_, _≤_}
 use mathlib.Core.Path.{_≡_, refl, ap, _∙_}
 use mathlib.Core.Bool.{Bool, true, false, cond}
@@ -23,7 +23,7 @@ use Rattle.replay.specs.declared.RanBlock.{RanBlock}
 use Rattle.replay.specs.Blocks.{ran, budget, ranBlock}
 use Rattle.replay.proofs.Records.{Found, found, stateIn, ran-call, ran-refused}
 
--- No more calls than records.
+-- There are no more calls than records.
 pub calls-within : (b : Board) (k : ℕ) (st : State) (s : List ℕ) → ran b st k s .calls ≤ k
 unfolding ran
 calls-within b zero st s = omega arith
@@ -45,14 +45,14 @@ module _ (b : Board) (st : State) (left size : ℕ) (s : List ℕ) (r : RanBlock
   calls-in-budget : r .calls ≤ budget left s size
   calls-in-budget = omega (arith, ap (λ (x : RanBlock). x .calls) e, calls-within b (budget left s size) st s)
 
-  -- The calls are among those left, and their records whole in the bytes.
+  -- The calls are among those that are left, and their records are whole in the bytes.
   pub calls-left : r .calls ≤ left
   calls-left = omega (arith, calls-in-budget)
 
   pub calls-whole : recordSize * r .calls ≤ length s
   calls-whole = omega (arith, calls-in-budget)
 
-  -- The lines are within the buffer that they stand in.
+  -- The lines are within the buffer that contains them.
   pub lines-within : (out out′ : List ℕ) → out′ ≡ overwritten out 0 (ran b st (budget left s size) s .lines) → r .written ≤ length out′
   lines-within out out′ eo =
       let lines = ran b st (budget left s size) s .lines in

@@ -1,5 +1,5 @@
--- Every line has room in the program's buffer for lines, so that what is shown of the buffer is the line. Assumes
--- nothing.
+-- Every line has room in the program's buffer for lines, so that the part of the buffer that is shown is the line.
+-- Assumes nothing.
 use Prim.Native.Nat.{ℕ, _+_, _≤_}
 use mathlib.Core.Path.{_≡_}
 use mathlib.Core.Bool.{Bool, true, false, cond}
@@ -20,18 +20,18 @@ use Rattle.replay.specs.Openings.{openingLine}
 use Rattle.replay.specs.Ends.{faultLine, countLine, endFault, endLine}
 use Rattle.whole_listing.specs.Rooms.{linesRoom}
 
--- What is shown of a line with room is the line.
+-- For a line that has room, the part that is shown is the line.
 pub shown-line : (line out : List ℕ) → length line ≤ length out
     → take (lineSays line (length out) 0 .value) (lineBuffer line out 0) ≡ line
 shown-line line out h =
     let room : 0 + length line ≤ length out = omega arith in
     rw (fits-room (length line) (length out) 0 room) (take-append-seam line (drop (0 + length line) out))
 
--- And of a block's lines, the lines.
+-- The same for a block's lines.
 pub shown-block : (r : Ran) (out : List ℕ) → take (ranBlock r .written) (overwritten out 0 (r .lines)) ≡ r .lines
 shown-block r out = take-append-seam (r .lines) (drop (0 + length (r .lines)) out)
 
--- The line that opens the listing has room, and so have those of the count and of the end.
+-- The line that opens the listing has room, and so do the lines of the count and of the end.
 one-of : (t : Bool) (x y : List ℕ) (n : ℕ) → length x ≤ n → length y ≤ n → length (cond t x y) ≤ n
 one-of true x y n h k = h
 one-of false x y n h k = k

@@ -1,5 +1,5 @@
--- What the bytes of a log give, with the input closed behind them or still open: the whole listing, or the lines so
--- far. Assumes nothing.
+-- What the bytes of a log give, with the input closed after them or still open: the whole listing, or the lines so far.
+-- Assumes nothing.
 use Prim.Native.Nat.{ℕ}
 use mathlib.Core.Path.{_≡_, refl, ap, sym, _∙_}
 use mathlib.Core.Bool.{Bool, true, false, cond, not, _||_}

@@ -1,4 +1,4 @@
--- Reading in pieces: nothing is lost, the buffer holds what is read, and too few bytes are the end of the input.
+-- Reading in pieces: nothing is lost, what is read fits into the buffer, and too few bytes mean the end of the input.
 -- Assumes nothing.
 use Prim.Native.Nat.{ℕ, zero, suc, _+_, _-_, _≤_, _<_}
 use mathlib.Core.Path.{_≡_, refl, ap, sym, _∙_}
@@ -26,14 +26,14 @@ read-within n [] = omega arith
 read-within n ([] ∷ later) = read-within n later
 read-within n ((x ∷ piece) ∷ later) = omega (arith, length-take n (x ∷ piece))
 
--- A read with room brings a byte, or the input has ended.
+-- A read with room gets a byte, or the input has ended.
 pub read-brings : (n : ℕ) (t : List (List ℕ)) → 0 < n → (0 < length (got n t)) ⊎ (together t ≡ [])
 unfolding got together
 read-brings n [] some = inr refl
 read-brings n ([] ∷ later) some = read-brings n later some
 read-brings n ((x ∷ piece) ∷ later) some = inl (omega (arith, length-take n (x ∷ piece)))
 
--- Behind the end of the input nothing comes.
+-- After the end of the input nothing comes.
 pub second-empty : (x y : List ℕ) → x ++ y ≡ [] → y ≡ []
 second-empty [] y e = e
 second-empty (a ∷ x) y e = absurd (omega (arith, ap length e))
@@ -42,8 +42,8 @@ no-clash : {A : Type 0} → (t : Bool) → t ≡ true → t ≡ false → A
 no-clash true e f = absurd (let z : _≡_ {A = ℕ} 0 1 = cc in omega arith)
 no-clash false e f = absurd (let z : _≡_ {A = ℕ} 0 1 = cc in omega arith)
 
--- What some reads leave: the bytes at hand and those to come are the same as before, the buffer holds the bytes, and
--- where they are not enough the input has ended.
+-- What some reads leave: the bytes at hand and those to come are the same as before, the bytes fit into the buffer, and
+-- if they are not enough the input has ended.
 pub record Fed (room : ℕ) (enough : List ℕ → Bool) (s : List ℕ) (t : List (List ℕ)) (a : Arrived) : Type 0 where
   pub whole : a .bytes ++ together (a .later) ≡ s ++ together t
   pub holds : length (a .bytes) ≤ room
@@ -91,12 +91,12 @@ module _ (room : ℕ) (enough : List ℕ → Bool) (full : (s : List ℕ) → ro
           let small : length s < room = below (leb room (length s)) refl e in
           carry (later more (toCome n t) (omega (arith, size, read-within n t)) (next h (read-brings n t (omega arith))))
 
-  -- As many turns as there is room are enough.
+  -- As many turns as there are bytes of room are enough.
   pub fed-until-enough : (s : List ℕ) (t : List (List ℕ)) → length s ≤ room → Fed room enough s t (fed room enough s t)
   fed-until-enough s t fits = turns-enough room s t fits (inl (omega arith))
 
--- What is written after a wait is what the bytes at hand and to come give: where they are enough; where the input
--- ended; and nothing where the wait goes on.
+-- What is written after a wait is what the bytes at hand and to come give if they are enough or if the input ended, and
+-- nothing while the wait goes on.
 pub after-wait : (closed : Bool) (enough : List ℕ → Bool) (a : Arrived) (next : List ℕ → List (List ℕ) → List ℕ) (gives : List ℕ)
     → (enough (a .bytes) ≡ true → next (a .bytes) (a .later) ≡ gives)
     → (closed ≡ true → enough (a .bytes) ≡ false → next (a .bytes) (a .later) ≡ gives)
@@ -110,6 +110,6 @@ after-wait closed enough a next gives there ended waits = go closed (enough (a .
     go false true ec ee = there ee
     go false false ec ee = waits ec ee
 
--- All there is: bytes behind which nothing comes.
+-- If nothing comes after the bytes at hand, they are all there is.
 pub all-at-hand : (s u whole : List ℕ) → s ++ u ≡ whole → u ≡ [] → whole ≡ s
 all-at-hand s u whole e none = sym e ∙ ap (λ l. s ++ l) none ∙ append-nil s

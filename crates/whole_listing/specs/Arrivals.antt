@@ -1,5 +1,5 @@
--- A log that arrives in pieces, in the buffers that `lockreplay` has: what it writes, put together from what the
--- functions promise of each buffer.
+-- A log that arrives in pieces, in the buffers of `lockreplay`: what the program writes, built from what the functions
+-- promise for each buffer.
 use Prim.Native.Nat.{ℕ, zero, suc, _-_, _*_}
 use mathlib.Core.Bool.{Bool, cond, not, _||_}
 use mathlib.Core.List.{List, [], _∷_, _++_}
@@ -21,13 +21,13 @@ unfoldable pub together : List (List ℕ) → List ℕ
 together [] = []
 together (piece ∷ later) = piece ++ together later
 
--- Clause 9.10: a read with room for n bytes gets at most n of the first piece. A piece without bytes is none.
+-- Clause 9.10: a read with room for n bytes gets at most n bytes of the first piece. A piece without bytes is ignored.
 unfoldable pub got : ℕ → List (List ℕ) → List ℕ
 got n [] = []
 got n ([] ∷ later) = got n later
 got n ((x ∷ piece) ∷ later) = take n (x ∷ piece)
 
--- What is then still to come: the rest of that piece, and the later ones.
+-- What is then still to come: the rest of that piece, and the later pieces.
 unfoldable pub toCome : ℕ → List (List ℕ) → List (List ℕ)
 toCome n [] = []
 toCome n ([] ∷ later) = toCome n later
@@ -38,23 +38,23 @@ pub record Arrived : Type 0 where
   pub bytes : List ℕ
   pub later : List (List ℕ)
 
--- Reads into a buffer behind its bytes until they are enough. Once the input has ended, a read gets nothing.
+-- Reads into a buffer, after its bytes, until they are enough. Once the input has ended, a read gets nothing.
 unfoldable pub reads : ℕ → ℕ → (List ℕ → Bool) → List ℕ → List (List ℕ) → Arrived
 reads zero room enough s t = record { bytes = s; later = t }
 reads (suc turns) room enough s t =
     cond (enough s) (record { bytes = s; later = t })
     (reads turns room enough (s ++ got (room - length s) t) (toCome (room - length s) t))
 
--- Each read but the last brings a byte, so as many as there is room for are enough.
+-- Each read except the last gets a byte, so as many reads as there are bytes of room are enough.
 abbrev pub fed : ℕ → (List ℕ → Bool) → List ℕ → List (List ℕ) → Arrived
 fed room enough s t = reads room room enough s t
 
--- Clauses 9.10 and 9.11: what is written after a wait. The input was closed behind its pieces, or not: then a wait for
--- bytes that do not come, or a read that fails, is the end of what is written.
+-- Clauses 9.10 and 9.11: what is written after a wait. If the input is not closed after its pieces, a wait for bytes
+-- that do not come, or a read that fails, ends what is written.
 abbrev pub waited : Bool → (List ℕ → Bool) → Arrived → (List ℕ → List (List ℕ) → List ℕ) → List ℕ
 waited closed enough a next = cond (closed || enough (a .bytes)) (next (a .bytes) (a .later)) []
 
--- What is waited for: the plan, the number of calls, and with n calls left a record or a tail.
+-- What the program waits for: the plan, the number of calls, and with n calls left a record or a tail.
 abbrev pub planThere : List ℕ → Bool
 planThere s = not (isShort s)
 
@@ -64,8 +64,8 @@ countThere s = leb countSize (length s)
 abbrev pub callThere : ℕ → List ℕ → Bool
 callThere n s = leb (dueSize n) (length s)
 
--- The calls, block by block, from the block s and the pieces t that are still to come. A block that carries no call out
--- is the last. Each other block carries a call out, so one turn more than there are calls is enough.
+-- The calls, block by block, from the block s and the pieces t that are still to come. A block that carries out no call
+-- is the last. Every other block carries out a call, so one turn more than there are calls is enough.
 unfoldable pub inBlocks : Bool → ℕ → Board → State → ℕ → List ℕ → List (List ℕ) → List ℕ
 inBlocks closed zero b st left s t = []
 inBlocks closed (suc turns) b st left s t =
@@ -76,7 +76,7 @@ inBlocks closed (suc turns) b st left s t =
     (waited closed (callThere n) (fed blockRoom (callThere n) (drop (recordSize * r .calls) s) t)
     (λ s′ t′. inBlocks closed turns b st′ n s′ t′)))
 
--- The call count at the front of the block s, and the calls behind it.
+-- The call count at the start of the block s, and the calls after it.
 abbrev pub fromCount : Bool → Board → State → List ℕ → List (List ℕ) → List ℕ
 fromCount closed b st s t =
     let n = readCount s .value in
@@ -86,7 +86,7 @@ fromCount closed b st s t =
     (λ s′ t′. inBlocks closed (suc n) b st n s′ t′))
     []
 
--- The plan at the front of its buffer s. The bytes that came in behind it are the log's next ones.
+-- The plan at the start of its buffer s. The bytes that were read after it are the next ones of the log.
 abbrev pub fromPlan : Bool → List ℕ → List (List ℕ) → List ℕ
 fromPlan closed s t =
     openingLine s

@@ -16,7 +16,7 @@ use Rattle.replay.specs.Records.{callIn}
 use Rattle.replay.specs.Ends.{faultLine}
 
 -- Clauses 9.4 and 9.5: the lines of n calls in the bytes s. A record that is refused ends the listing, and the calls
--- before it stay carried out. Behind the last call, 2 for a tail.
+-- before it stay carried out. After the last call, 2 for a tail.
 unfoldable pub callsListing : Board → State → ℕ → List ℕ → List ℕ
 callsListing b st zero s = faultLine (tailFault s)
 callsListing b st (suc n) s =
@@ -25,7 +25,7 @@ callsListing b st (suc n) s =
     ++ callsListing b (answered b st (callIn s) .state) n (drop recordSize s))
     (refusalLine (recordFault s))
 
--- Clauses 9.1 and 9.4: the number of calls, and the calls; 1 where the number is not there.
+-- Clauses 9.1 and 9.4: the number of calls, and the calls; 1 if the number is not there.
 abbrev pub countedListing : Board → State → List ℕ → List ℕ
 countedListing b st s =
     cond (eqb (readCount s .number) 0) (callsListing b st (readCount s .value) (drop countSize s))

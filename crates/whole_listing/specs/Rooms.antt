@@ -1,8 +1,9 @@
--- The sizes of the buffers that a replay has.
+-- The sizes of the buffers of a replay.
 use Prim.Native.Nat.{ℕ}
 use Rattle.plans.specs.Entries.{mostEntries, planSize}
 
--- The plan's buffer holds the longest plan (clause 2.6). There is one for a block of the input, and one for its lines.
+-- The plan's buffer has room for the longest plan (clause 2.6). The others are for a block of the input and for its
+-- lines.
 abbrev pub planRoom : ℕ
 planRoom = planSize mostEntries
 

@@ -17,13 +17,13 @@ use Rattle.log_input.specs.Stages.{isShort}
 use Rattle.replay.specs.Records.{callIn}
 use Rattle.replay.specs.Ends.{faultLine}
 
--- Some bytes begin with others.
+-- The bytes `whole` begin with the bytes `front`.
 pub record Begins (whole front : List ℕ) : Type 0 where
   pub rest : List ℕ
   pub is : whole ≡ front ++ rest
 
--- Clause 9.10: of n calls, the lines of those whose records are there, and then nothing; 9 for a record that is there,
--- and 2 for a byte behind the last call.
+-- Clause 9.10: of n calls, the lines of those whose records are there, and then nothing; 9 for a faulty record that is
+-- there, and 2 for a byte after the last call.
 unfoldable pub callsSoFar : Board → State → ℕ → List ℕ → List ℕ
 callsSoFar b st zero s = faultLine (tailFault s)
 callsSoFar b st (suc n) s =
@@ -34,12 +34,12 @@ callsSoFar b st (suc n) s =
     (refusalLine (recordFault s)))
     []
 
--- Clause 9.10: the calls once their number is there.
+-- Clause 9.10: the calls, once their number is there.
 abbrev pub countedSoFar : Board → State → List ℕ → List ℕ
 countedSoFar b st s =
     cond (leb countSize (length s)) (callsSoFar b st (readCount s .value) (drop countSize s)) []
 
--- Clause 9.10: nothing while the plan is short; else its refusal, or the first line and the calls so far.
+-- Clause 9.10: nothing while the plan is short; otherwise its refusal, or the first line and the calls so far.
 unfoldable pub listingSoFar : List ℕ → List ℕ
 listingSoFar s =
     cond (isShort s) []

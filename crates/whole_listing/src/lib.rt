@@ -1,5 +1,5 @@
-// The sizes of a replay's buffers, and with them the theorem: what is written is the listing of the whole log
-// (proofs/Program.antt).
+// The sizes of the buffers that `lockreplay` uses, and the theorem over these buffers: what the program writes is the
+// listing of the whole log (proofs/Program.antt). `lockreplay` and `demands` use it.
 ghost use mathlib.Core.Path.{_≡_};
 ghost use Rattle.whole_listing.specs.Rooms.{planRoom, blockRoom, linesRoom};
 
@@ -10,7 +10,7 @@ pub const BLOCK_ROOM: usize = 4096;
 
 pub const LINES_ROOM: usize = 65536;
 
-// The sizes of the program's buffers are those of the definition. The plan's holds the longest plan.
+// The sizes of the program's buffers are those of the definition. The plan's buffer has room for the longest plan.
 pub fn plan_room() -> usize
     ensures { λ r. ⌜ r ≡ planRoom ⌝ }
 {

@@ -1,4 +1,4 @@
--- Runs of stores: of a mask's bytes and a part's. Assumes nothing.
+-- Runs of stores: of the bytes of a mask, and of a part. Assumes nothing.
 use Prim.Native.Nat.{ℕ, suc, _+_, _/_, _%_, _≤_}
 use mathlib.Core.Path.{_≡_, ap, _∙_}
 use mathlib.Core.List.{List}
@@ -13,7 +13,7 @@ use Rattle.encoding.proofs.Stores.{sets-append}
 use Rattle.board_list.specs.Sizes.{partSize}
 use Rattle.board_list.specs.Parts.{partBytes}
 
--- A mask of two bytes, stored one by one.
+-- A mask of two bytes, stored byte by byte.
 pub two-stored : (size mask : ℕ) (l : List ℕ) (at : ℕ) → size ≡ 2
     → set (set l at (mask % 256)) (at + 1) (mask / 256 % 256) ≡ sets l at (bytesOf size mask)
 unfolding bytesOf
@@ -38,7 +38,7 @@ module _ (k state entry waited waits : ℕ) (l : List ℕ) (at : ℕ) where
         length-bytesOf 4 waited,
       )
 
-  -- The same by what `write_number` leaves, where there is room.
+  -- The same with the buffer that `write_number` leaves, if there is room.
   pub part-written : (mid last : List ℕ) → at + partSize k ≤ length l
       → mid ≡ bufferAfter (roomFault 4 (length start) (at + 2)) (bytesOf 4 waited) start (at + 2)
       → last ≡ sets mid (at + 6) (bytesOf k waits)

@@ -1,4 +1,4 @@
--- `fresh_state` meets its contract: the fields as they stand. Assumes nothing.
+-- `fresh_state` meets its contract: what it returns is the definition itself. Assumes nothing.
 use mathlib.Core.Path.{refl}
 use Rattle.boards.proofs.fresh_state.Statement.{statement}
 use Rattle.boards.proofs.fresh_state.Tie as tie

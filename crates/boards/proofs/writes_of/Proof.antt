@@ -1,5 +1,5 @@
--- `writes_of` meets its contract. The loop's invariant: the set of the entries passed that are writes.
--- The measure is how many are left. Assumes nothing.
+-- `writes_of` meets its contract. The loop's invariant: the set contains the writes among the entries so far. The
+-- measure is how many are left. Assumes nothing.
 use Prim.Native.Nat.{_≤_, _-_}
 use native.Mathlib.Omega.{arith}
 use mathlib.Core.Path.{_≡_, refl}

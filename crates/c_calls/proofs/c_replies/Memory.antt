@@ -1,5 +1,5 @@
--- A call in place whose reply is told in numbers leaves the same answer: where it was carried out and its moment is
--- stored, and where it was refused and nothing is. Assumes nothing.
+-- A call in place whose reply is returned in numbers leaves the same answer: its moment is stored if it was carried
+-- out, and nothing is stored if it was refused. Assumes nothing.
 use Prim.Native.Nat.{ℕ}
 use mathlib.Core.Bool.{Bool, true, false, cond}
 use mathlib.Core.List.{List}
@@ -19,7 +19,7 @@ use Rattle.c_boards.specs.Parts.{momentBy}
 use Rattle.c_calls.specs.declared.c_replies.Replied.{Replied}
 use Rattle.c_calls.specs.Replies.{response, momentLeft, answerIn}
 
--- From the moment that was read of the caller's memory.
+-- The same with the moment that was read from the caller's memory.
 pub from-memory : (call : State → Answer) (moment : Moment) (last : ℕ) (phases entry since earlier : List ℕ) (a : Answer)
     → moment ≡ momentBy last phases → a ≡ call (stateBy moment entry since earlier)
     → a ≡ call (stateBy (momentBy last phases) entry since earlier)
@@ -34,7 +34,7 @@ state-kept : (accepts : Bool) (n : ℕ) (s : State) (a : Answer) → a .reply .n
 state-kept true n s a zero r is = absurd (refused-not-zero r (sym is ∙ zero))
 state-kept false n s a zero r is = refl
 
--- Of an answer: where it is a refusal, the state in it is this one.
+-- If the answer x is a refusal, its state is s.
 abbrev pub Stays : Answer → State → Type 0
 Stays x s = (r : Refusal) → x .reply .number ≡ numberOf r → x .state ≡ s
 
@@ -43,7 +43,7 @@ ruled-stays n s a zero = state-kept (eqb n 0) n s a zero
 
 -- ---- any call
 
--- The moment that is left is the one after the call: a refused call has the one before.
+-- The moment that is left is the one after the call; after a refused call it is the one before.
 moment-after : (x : Answer) (s : State) → Stays x s → (changed : Changed) (entry since earlier : List ℕ)
     → answerBy changed entry since earlier ≡ x → (r : Reply) → changed .reply ≡ r
     → momentLeft r (changed .moment) (record { last = s .last; phases = s .phases }) ≡ changed .moment
@@ -54,7 +54,7 @@ moment-after x s stays changed entry since earlier is (Reply.Refused r) e =
     ∙ ap (λ a. record { last = a .last; phases = a .phases })
     (stays r (ap (λ a. a .reply .number) (sym is) ∙ ap (λ a. replySays a .number) e)))
 
--- So the caller's memory has the call's answer.
+-- So the caller's memory contains the call's answer.
 pub answered : (x : Answer) (s : State) → Stays x s → (told : Replied) (changed : Changed) (last : ℕ)
     (phases entry since earlier : List ℕ) → response told ≡ replySays (changed .reply)
     → momentBy last phases ≡ momentLeft (changed .reply) (changed .moment) (record { last = s .last; phases = s .phases })

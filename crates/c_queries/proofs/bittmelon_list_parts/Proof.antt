@@ -1,4 +1,5 @@
--- `bittmelon_list_parts` meets its contract: the list in place, told in numbers. Assumes nothing.
+-- `bittmelon_list_parts` meets its contract: it makes the list in place and returns the answer in numbers. Assumes
+-- nothing.
 use mathlib.Core.List.{[]}
 use mathlib.Core.Path.{ap, _∙_}
 use Rattle.rules.specs.InPlace.{boardBy, stateBy}

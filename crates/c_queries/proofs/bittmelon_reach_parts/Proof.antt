@@ -1,4 +1,5 @@
--- `bittmelon_reach_parts` meets its contract: the query in place, told in numbers. Assumes nothing.
+-- `bittmelon_reach_parts` meets its contract: it makes the query in place and returns the answer in numbers. Assumes
+-- nothing.
 use mathlib.Core.Path.{ap, _∙_}
 use Rattle.queries.specs.Queries.{reachQuery, reachScratch}
 use Rattle.queries.specs.Parts.{boardWith, stateWith}

@@ -1,4 +1,5 @@
--- `bittmelon_state_parts` meets its contract: the query in place, told in numbers. Assumes nothing.
+-- `bittmelon_state_parts` meets its contract: it makes the query in place and returns the answer in numbers. Assumes
+-- nothing.
 use mathlib.Core.List.{[]}
 use mathlib.Core.Path.{ap, _∙_}
 use Rattle.queries.specs.Queries.{phaseQuery}

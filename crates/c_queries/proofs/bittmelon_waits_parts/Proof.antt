@@ -1,4 +1,5 @@
--- `bittmelon_waits_parts` meets its contract: the query in place, told in numbers. Assumes nothing.
+-- `bittmelon_waits_parts` meets its contract: it makes the query in place and returns the answer in numbers. Assumes
+-- nothing.
 use mathlib.Core.Path.{ap, _∙_}
 use Rattle.queries.specs.Queries.{waitsQuery}
 use Rattle.queries.specs.Parts.{boardWith, stateWith}

@@ -1,4 +1,4 @@
--- Names as the loop widens them: by the counted entries from i on, and by one entry more. Assumes nothing.
+-- Names as the loop widens them: by the counted entries from i on, and by one more entry. Assumes nothing.
 use Prim.Native.Nat.{ℕ, suc, _-_, _<_, _≤_, min}
 use native.Mathlib.Omega.{arith}
 use mathlib.Core.Path.{_≡_, sym, ap, ap₂, _∙_}
@@ -12,7 +12,7 @@ use Rattle.plans.specs.declared.Plan.{Plan}
 use Rattle.plans.specs.Entries.{mostEntries, isRead, countedEntries, blankEntry}
 use Rattle.conflicts.specs.Widening.{widen}
 
--- What an entry brings to the names.
+-- What an entry adds to the names.
 abbrev pub broughtTo : ℕ → Entry → ℕ
 broughtTo names e = cond (isRead e && meets (e .set) names) (e .set) 0
 
@@ -23,7 +23,7 @@ module _ (p : Plan) (names : ℕ) (full : length (p .entries) ≡ mostEntries) w
       ap (widen names)
       (drop-of-length-le (countedEntries p) {i = min (p .count) mostEntries} (omega (arith, length-take (p .count) (p .entries))))
 
-  -- The entry before place i, where it stands in the plan's array, brings its part to what is made so far.
+  -- The entry before place i, at its place in the plan's array, adds its part to the result so far.
   pub widened-by-next : (i out more : ℕ) → 0 < i → i ≤ min (p .count) mostEntries → out ≡ widen names (drop i (countedEntries p))
       → more ≡ broughtTo names (getD (p .entries) (i - 1) blankEntry) → bitOr out more ≡ widen names (drop (i - 1) (countedEntries p))
   unfolding widen

@@ -9,7 +9,7 @@ use Rattle.digits.specs.Digits.{decimal}
 use Rattle.digits.proofs.DecimalDigits.{decimal-two-more, length-two-more, some-digit}
 use Rattle.digits.proofs.Stores.{last-first}
 
--- Of the number n the digits of `rest` are left to store, so many; storing them gives the whole.
+-- Of the number n, the digits of `rest` are left to store, and `left` says how many. Storing them gives the whole.
 pub record ToStore (n : ℕ) (before : List ℕ) (at : ℕ) (buffer : List ℕ) (rest left : ℕ) : Type 0 where
   pub most : rest < 10 ^ 20
   pub some : 1 ≤ left

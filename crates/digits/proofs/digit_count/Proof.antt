@@ -1,5 +1,5 @@
--- `digit_count` meets its contract. The invariant: the digits counted and those of what is left are the whole. Assumes
--- nothing.
+-- `digit_count` meets its contract. The invariant: the digits counted so far and those of the rest make up the number.
+-- Assumes nothing.
 use Prim.Native.Nat.{_+_, _^_, _≤_, _<_}
 use native.Mathlib.Omega.{arith}
 use mathlib.Core.Path.{_≡_}

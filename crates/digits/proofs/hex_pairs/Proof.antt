@@ -1,5 +1,5 @@
--- `hex_pairs` meets its contract: the whole table is computed from the rule and compared, all entries at once. Assumes
--- nothing.
+-- `hex_pairs` meets its contract: the whole table is computed from the rule and compared, all pairs at once.
+-- Assumes nothing.
 use mathlib.Core.Path.{refl}
 use Rattle.encoding.specs.Numbers.{number}
 use Rattle.digits.specs.Digits.{pairsFrom, hexPairs}

@@ -1,5 +1,4 @@
--- A number read from the high byte down: the number of the last d bytes, one byte more, and all of them.
--- Assumes nothing.
+-- A number read from the high byte down: the number in the last d bytes, one more byte, and all bytes. Assumes nothing.
 use Prim.Native.Nat.{ℕ, suc, _+_, _-_, _*_, _^_, _≤_, _<_, min}
 use native.Mathlib.Nat.{pow-succ', pow-le-pow-right, lt-of-lt-of-le}
 use native.Mathlib.Numerals.{add-one}
@@ -11,7 +10,7 @@ use lib.ListN.{length, getD, take, drop, length-take, drop-of-length-le}
 use lib.Seq.{drop-cons, getD-take}
 use Rattle.encoding.specs.Numbers.{number}
 
--- x is the number of the last d of the first eight bytes of s.
+-- x is the number in the last d of the first eight bytes of s.
 pub record IsTop (s : List ℕ) (d x : ℕ) : Type 0 where
   pub inside : d ≤ min 8 (length s)
   pub value : x ≡ number (drop (min 8 (length s) - d) (take 8 s))

@@ -1,5 +1,5 @@
--- `figures_of` meets its contract: the two longest are those of the counted entries, and the figures fit. Assumes
--- nothing.
+-- `figures_of` meets its contract: the two longest are those of the counted entries, and the figures do not overflow.
+-- Assumes nothing.
 use Prim.Native.Nat.{ℕ, _*_, _^_, _<_, _≤_, min}
 use native.Mathlib.Nat.{mul-le-mul}
 use native.Mathlib.Omega.{arith}
@@ -15,7 +15,7 @@ use Rattle.plans.proofs.Counted.{all-taken}
 use Rattle.figures.proofs.figures_of.Statement.{statement}
 use Rattle.figures.proofs.figures_of.Tie as tie
 
--- Counting to 64 at most finds the longest of the counted entries.
+-- Going through at most 64 entries finds the longest of the counted entries.
 of-counted : (test : Entry → Bool) (n r : ℕ) (p : Plan) → length (p .entries) ≡ mostEntries → n ≡ min (p .count) mostEntries
     → r ≡ longest test (take n (p .entries)) → r ≡ longest test (countedEntries p)
 of-counted test n r p full e found =

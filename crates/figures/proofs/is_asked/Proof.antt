@@ -1,4 +1,4 @@
--- `is_asked` meets its contract: the flag decides which test it is. Assumes nothing.
+-- `is_asked` meets its contract: the flag decides which kind is tested. Assumes nothing.
 use borrow.Author.Needs.{needs}
 use Rattle.figures.proofs.is_asked.Statement.{statement}
 use Rattle.figures.proofs.is_asked.Tie as tie

@@ -1,5 +1,5 @@
--- `longest_of` meets its contract. The loop's invariant: the longest of all is that of the best so far and those left,
--- and the best is a length. The measure is how many are left. Assumes nothing.
+-- `longest_of` meets its contract. The loop's invariant: the longest of all is the longest of the best so far and those
+-- left, and the best is a length. The measure is how many are left. Assumes nothing.
 use Prim.Native.Nat.{_≤_, _<_, _-_, max}
 use native.Mathlib.Nat.{zero-max}
 use native.Mathlib.Omega.{arith}

@@ -1,4 +1,4 @@
--- The digits of masks stored: a pair, a mask's two low bytes, a whole mask, both masks. Assumes nothing.
+-- Storing the digits of masks: a pair, a mask's two low bytes, a whole mask, both masks. Assumes nothing.
 use Prim.Native.Nat.{ℕ, suc, _+_, _*_, _/_, _%_, _<_}
 use native.Mathlib.Omega.{arith}
 use mathlib.Core.Path.{_≡_, refl, _∙_}
@@ -35,7 +35,7 @@ module _ (pairs l : List ℕ) (at mask : ℕ) where
       → Stored (maskField pairs n mask) l at next b
   narrow-stored n e s = rw e (then-stored (one-stored l at 32) s)
 
-  -- A space and a mask of four: its upper half, and then its lower.
+  -- A space and a mask of four bytes: its upper half, and then its lower half.
   pub wide-stored : (n : ℕ) → n ≡ 4 → {next end : ℕ} {a b : List ℕ}
       → Stored (maskBy pairs 2 (mask / 65536)) (set l at 32) (at + 1) next a
       → Stored (maskBy pairs 2 mask) a next end b

@@ -1,4 +1,4 @@
--- A word's bytes are stored one after the other, before the digits that were stored behind them. Assumes nothing.
+-- The bytes of a word are stored one after the other, in front of the digits that are stored already. Assumes nothing.
 use Prim.Native.Nat.{ℕ, suc, _+_, _≤_, _<_}
 use native.Mathlib.Numerals.{add-one}
 use native.Mathlib.Omega.{arith}
@@ -25,7 +25,7 @@ word-turn l w at i h =
 pub word-end : (l w : List ℕ) (at i : ℕ) → i ≤ length w → length w ≤ i → sets l (at + i) (drop i w) ≡ l
 word-end l w at i h k = let e : i ≡ length w = omega arith in rw (e, drop-length)
 
--- A word and what stands behind it, where both fit with more.
+-- A word and the digits after it, if both fit with `more` bytes.
 module _ (word digits buffer : List ℕ) (at more : ℕ) where
   none-placed : hasRoom (length (word ++ digits) + more) (length buffer) at ≡ false
       → (_≡_ {A = ℕ} 0 (placedSize (length (word ++ digits) + more) (word ++ digits) (length buffer) at))
@@ -73,7 +73,7 @@ module _ (word digits buffer : List ℕ) (at more : ℕ) where
           (omega (arith, told-all, length-append word digits))
           (record { place = refl; stores = s ∙ rw (digits-stored .stores) (last-first buffer at word digits) })
 
--- A field with nothing behind it.
+-- A field with nothing after it.
 pub alone : (bytes buffer : List ℕ) (at : ℕ) {told : ℕ} {after : List ℕ}
     → (told ≡ placedSize (length bytes + 0) bytes (length buffer) at) × (after ≡ placedBuffer (length bytes + 0) bytes buffer at)
     → (told ≡ fieldSize bytes (length buffer) at) × (after ≡ fieldBuffer bytes buffer at)

@@ -1,4 +1,4 @@
--- The line of an accepted call in the parts that are stored: the lead and what stands behind it. Assumes nothing.
+-- The line of an accepted call in the parts that are stored: the lead and the fields after it. Assumes nothing.
 use Prim.Native.Nat.{ℕ, _+_, _*_}
 use native.Mathlib.Omega.{arith}
 use mathlib.Core.Path.{_≡_}
@@ -11,7 +11,7 @@ use Rattle.line_fields.specs.MaskFields.{maskFields}
 use Rattle.line_fields.proofs.MaskLengths.{length-mask}
 use Rattle.listings.specs.PlainLines.{furtherFields, fieldsLine, doneFields}
 
--- What stands behind the lead.
+-- The fields after the lead.
 abbrev pub doneTail : List ℕ → ℕ → ℕ → ℕ → ℕ → List ℕ
 doneTail pairs n granted entitled late = maskFields pairs n granted entitled ++ lastField (32 ∷ []) late
 

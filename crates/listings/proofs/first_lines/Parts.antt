@@ -1,4 +1,4 @@
--- The first line in the parts that are stored: five numbers, each behind its word. Assumes nothing.
+-- The first line in the parts that are stored: five numbers, each after its word. Assumes nothing.
 use Prim.Native.Nat.{ℕ, _+_, _≤_}
 use native.Mathlib.Omega.{arith}
 use mathlib.Core.Path.{_≡_, refl, sym, ap, _∙_}

@@ -1,4 +1,4 @@
--- The lines in the parts that are stored: a lead and the fields behind it. Assumes nothing.
+-- The lines in the parts that are stored: a lead and the fields after it. Assumes nothing.
 use Prim.Native.Nat.{ℕ, _+_, _≤_}
 use native.Mathlib.Omega.{arith}
 use mathlib.Core.Path.{_≡_, refl}
@@ -10,7 +10,7 @@ use Rattle.line_fields.specs.Leads.{callLead}
 use Rattle.line_fields.specs.NumberFields.{lastField}
 use Rattle.listings.specs.PlainLines.{refusedWord, furtherFields, fieldsLine, refusedFields, refusalLine}
 
--- What stands behind the lead of a refused call.
+-- The fields after the lead of a refused call.
 abbrev pub refusedTail : ℕ → List ℕ
 refusedTail number = lastField (32 ∷ refusedWord ++ (32 ∷ [])) number
 

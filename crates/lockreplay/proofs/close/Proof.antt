@@ -1,4 +1,4 @@
--- `lockreplay::close` shows a line that is there. Assumes nothing.
+-- `lockreplay::close` shows only a line that is in the buffer. Assumes nothing.
 use native.Mathlib.Omega.{arith}
 use lib.ListN.{length}
 use Rattle.replay.specs.Ends.{endLine}

@@ -1,4 +1,4 @@
--- `lockreplay::replay` lends the part of the plan's buffer that is filled. Assumes nothing.
+-- `lockreplay::replay` lends the filled part of the plan's buffer. Assumes nothing.
 use mathlib.Core.Path.{sym}
 use lib.Seq.{length-take-le}
 use borrow.Author.Needs.{needs}

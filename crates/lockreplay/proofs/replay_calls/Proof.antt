@@ -1,5 +1,5 @@
--- `lockreplay::replay_calls` lends parts that are there, and ends: a block that carries no call out is the last.
--- Assumes nothing.
+-- `lockreplay::replay_calls` lends only parts that are in the buffers, and ends: a block that carries out no call is
+-- the last. Assumes nothing.
 use mathlib.Core.Path.{_≡_, refl, sym, _∙_}
 use native.Mathlib.Omega.{arith}
 use borrow.Author.Needs.{needs}

@@ -1,4 +1,5 @@
--- `lockreplay::replay_log` lends parts that are there: a plan ends within the bytes that were lent. Assumes nothing.
+-- `lockreplay::replay_log` lends only parts that are in the buffers: a plan ends within the bytes that were lent.
+-- Assumes nothing.
 use Prim.Native.Nat.{ℕ, _≤_}
 use mathlib.Core.Path.{_≡_}
 use mathlib.Core.List.{List}

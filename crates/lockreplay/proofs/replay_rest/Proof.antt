@@ -1,4 +1,4 @@
--- `lockreplay::replay_rest` lends a part that is there. Assumes nothing.
+-- `lockreplay::replay_rest` lends only a part that is in the buffer. Assumes nothing.
 use mathlib.Core.Path.{sym, _∙_}
 use lib.Seq.{length-take-le}
 use borrow.Author.Needs.{needs}

@@ -1,4 +1,5 @@
--- `lockreplay::run_block` writes lines that are there, and carries out no more calls than are left. Assumes nothing.
+-- `lockreplay::run_block` writes only lines that are in the buffer, and carries out no more calls than are left.
+-- Assumes nothing.
 use mathlib.Core.Path.{sym}
 use lib.ListN.{length}
 use lib.Seq.{length-take-le}

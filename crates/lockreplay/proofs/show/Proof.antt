@@ -1,4 +1,4 @@
--- `lockreplay::show` lends a part of the buffer that is there. Assumes nothing.
+-- `lockreplay::show` lends only a part that is in the buffer. Assumes nothing.
 use mathlib.Core.Path.{sym}
 use native.Mathlib.Omega.{arith}
 use lib.Seq.{length-take-le}

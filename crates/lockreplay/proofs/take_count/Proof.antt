@@ -1,4 +1,4 @@
--- `lockreplay::take_count` shows a line that is there. Assumes nothing.
+-- `lockreplay::take_count` shows only a line that is in the buffer. Assumes nothing.
 use native.Mathlib.Omega.{arith}
 use lib.ListN.{length}
 use Rattle.replay.specs.Ends.{countLine}

@@ -1,4 +1,4 @@
--- `read_record` meets its contract: the verb is looked at only where all 8 bytes are there. Assumes nothing.
+-- `read_record` meets its contract: the verb is read only if all 8 bytes are there. Assumes nothing.
 use mathlib.Core.Path.{_∙_}
 use borrow.Author.Needs.{needs}
 use borrow.Author.Tests.{lt-leb}
@@ -11,7 +11,7 @@ returns : tie.Need-returns
 unfolding readRecord recordFault
 returns c = rw (lt-leb _ _ (c .if1 .taken))
 
--- Named, so that a verb that is read too early fails here.
+-- This step has a name, so that reading the verb too early fails here.
 shared-slice-read-verb : tie.Need-shared-slice-read-verb
 shared-slice-read-verb c = search needs
 

@@ -1,4 +1,4 @@
--- What some fields say, by their verb. Assumes nothing.
+-- The record that some fields give, for each verb. Assumes nothing.
 use Prim.Native.Nat.{ℕ}
 use mathlib.Core.Path.{_≡_}
 use mathlib.Core.Bool.{true, false, _&&_}

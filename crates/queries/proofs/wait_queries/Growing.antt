@@ -10,11 +10,11 @@ use Rattle.masks.specs.Sets.{some}
 use Rattle.masks.proofs.Some.{some-found, some-none-at}
 use Rattle.masks.proofs.Truth.{and-left, and-right, and-not-false}
 
--- Whatever below w passes the test p passes q.
+-- Every number below w that passes the test p also passes q.
 abbrev pub Within : ℕ → (ℕ → Bool) → (ℕ → Bool) → Type 0
 Within w p q = (j : ℕ) → j < w → p j ≡ true → q j ≡ true
 
--- One for a failed test.
+-- 1 for a failed test, 0 otherwise.
 abbrev miss : Bool → ℕ
 miss t = cond t 0 1
 
@@ -43,7 +43,7 @@ missing-falls zero p q h = le-refl 0
 missing-falls (suc w) p q h =
     omega (arith, missing-falls w p q (λ j l. h j (le-step l)), fails-less (p w) (q w) (h w (le-refl (suc w))))
 
--- A number that passes q alone makes q miss fewer.
+-- If some number passes q but not p, fewer numbers fail q than p.
 missing-fewer : (w : ℕ) (p q : ℕ → Bool) (k : ℕ) → k < w → p k ≡ false → q k ≡ true → Within w p q → missing w q < missing w p
 unfolding missing
 missing-fewer zero p q k l e f h = absurd (not-suc-le-zero l)
@@ -53,7 +53,7 @@ missing-fewer (suc w) p q k l e f h =
     (λ m. omega (arith, missing-fewer w p q k m e f (λ j m. h j (le-step m)), fails-less (p w) (q w) (h w (le-refl (suc w)))))
     (eq-or-lt-of-le (le-of-suc-le-suc l))
 
--- Where none is missing all pass.
+-- If no number fails the test, all pass it.
 none-missing : (w : ℕ) (p : ℕ → Bool) → missing w p ≡ 0 → (j : ℕ) → j < w → p j ≡ true
 unfolding missing
 none-missing w p e j l = go (p j) refl
@@ -67,7 +67,7 @@ module _ (w : ℕ) (S : ℕ → ℕ → Bool) (grows : (n : ℕ) → Within w (S
   abbrev Stops : ℕ → Type 0
   Stops m = Within w (S (suc m)) (S m)
 
-  -- Either an earlier step has added nothing, or each has added one.
+  -- Either some step up to n added nothing, or each step added at least one number.
   stops-or-adds : (n : ℕ) → ((m : ℕ) × (m ≤ n) × Stops m) ⊎ (missing w (S n) + n ≤ w)
   stops-or-adds zero = inr (omega (arith, missing-at-most w (S 0)))
   stops-or-adds (suc n) = ⊎-elim (λ h. inl (h .0, le-step (h .1), h .2)) more (stops-or-adds n)

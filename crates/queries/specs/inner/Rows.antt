@@ -1,4 +1,4 @@
--- The queries over the parts that the private functions read.
+-- The queries on the parts that the private functions read.
 use Prim.Native.Nat.{ℕ}
 use mathlib.Core.List.{List}
 use Rattle.masks.specs.Sets.{maskOf}

@@ -1,4 +1,4 @@
--- `query_listing::print_calls` ends: a call is left and each turn takes one. Assumes nothing.
+-- `query_listing::print_calls` ends: a call is left, and each turn takes one. Assumes nothing.
 use native.Mathlib.Omega.{arith}
 use Rattle.query_listing.proofs.print_calls.Statement.{statement}
 use Rattle.query_listing.proofs.print_calls.Tie as tie

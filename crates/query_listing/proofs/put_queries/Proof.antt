@@ -1,4 +1,4 @@
--- `put_queries` ends: it asks for one processor more than a state holds, one a turn. Assumes nothing.
+-- `put_queries` ends: it asks for one processor more than a state has places, one in each turn. Assumes nothing.
 use Prim.Native.Nat.{_+_, _-_}
 use native.Mathlib.Omega.{arith}
 use Rattle.plans.specs.Entries.{slots}

@@ -1,4 +1,4 @@
--- What a command leaves in a block, as the code puts it together. Assumes nothing.
+-- What a command leaves in a block, as the code builds it. Assumes nothing.
 use Prim.Native.Nat.{ℕ, _+_, _^_, _≤_, _<_}
 use mathlib.Core.Path.{_≡_, ap, ap₂, _∙_}
 use mathlib.Core.List.{List}
@@ -13,7 +13,7 @@ use Rattle.registers.specs.declared.Block.{Block}
 use Rattle.registers.specs.Registers.{pendingIn, withLine}
 use Rattle.register_block.specs.Registers.{withMask, joined, acceptedBlock}
 
--- Four bytes that fit are put there.
+-- Four bytes that fit are stored.
 pub mask-put : (bytes : List ℕ) (place mask : ℕ) → place + 4 ≤ length bytes
     → bufferAfter (roomFault 4 (length bytes) place) (bytesOf 4 mask) bytes place ≡ withMask place mask bytes
 mask-put bytes place mask h = rw (fits-room 4 (length bytes) place h)

@@ -1,4 +1,4 @@
--- Commands and other writes, by what the code answers. Assumes nothing.
+-- Commands and other writes, in terms of what the code returns. Assumes nothing.
 use Prim.Native.Nat.{ℕ, _≤_, _<_}
 use mathlib.Core.Path.{_≡_, sym, ap, _∙_}
 use borrow.Author.Tests.{eq-eqb, ne-eqb, lt-ltb, le-ltb}
@@ -44,7 +44,7 @@ module _ (board : Board) (state : State) (block : Block) (command : ℕ) (change
       ∙ ap (λ b. changeSays (changed b Verdict.Accepted (a .state))) shows
       ∙ ap (carriedOut block) (replies ∙ ap (answered board state) says))
 
--- ---- by the register
+-- ---- by register
 
 pub kept-store : (change : Change) (block kept : Block) (state : State) → change ≡ changed block Verdict.Accepted state → block ≡ kept
     → changeSays change ≡ unmoved 0 kept state

@@ -1,6 +1,5 @@
--- `read_register` meets its contract: a walk of its MIR, by hand. The borrow is looked into for the block, which is
--- copied, and shut again; the copy goes to `read`. All that the proof knows of `read` is that it meets its contract.
--- Assumes nothing.
+-- `read_register` meets its contract: its MIR is walked by hand. The borrow is opened to copy the block, and closed
+-- again; the copy is passed to `read`. The proof uses only the contract of `read`. Assumes nothing.
 use mathlib.Core.Path.{_≡_, refl}
 use Prim.Native.Nat.{ℕ, _<_, _^_}
 use mathlib.Core.List.{[], _∷_, List}
@@ -91,7 +90,7 @@ module _ {M : Type 1} (𝓤 : URA M) (H : Heap 𝓤) (A : Atoms 𝓤) (W : Given
   goes-read : ent 𝓤 (sep 𝓤 (sem 𝓤 H A ftrue) (sem 𝓤 H A (owns (T.the-row ∷ u8 ∷ []) (h, (n, tt)) (mach ∷ [], (vint w8 n ∷ [], tt))))) (Read 𝓤 H A mem run .pre to-read)
   goes-read = qed W (‵ ftrue ∷ ‵ (owns (T.the-row ∷ u8 ∷ []) (h, (n, tt)) (mach ∷ [], (vint w8 n ∷ [], tt))) ∷ []) ∵ join ! $ frame ! $ done !
 
-  -- of `read`'s `ensured`, the clause alone: it has no `&mut`, so what is said of last values is dropped
+  -- only the clause of `read`'s `ensured`: there is no `&mut`, so the part about last values is dropped
   said-of : (r : ReadAnswer) → ent 𝓤 (ensured 𝓤 H A read.ended (read.clauses 𝓤 H A mem run) tt (h, (n, tt)) tt r) (fact 𝓤 (Said r))
   said-of r = exE 𝓤 _ (λ ws. snd∗ 𝓤 (sem 𝓤 H A (lasts read.ended tt (h, (n, tt)) ws)) (fact 𝓤 (Said r)))
 
@@ -104,7 +103,7 @@ module _ {M : Type 1} (𝓤 : URA M) (H : Heap 𝓤) (A : Atoms 𝓤) (W : Given
         looks ! tt T.the-row (Is T.the-row) (shows 𝓤 H A T.the-row) (LL.vals T.the-type T′.the-laws) (LL.tells T.the-type T′.the-laws) (LL.copy T.the-type T′.the-copy 𝓤 H A W) h b o (λ q′ vs.
         spelt ! T.the-row (Is T.the-row) (shows 𝓤 H A T.the-row) (LL.vals T.the-type T′.the-laws) (LL.tells T.the-type T′.the-laws) q′ h vs b o $ move ! (1 ∷ []) $
         peeks ! T.the-row (Is T.the-row) (shows 𝓤 H A T.the-row) h (mach ∷ []) (λ g. move ! (1 ∷ 0 ∷ []) $
-        -- [a share of the block's cell; what a block owns; what shuts it; the fractured borrow; true; res; the offset;
+        -- [a share of the block's cell; what a block owns; what closes it; the fractured borrow; true; res; the offset;
         -- _3; …; _2; …; _1; …; room for _0; …]
         assigns ! (of-opd ! (load ! (from ! (hop ! (look ! 11 refl) (stop !))) (look-raw ! 0 refl))) (from ! (stop !)) (init ! 7 refl (LL.lawful T.the-type T′.the-laws 𝓤 H A W .typed h _ g .0)) $
         shuts ! tt T.the-row q′ h (mach ∷ []) b o $

@@ -1,7 +1,7 @@
--- `write_register` meets its contract: a walk of its MIR, by hand. The borrow is opened and the block copied; the copy
--- goes to `write`, with the board and the state; the block that it gives is stored behind the borrow, which is closed
--- there, and what it answers is returned. Rows and lengths are lent on: what a `&` owns is had twice, one for the call
--- and one for the exit. All that the proof knows of `write` is that it meets its contract. Assumes nothing.
+-- `write_register` meets its contract: its MIR is walked by hand. The borrow is opened and the block is copied; the
+-- copy is passed to `write`, with the board and the state. The block that `write` returns is stored through the borrow,
+-- which is then closed, and the answer is returned. Rows and lengths are lent on: what a `&` owns is available twice,
+-- once for the call and once for the exit. The proof uses only the contract of `write`. Assumes nothing.
 use mathlib.Core.Path.{_≡_, refl, ap}
 use Prim.Native.Nat.{ℕ, _<_, _^_}
 use mathlib.Core.List.{[], _∷_, List}
@@ -101,7 +101,7 @@ module _ {M : Type 1} (𝓤 : URA M) (H : Heap 𝓤) (A : Atoms 𝓤) (W : Given
   abbrev state-val : Val
   state-val = LL.val ST.the-type ST′.the-laws state
 
-  -- what the reference to the rows is, to the caller and to `write`, and the one to the lengths
+  -- the reference to the rows, as the caller and `write` see it, and the one to the lengths
   abbrev Rows : RattleType
   Rows = ShrRef (named 1) κ₁ (Array u64 64)
 
@@ -114,7 +114,7 @@ module _ {M : Type 1} (𝓤 : URA M) (H : Heap 𝓤) (A : Atoms 𝓤) (W : Given
   abbrev at : List Val × (List Val × (List Val × (List Val × (List Val × (List Val × (List Val × Unit {0}))))))
   at = (vptr b o ∷ [], (terms-val ∷ [], (ptr-vals rows, (ptr-vals lengths, (state-val ∷ [], (vint w8 n ∷ [], (vint w8 v ∷ [], tt)))))))
 
-  -- what `write` is passed
+  -- the arguments of `write`
   abbrev passed : Terms × (RefT (List ℕ) × (RefT (List ℕ) × (State × (Block × (ℕ × (ℕ × Unit {0}))))))
   passed = (terms, (rows, (lengths, (state, (h, (n, (v, tt)))))))
 
@@ -140,7 +140,7 @@ module _ {M : Type 1} (𝓤 : URA M) (H : Heap 𝓤) (A : Atoms 𝓤) (W : Given
   goes-write : ent 𝓤 (sep 𝓤 (mean 𝓤 H A Tokens) (sem 𝓤 H A Passed)) (Write 𝓤 H A at-mem run .pre to-write)
   goes-write = qed W (Tokens ∷ ‵ Passed ∷ []) ∵ join ! $ frame ! $ done !
 
-  -- of `write`'s `ensured`, the clause alone: it has no `&mut`, so what is said of last values is dropped
+  -- only the clause of `write`'s `ensured`: there is no `&mut`, so the part about last values is dropped
   said-of : (r : Change) → ent 𝓤 (ensured 𝓤 H A write.ended (write.clauses 𝓤 H A at-mem run) (κ₁, (κ₂, tt)) passed tt r) (fact 𝓤 (Said r))
   said-of r = exE 𝓤 _ (λ ws. snd∗ 𝓤 (sem 𝓤 H A (lasts write.ended (κ₁, (κ₂, tt)) passed ws)) (fact 𝓤 (Said r)))
 
@@ -161,7 +161,7 @@ module _ {M : Type 1} (𝓤 : URA M) (H : Heap 𝓤) (A : Atoms 𝓤) (W : Given
         owned ! TT.the-row (Is TT.the-row) (LL.makes TT.the-type TT′.the-plain 𝓤 H A) terms _ terms-is $ fjoin ! $ move ! (1 ∷ 0 ∷ []) $ fjoin ! $ frame ! $
         owned ! R.the-row (Is R.the-row) (LL.makes R.the-type R′.the-plain 𝓤 H A) (r .written) _ is $ done !
 
-    -- what whoever holds a change knows of its two fields
+    -- what is known of the two fields of a change
     block-is : (r : Change) (u : Val) → Is D.the-row r (u ∷ []) → Is B.the-row (r .block) (block-val (r .block) ∷ [])
     block-is r u is = LL.owed D.the-type D′.the-laws r _ is .0
 
@@ -177,8 +177,8 @@ module _ {M : Type 1} (𝓤 : URA M) (H : Heap 𝓤) (A : Atoms 𝓤) (W : Given
           alloc1 ! (λ l₀. alloc1 ! (λ l₁. alloc1 ! (λ l₂. alloc1 ! (λ l₃. alloc1 ! (λ l₄. alloc1 ! (λ l₅. alloc1 ! (λ l₆. alloc1 ! (λ l₇. alloc1 ! (λ l₈. alloc1 ! (λ l₉. alloc0 ! $ params1 ! $
           pass1 ! (init ! 16 refl (tt, tt)) $ pass1 ! (init ! 14 refl (LL.lawful TT.the-type TT′.the-laws 𝓤 H A W .typed terms _ terms-is .0)) $ pass1 ! (init ! 12 refl (tt, tt)) $ pass1 ! (init ! 10 refl (tt, tt)) $
           pass1 ! (init ! 8 refl (LL.lawful ST.the-type ST′.the-laws 𝓤 H A W .typed state _ state-is .0)) $ pass1 ! (init ! 6 refl (tt, record { fits = n-fits })) $ pass1 ! (init ! 4 refl (tt, record { fits = v-fits })) $ pass0 ! $
-          -- of what the parameters own the three references are kept; the plain values are made again where they are
-          -- asked for
+          -- of what the parameters own, the three references are kept; the plain values are made again where they are
+          -- needed
           move ! (21 ∷ []) $ fsplit ! $ fsplit3 ! $ drop ! $ move ! (2 ∷ []) $ fsplit ! $ drop ! $ fsplit ! $ move ! (1 ∷ []) $ fsplit ! $ move ! (1 ∷ []) $ drop ! $
           -- [the lengths; the rows; obs; the borrow; _9; …; the tokens]
           move ! (24 ∷ []) $ split ! $ move ! (4 ∷ 5 ∷ 0 ∷ []) $
@@ -189,13 +189,13 @@ module _ {M : Type 1} (𝓤 : URA M) (H : Heap 𝓤) (A : Atoms 𝓤) (W : Given
           assigns ! (of-opd ! (load ! (from ! (hop ! (look ! 24 refl) (stop !))) (look-raw ! 0 refl))) (from ! (stop !)) (init ! 8 refl (LL.lawful B.the-type B′.the-laws 𝓤 H A W .typed h _ g .0)) $
           move ! (7 ∷ []) $ use1 W (‵ (Rows .own rows (ptr-vals rows)) ⊛ ‵ (Rows .own rows (ptr-vals rows))) (shr-copy 𝓤 H A W (named 1) κ₁ (Array u64 64) .twice rows (ptr-vals rows)) $ split ! $
           move ! (8 ∷ []) $ use1 W (‵ (Lengths .own lengths (ptr-vals lengths)) ⊛ ‵ (Lengths .own lengths (ptr-vals lengths))) (shr-copy 𝓤 H A W (named 2) κ₂ (Array u16 64) .twice lengths (ptr-vals lengths)) $ split ! $
-          -- what `write` asks: from its last parameter to its first
+          -- what `write` asks for, from its last parameter to its first
           nothing ! $ owned ! u8 (Is u8) (uint-makes 𝓤 H A W w8) v _ (refl, v-fits) $ fjoin ! $ owned ! u8 (Is u8) (uint-makes 𝓤 H A W w8) n _ (refl, n-fits) $ fjoin ! $
           owned ! B.the-row (Is B.the-row) (LL.makes B.the-type B′.the-plain 𝓤 H A) h _ g $ fjoin ! $ owned ! ST.the-row (Is ST.the-row) (LL.makes ST.the-type ST′.the-plain 𝓤 H A) state _ state-is $ fjoin ! $
           move ! (1 ∷ 0 ∷ []) $ fjoin ! $ move ! (2 ∷ 0 ∷ []) $ fjoin ! $ owned ! TT.the-row (Is TT.the-row) (LL.makes TT.the-type TT′.the-plain 𝓤 H A) terms _ terms-is $ fjoin ! $
           move ! (8 ∷ 0 ∷ []) $ use2 W (raw (Write 𝓤 H A at-mem run .pre to-write)) goes-write $
-          -- [what is asked; the lengths; the rows; the block's cell; what it owned; the open borrow; obs; auth; _9; …;
-          -- _8; …; _7; …; _6; …; _5; …; _4; …; _3; …; _2; …; _1; …; room for _0; …]
+          -- [what is asked for; the lengths; the rows; the block's cell; what it owned; the open borrow; obs; auth; _9;
+          -- …; _8; …; _7; …; _6; …; _5; …; _4; …; _3; …; _2; …; _1; …; room for _0; …]
           calls-at ! fm (Write 𝓤 H A at-mem run) known to-write
           (and-then ! (load ! (from ! (stop !)) (look ! 22 refl)) (and-then ! (load ! (from ! (stop !)) (look ! 20 refl)) (and-then ! (load ! (from ! (stop !)) (look ! 18 refl)) (and-then ! (load ! (from ! (stop !)) (look ! 16 refl))
           (and-then ! (load ! (from ! (stop !)) (look ! 8 refl)) (and-then ! (load ! (from ! (stop !)) (look ! 14 refl)) (and-then ! (load ! (from ! (stop !)) (look ! 12 refl)) (no-more !)))))))) (λ u.
@@ -208,7 +208,7 @@ module _ {M : Type 1} (𝓤 : URA M) (H : Heap 𝓤) (A : Atoms 𝓤) (W : Given
           -- auth; _9; …; _8; …; _7; …; _6; …; _5; …; _4; …; _3; …; _2; …; _1; …; room for _0; …]
           assigns ! (of-opd ! (load ! (from ! (fld ! refl (stop !))) (look-in ! 11 (sub ! 0 refl (whole !))))) (from ! (hop ! (look ! 25 refl) (stop !))) (store-raw ! 4 refl (LL.lawful B.the-type B′.the-laws 𝓤 H A W .typed (r .block) _ (block-is r u is) .0)) $
           assigns ! (of-opd ! (load ! (from ! (fld ! refl (stop !))) (look-in ! 11 (sub ! 1 refl (whole !))))) (from ! (stop !)) (init ! 27 refl (LL.lawful R.the-type R′.the-laws 𝓤 H A W .typed (r .written) _ (written-is r u is) .0)) $
-          -- the borrow is closed at the new block
+          -- the borrow is closed with the new block
           move ! (5 ∷ []) $ drop ! $ owned ! B.the-row (Is B.the-row) (LL.makes B.the-type B′.the-plain 𝓤 H A) (r .block) _ (block-is r u is) $
           move ! (5 ∷ 0 ∷ 6 ∷ 7 ∷ 8 ∷ []) $ closes ! tt B.the-row (r .block) (block-val (r .block) ∷ []) b o $
           -- [obs; the borrow; its token; the change; the tokens; the lengths; the rows; _9; …; _8; …; _7; …; _6; …; _5;

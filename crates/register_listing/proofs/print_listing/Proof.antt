@@ -1,4 +1,4 @@
--- `print_listing` lends the part of the buffer that is filled. Assumes nothing.
+-- `print_listing` lends the filled part of the buffer. Assumes nothing.
 use mathlib.Core.Path.{sym}
 use native.Mathlib.Omega.{arith}
 use lib.ListN.{length-map}

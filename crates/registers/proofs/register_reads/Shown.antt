@@ -1,4 +1,4 @@
--- Reads by the register that an offset is. Assumes nothing.
+-- The answer to a read, given the register at its offset. Assumes nothing.
 use Prim.Native.Nat.{ℕ}
 use mathlib.Core.Path.{_≡_, sym, ap, _∙_}
 use Rattle.refusals.specs.Due.{said}

@@ -1,4 +1,4 @@
--- The cleared bits as the code works them out, and a store by the register that an offset is. Assumes nothing.
+-- The cleared bits as the code computes them, and a store, given the register at its offset. Assumes nothing.
 use Prim.Native.Nat.{ℕ, _-_, _^_, _<_}
 use mathlib.Core.Path.{_≡_, ap, _∙_}
 use lib.Bits.{bitAnd}

@@ -1,4 +1,4 @@
--- A call that was answered and has its line is the step of the call. Assumes nothing.
+-- A call that was answered and whose line was written is the step of the call. Assumes nothing.
 use Prim.Native.Nat.{ℕ}
 use mathlib.Core.Path.{_≡_, ap, _∙_}
 use mathlib.Core.Bool.{false}

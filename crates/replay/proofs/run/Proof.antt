@@ -1,4 +1,4 @@
--- `replay::run` meets its contract: its records are those of the board's parts and of the state's. Assumes nothing.
+-- `replay::run` meets its contract: it runs the records on the parts of the board and of the state. Assumes nothing.
 use borrow.Author.Needs.{needs}
 use Rattle.replay.proofs.Turns.{ran-reads}
 use Rattle.replay.proofs.run.Statement.{statement}

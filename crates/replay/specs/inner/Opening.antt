@@ -1,4 +1,4 @@
--- The opening line by what was read.
+-- The opening line, from what was read.
 use Prim.Native.Nat.{ℕ}
 use mathlib.Core.Bool.{cond}
 use mathlib.Core.List.{List}
@@ -7,6 +7,6 @@ use Rattle.plans.specs.declared.Plan.{Plan}
 use Rattle.listings.specs.PlainLines.{refusalLine}
 use Rattle.listings.specs.Lines.{firstLine}
 
--- The line that opens a listing, by the number that the plan is refused by and the plan.
+-- The line that opens a listing, from the plan and the number that it is refused with.
 abbrev pub openingBy : ℕ → Plan → List ℕ
 openingBy number p = cond (eqb number 0) (firstLine p) (refusalLine number)

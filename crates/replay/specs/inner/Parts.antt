@@ -5,7 +5,7 @@ use Rattle.rules.specs.InPlace.{stateBy}
 use Rattle.replay.specs.declared.RanBlock.{RanBlock}
 use Rattle.replay.specs.declared.Progress.{Progress}
 
--- What a block answers, by what its records return and leave in the arrays of the state.
+-- What a block returns, from what its records return and leave in the arrays of the state.
 abbrev pub ranBy : Progress → List ℕ → List ℕ → List ℕ → RanBlock
 ranBy p entry since earlier =
     record {

@@ -1,6 +1,6 @@
 -- The arbiter in columns: functions of a processor below n. Each settling step is a relation, processor by processor,
--- whose cases carry the reason, also for staying. Definitions alone: what each says of a state is proved elsewhere.
--- Assumes nothing.
+-- whose cases carry the reason for moving or for staying. This file only defines; what each definition says of a state
+-- is proved elsewhere. Assumes nothing.
 use Prim.Native.Nat.{ℕ, _<_, _≤_, _+_}
 use mathlib.Core.Path.{_≡_}
 use mathlib.Core.Bool.{Bool, true, false}
@@ -10,7 +10,7 @@ pub data Phase : Type 0 where
   idle waiting entitled holding : Phase
 
 -- What does not change while a call settles: whether processor i's request is a write and in the group, which requests
--- conflict, and which are earlier (earlier j i: j's is earlier than i's).
+-- conflict, and which are earlier (earlier j i: j's request is earlier than i's).
 pub record Requests : Type 0 where
   pub write : ℕ → Bool
   pub group : ℕ → Bool
@@ -36,7 +36,8 @@ pub record EarlierUnsatisfied (R : Requests) (ph : ℕ → Phase) (i j : ℕ) : 
   pub before : R .earlier j i ≡ true
   pub conflict : R .against i j ≡ true
 
--- Step 1 grants entitled reads, and waiting ones that nothing entitled or holding is against.
+-- Step 1 grants entitled reads that conflict with no holding write, and waiting reads that conflict with no entitled or
+-- holding write.
 pub data Step1 (n : ℕ) (R : Requests) (ph ph′ : ℕ → Phase) (i : ℕ) : Type 0 where
   grants : R .write i ≡ false → ph i ≡ entitled → None n (In R ph holding true i) → ph′ i ≡ holding → Step1 n R ph ph′ i
   grants-waiting : R .write i ≡ false → ph i ≡ waiting → None n (In R ph holding true i) → None n (In R ph entitled true i)
@@ -60,7 +61,7 @@ pub data Step4 (n : ℕ) (R : Requests) (ph ph′ : ℕ → Phase) (i : ℕ) : T
   stays : (ph i ≡ waiting → R .write i ≡ false → None n (In R ph holding true i) ⊎ Exists n (In R ph entitled true i))
       → ph′ i ≡ ph i → Step4 n R ph ph′ i
 
--- What a call does before it settles: one request is put in, waiting and later than all, or taken out.
+-- What a call does before it settles: it adds one request, waiting and later than all others, or it removes one.
 pub record PutIn (n : ℕ) (R R′ : Requests) (ph ph′ : ℕ → Phase) (p : ℕ) : Type 0 where
   pub below : p < n
   pub was-idle : ph p ≡ idle
@@ -84,7 +85,7 @@ pub data Start (n : ℕ) (R R′ : Requests) (ph ph′ : ℕ → Phase) : Type 0
   puts-in : (p : ℕ) → PutIn n R R′ ph ph′ p → Start n R R′ ph ph′
   takes-out : (p : ℕ) → TakenOut n R R′ ph ph′ p → Start n R R′ ph ph′
 
--- The tick of processor i's request after a call at t: the issue's, or the grant's while it holds.
+-- The tick of processor i's request after a call at t: the tick of its issue, or of its grant while it holds.
 pub data Stamp (t : ℕ) (before after : Phase) (old new : ℕ) : Type 0 where
   begins : after ≡ holding → (before ≡ holding → ⊥) → new ≡ t → Stamp t before after old new
   arrives : before ≡ idle → new ≡ t → Stamp t before after old new
@@ -98,7 +99,7 @@ pub record Called (n t : ℕ) (R R′ : Requests) (ph ph′ : ℕ → Phase) (si
   pub ph₃ : ℕ → Phase
   pub start : Start n R R′ ph ph₀
   pub first : (i : ℕ) → i < n → Step1 n R′ ph₀ ph₁ i
-  -- A read that step 1 leaves waiting has an entitled or a holding write against it.
+  -- A read that step 1 leaves waiting conflicts with an entitled or a holding write.
   pub left : (i : ℕ) → i < n → R′ .write i ≡ false → ph₁ i ≡ waiting
       → Exists n (In R′ ph₁ holding true i) ⊎ Exists n (In R′ ph₁ entitled true i)
   pub second : (i : ℕ) → i < n → Step2 n R′ ph₁ ph₂ i
@@ -106,7 +107,7 @@ pub record Called (n t : ℕ) (R R′ : Requests) (ph ph′ : ℕ → Phase) (si
   pub fourth : (i : ℕ) → i < n → Step4 n R′ ph₃ ph′ i
   pub stamps : (i : ℕ) → i < n → Stamp t (ph i) (ph′ i) (si i) (si′ i)
 
--- What is asked of conflict, for active requests of different processors. The bridge is all that widening is for.
+-- What is required of conflict, for active requests of different processors. Widening is there only for the bridge.
 pub record Lawful (n : ℕ) (R : Requests) (ph : ℕ → Phase) : Type 0 where
   pub symmetric : (i j : ℕ) → i < n → j < n → R .against i j ≡ true → R .against j i ≡ true
   pub bridge : (r w v : ℕ) → r < n → w < n → v < n → (w ≡ v → ⊥) → (ph r ≡ idle → ⊥) → (ph w ≡ idle → ⊥) → (ph v ≡ idle → ⊥)
@@ -123,8 +124,8 @@ pub record Ordered (n : ℕ) (R : Requests) (ph : ℕ → Phase) : Type 0 where
   pub transitive : (i j k : ℕ) → i < n → j < n → k < n → (ph i ≡ idle → ⊥) → (ph j ≡ idle → ⊥) → (ph k ≡ idle → ⊥)
       → R .earlier i j ≡ true → R .earlier j k ≡ true → R .earlier i k ≡ true
 
--- After each settling. I1: of two conflicting active writes the later is waiting. I2, I3: a read and a write that
--- conflict do not both hold, and are not both entitled. I4 to I7: what an entitled read, a waiting read, a waiting
+-- What holds after each settling. I1: of two conflicting active writes the later is waiting. I2, I3: a read and a write
+-- that conflict do not both hold, and are not both entitled. I4 to I7: what an entitled read, a waiting read, a waiting
 -- write and an entitled write wait for.
 pub record Settled (n : ℕ) (R : Requests) (ph : ℕ → Phase) : Type 0 where
   pub i1 : (i j : ℕ) → i < n → j < n → R .write i ≡ true → R .write j ≡ true → (ph i ≡ idle → ⊥) → (ph j ≡ idle → ⊥)

@@ -14,7 +14,7 @@ unfolding one-if
 count zero p = 0
 count (suc n) p = count n p + one-if (p n)
 
--- Whatever below n passes p passes q.
+-- Every number below n that passes p also passes q.
 abbrev pub Within : ℕ → (ℕ → Bool) → (ℕ → Bool) → Type 0
 Within n p q = (j : ℕ) → j < n → p j ≡ true → q j ≡ true
 
@@ -40,7 +40,7 @@ count-grows zero p q h = le-refl 0
 count-grows (suc n) p q h =
     omega (arith, one-if-grows (p n) (q n) (h n (le-refl (suc n))), count-grows n p q (within-fewer n p q h))
 
--- A number that passes q alone makes q's count the greater.
+-- If some number passes q but not p, q's count is the greater.
 pub count-less : (n : ℕ) (p q : ℕ → Bool) (k : ℕ) → k < n → p k ≡ false → q k ≡ true → Within n p q → count n p < count n q
 unfolding count
 count-less zero p q k l e f h = absurd (not-suc-le-zero l)
@@ -57,7 +57,7 @@ pub count-positive : (n : ℕ) (p : ℕ → Bool) (k : ℕ) → k < n → p k �
 unfolding never
 count-positive n p k l e = omega (arith, count-less n never p k l refl e (λ j m f. absurd (false≢true f)))
 
--- A count above 0 has counted something.
+-- If the count is above 0, some number passes.
 pub count-found : (n : ℕ) (p : ℕ → Bool) → 0 < count n p → (k : ℕ) × (k < n) × (p k ≡ true)
 unfolding count one-if
 count-found zero p l = absurd (not-suc-le-zero l)
@@ -77,7 +77,7 @@ unfolding count
 count-at-most zero p = le-refl 0
 count-at-most (suc n) p = omega (arith, one-if-at-most-one (p n), count-at-most n p)
 
--- Where all that passes is below m, at most m pass.
+-- If every number that passes is below m, at most m pass.
 pub count-below : (n m : ℕ) (p : ℕ → Bool) → ((j : ℕ) → j < n → p j ≡ true → j < m) → count n p ≤ m
 unfolding count one-if
 count-below zero m p h = omega arith

@@ -1,5 +1,5 @@
--- What a settled state rules out: two conflicting requests never hold together, and of the writes against one active
--- read at most one is entitled or holding. Assumes nothing.
+-- What a settled state rules out: two conflicting requests never hold together, and of the writes that conflict with
+-- one active read at most one is entitled or holding. Assumes nothing.
 use Prim.Native.Nat.{ℕ, _<_}
 use native.Mathlib.Decide.{ℕ-discrete}
 use mathlib.Core.Path.{_≡_, refl}
@@ -9,7 +9,7 @@ use Rattle.runs.proofs.columns.Columns.{Phase, idle, holding, Requests,
 use Rattle.runs.proofs.columns.Phases.{true-not-false, EntitledOrHolding, entitled-or-holding-active, entitled-or-holding-not-waiting}
 
 module _ {n : ℕ} {R : Requests} {ph : ℕ → Phase} (settled : Settled n R ph) (ordered : Ordered n R ph) (lawful : Lawful n R ph) where
-  -- Two writes past waiting do not conflict.
+  -- Two writes that are entitled or holding do not conflict.
   pub writes-past-waiting : (v w : ℕ) → v < n → w < n → (v ≡ w → ⊥) → R .write v ≡ true → R .write w ≡ true
       → EntitledOrHolding (ph v) → EntitledOrHolding (ph w) → R .against v w ≡ true → ⊥
   writes-past-waiting v w hv hw d wv ww a b x = go (ordered .total v w hv hw av aw d)

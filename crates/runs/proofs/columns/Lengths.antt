@@ -6,7 +6,7 @@ use mathlib.Core.Bool.{true, false}
 use Rattle.runs.proofs.columns.Columns.{Phase, idle, holding, Requests, Kept}
 use Rattle.runs.proofs.columns.Phases.{is-active}
 
--- The active requests of the group are at most Lr long as reads and Lw as writes.
+-- The active requests of the group have lengths of at most Lr as reads and Lw as writes.
 pub record Lengths (n Lr Lw : ℕ) (R : Requests) (ph : ℕ → Phase) (len : ℕ → ℕ) : Type 0 where
   pub of-reads : (i : ℕ) → i < n → R .group i ≡ true → (ph i ≡ idle → ⊥) → R .write i ≡ false → len i ≤ Lr
   pub of-writes : (i : ℕ) → i < n → R .group i ≡ true → (ph i ≡ idle → ⊥) → R .write i ≡ true → len i ≤ Lw

@@ -1,5 +1,6 @@
--- How an accepted call moves phases: what the start leaves alone, which step moves reads and which writes, that phases
--- only rise in settling, and that a write's being entitled lets no read against it begin to hold. Assumes nothing.
+-- How an accepted call moves phases: what its start leaves unchanged, which steps move reads and which move writes,
+-- that phases only rise in settling, and that no read begins to hold while a write that conflicts with it is entitled.
+-- Assumes nothing.
 use Prim.Native.Nat.{ℕ, _<_, _≤_}
 use native.Mathlib.Omega.{arith}
 use mathlib.Core.Path.{_≡_, sym, _∙_, subst, ap}
@@ -8,15 +9,15 @@ use mathlib.Core.Logic.{inl, inr}
 use Rattle.runs.proofs.columns.Columns.{Phase, idle, entitled, holding, Requests, In, Step1, Step2, Step3, Step4, Start, puts-in, takes-out, Stamp, begins, arrives, keeps, Called, Lawful, Settled}
 use Rattle.runs.proofs.columns.Phases.{clash, true-not-false, EntitledOrHolding, Rises, same, becomes-entitled, begins-to-hold, rises-rises, is-active, idle-stays, idle-was-idle}
 
--- A read and a write that conflict are not both in the phase.
+-- No read and write that conflict are both in the phase.
 abbrev pub Excludes : ℕ → Requests → (ℕ → Phase) → Phase → Type 0
 Excludes n R ph a =
     (i j : ℕ) → i < n → j < n → R .write i ≡ false → R .write j ≡ true → R .against i j ≡ true → ph i ≡ a → ph j ≡ a → ⊥
 
--- The start: one request is put in or taken out, and every other is as it was.
+-- The start: one request is added or removed, and every other is as it was.
 
 module _ {n : ℕ} {R R′ : Requests} {ph ph₀ : ℕ → Phase} where
-  -- The one processor whose request is put in or taken out.
+  -- The one processor whose request is added or removed: the touched one.
   abbrev pub touched : Start n R R′ ph ph₀ → ℕ
   touched (puts-in p s) = p
   touched (takes-out p s) = p
@@ -43,7 +44,7 @@ module _ {n : ℕ} {R R′ : Requests} {ph ph₀ : ℕ → Phase} where
   same-earlier (puts-in p s) i j hi hj di dj = s .same-earlier i j hi hj di dj
   same-earlier (takes-out p s) i j hi hj di dj = ap (λ Q. Q .earlier i j) (s .same)
 
-  -- The one touched is idle before or after, and if it is active after, it is waiting.
+  -- The touched processor is idle before or after, and if it is active after, it is waiting.
   pub active-throughout-untouched : (s : Start n R R′ ph ph₀) (i : ℕ) → (ph i ≡ idle → ⊥) → (ph₀ i ≡ idle → ⊥) → i ≡ touched s → ⊥
   active-throughout-untouched (puts-in p s) i a b e = a (ap ph e ∙ s .was-idle)
   active-throughout-untouched (takes-out p s) i a b e = b (ap ph₀ e ∙ s .now-idle)
@@ -57,7 +58,7 @@ module _ {n : ℕ} {R R′ : Requests} {ph ph₀ : ℕ → Phase} where
   pub was-holding : (s : Start n R R′ ph ph₀) (i : ℕ) → i < n → ph₀ i ≡ holding → ph i ≡ holding
   was-holding s i hi h = sym (same-phase s i hi (past-waiting-untouched s i (inr h))) ∙ h
 
-  -- I2 and I3 stand: what is put in is waiting.
+  -- I2 and I3 still hold: the request that is added is waiting.
   pub still-excludes : {a : Phase} (s : Start n R R′ ph ph₀) → ((i : ℕ) → ph₀ i ≡ a → EntitledOrHolding (ph₀ i))
       → Excludes n R ph a → Excludes n R′ ph₀ a
   still-excludes s past excludes i j hi hj r w x k l =
@@ -70,7 +71,7 @@ module _ {n : ℕ} {R R′ : Requests} {ph ph₀ : ℕ → Phase} where
       (sym (same-phase s i hi di) ∙ k)
       (sym (same-phase s j hj dj) ∙ l)
 
--- Each step raises phases, steps 1 and 4 those of reads, steps 2 and 3 those of writes.
+-- Each step raises phases: steps 1 and 4 those of reads, steps 2 and 3 those of writes.
 
 module _ {n : ℕ} {R : Requests} {ph ph′ : ℕ → Phase} {i : ℕ} where
   pub rises1 : Step1 n R ph ph′ i → Rises (ph i) (ph′ i)
@@ -129,7 +130,7 @@ module _ {n t : ℕ} {R R′ : Requests} {ph ph′ : ℕ → Phase} {si si′ : 
   pub rises : (i : ℕ) → i < n → Rises (c .ph₀ i) (ph′ i)
   rises i h = rises-rises (rises1 (c .first i h)) (rises-after1 i h)
 
-  -- Activity is unchanged in settling.
+  -- Settling does not change who is active.
   pub active-after : (i : ℕ) → i < n → (c .ph₀ i ≡ idle → ⊥) → ph′ i ≡ idle → ⊥
   active-after i h a e = a (idle-was-idle (rises i h) e)
 
@@ -142,7 +143,7 @@ module _ {n t : ℕ} {R R′ : Requests} {ph ph′ : ℕ → Phase} {si si′ : 
   pub active-at1 : (i : ℕ) → i < n → (c .ph₀ i ≡ idle → ⊥) → c .ph₁ i ≡ idle → ⊥
   active-at1 i h a e = a (idle-was-idle (rises1 (c .first i h)) e)
 
-  -- A write moves in steps 2 and 3 alone, and a read in steps 1 and 4 alone.
+  -- A write moves only in steps 2 and 3, and a read only in steps 1 and 4.
   pub write-first : (i : ℕ) → i < n → R′ .write i ≡ true → c .ph₁ i ≡ c .ph₀ i
   write-first i h w = write-kept1 (c .first i h) w
 
@@ -159,11 +160,11 @@ module _ {n t : ℕ} {R R′ : Requests} {ph ph′ : ℕ → Phase} {si si′ : 
   pub read-holds-after1 : (i : ℕ) → i < n → R′ .write i ≡ false → ph′ i ≡ holding → c .ph₁ i ≡ holding
   read-holds-after1 i h r k = sym (read-third i h r) ∙ holding-before4 (c .fourth i h) k
 
-  -- A write that holds after step 2 holds from before.
+  -- A write that holds after step 2 held before the steps.
   pub write-held-before2 : (i : ℕ) → i < n → R′ .write i ≡ true → c .ph₂ i ≡ holding → c .ph₀ i ≡ holding
   write-held-before2 i h w k = sym (write-first i h w) ∙ holding-before2 (c .second i h) k
 
-  -- Neither what is active before and after the call, nor what is past waiting when it settles, is the one touched.
+  -- A processor that is active before and after the call, or past waiting when it settles, is not the touched one.
   pub active-untouched : (i : ℕ) → i < n → (ph i ≡ idle → ⊥) → (ph′ i ≡ idle → ⊥) → i ≡ touched (c .start) → ⊥
   active-untouched i h a b = active-throughout-untouched (c .start) i a (active-before i h b)
 
@@ -214,7 +215,7 @@ module _ {n t : ℕ} {R R′ : Requests} {ph ph′ : ℕ → Phase} {si si′ : 
       go (arrives x e) = omega (arith, e)
       go (keeps x d e) = omega (arith, e, past i h (λ k. a (d k)))
 
-  -- Nothing is added to the reads in an entitled write's way.
+  -- No read is added in the way of an entitled write.
   pub read-held-before : Settled n R ph → (q w : ℕ) → q < n → w < n → R′ .write q ≡ false → R′ .write w ≡ true
       → R′ .against q w ≡ true → c .ph₀ w ≡ entitled → ph′ q ≡ holding → ph q ≡ holding
   read-held-before settled q w hq hw r wr qw e k = go (c .first q hq)

@@ -1,4 +1,5 @@
--- Being earlier stays an order on the active requests over a call, and is one on the empty arbiter. Assumes nothing.
+-- Being earlier stays an order on the active requests through a call, and it is one on the empty arbiter. Assumes
+-- nothing.
 use Prim.Native.Nat.{ℕ, _<_}
 use native.Mathlib.Decide.{ℕ-discrete}
 use mathlib.Core.Path.{_≡_, sym, _∙_, subst, ap}
@@ -8,7 +9,7 @@ use Rattle.runs.proofs.columns.Columns.{Phase, idle, Requests, PutIn, S
 use Rattle.runs.proofs.columns.Phases.{true-not-false}
 use Rattle.runs.proofs.columns.Moves.{active-before}
 
--- An order on some requests is one on fewer.
+-- An order on some requests is also one on fewer.
 pub ordered-among-fewer : {n : ℕ} {R : Requests} {ph ph′ : ℕ → Phase}
     → ((i : ℕ) → i < n → (ph′ i ≡ idle → ⊥) → ph i ≡ idle → ⊥) → Ordered n R ph → Ordered n R ph′
 ordered-among-fewer fewer o =
@@ -28,7 +29,7 @@ ordered-fresh all-idle =
       transitive = λ i j k hi hj hk a b d e f. absurd (a (all-idle i hi));
     }
 
--- A newcomer is later than all.
+-- A new request is later than all others.
 module _ {n : ℕ} {R R′ : Requests} {ph ph₀ : ℕ → Phase} {p : ℕ} (s : PutIn n R R′ ph ph₀ p) (o : Ordered n R ph) where
   was-active : (i : ℕ) → i < n → (i ≡ p → ⊥) → (ph₀ i ≡ idle → ⊥) → ph i ≡ idle → ⊥
   was-active i hi d a e = a (s .others i hi d ∙ e)

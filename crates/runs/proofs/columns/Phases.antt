@@ -1,4 +1,4 @@
--- Phases told apart, and how one may rise while a call settles. Assumes nothing.
+-- Telling phases apart, and how a phase may rise while a call settles. Assumes nothing.
 use mathlib.Core.Path.{_≡_, refl, sym, _∙_, subst}
 use mathlib.Core.Bool.{Bool, true, false}
 use mathlib.Core.Logic.{_⊎_, inl, inr}

@@ -1,5 +1,5 @@
--- The rank of a write in the group: how many active writes in the group are ahead of it, that is earlier. The first is
--- the one of rank 0: there is one, and only one. Assumes nothing.
+-- The rank of a write in the group: how many active writes in the group are ahead of it, that is, earlier. The first
+-- write is the one of rank 0: there is exactly one. Assumes nothing.
 use Prim.Native.Nat.{ℕ, zero, suc, _<_, _≤_, _+_}
 use native.Mathlib.Omega.{arith}
 use native.Mathlib.Nat.{le-refl}
@@ -102,7 +102,7 @@ module _ (n : ℕ) (R′ : Requests) (ph′ : ℕ → Phase) (i′ : ℕ) (R : R
   unfolding rank
   rank-at-most = count-grows n (ahead-at R′ ph′ i′) (ahead-at R ph i) none-new-passes
 
-  -- Less where one that is ahead of i is not ahead of i′.
+  -- The rank is less if a write that is ahead of i is not ahead of i′.
   pub rank-less : (k : ℕ) → k < n → Ahead R ph i k → (Ahead R′ ph′ i′ k → ⊥) → rank n R′ ph′ i′ < rank n R ph i
   unfolding rank
   rank-less k l was gone =

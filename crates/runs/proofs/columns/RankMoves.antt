@@ -1,4 +1,4 @@
--- What a call does to ranks: of the writes that stay none rises, and the first stays the first. Assumes nothing.
+-- What a call does to ranks: no write that stays gets a higher rank, and the first stays the first. Assumes nothing.
 use Prim.Native.Nat.{ℕ, _<_, _≤_}
 use native.Mathlib.Omega.{arith}
 use native.Mathlib.Decide.{ℕ-discrete}
@@ -16,7 +16,7 @@ idle-or-active waiting = inr (λ e. clash refl e tt)
 idle-or-active entitled = inr (λ e. clash refl e tt)
 idle-or-active holding = inr (λ e. clash refl e tt)
 
--- A newcomer is earlier than none.
+-- A new request is earlier than no other.
 newcomer-earlier-than-none : {n : ℕ} {R R′ : Requests} {ph ph₀ : ℕ → Phase} → Start n R R′ ph ph₀ → (j i : ℕ) → j < n → i < n → ph j ≡ idle
     → (ph₀ j ≡ idle → ⊥) → R′ .earlier j i ≡ false
 newcomer-earlier-than-none {R′ = R′} (puts-in p s) j i lj li was now = go (ℕ-discrete j p)
@@ -45,7 +45,7 @@ module _ {n t : ℕ} {R R′ : Requests} {ph ph′ : ℕ → Phase} {si si′ : 
         group-is = same-group (c .start) i l d ∙ g .group-is;
       }
 
-  -- Whatever is ahead of a request that stays was ahead of it before.
+  -- Every write that is ahead of a request that stays was ahead of it before.
   pub nothing-new-ahead : (i : ℕ) → i < n → (ph i ≡ idle → ⊥) → (ph′ i ≡ idle → ⊥) → NoneNew n R′ ph′ i R ph i
   nothing-new-ahead i l a b j lj x = go (idle-or-active (ph j))
     where
@@ -62,7 +62,7 @@ module _ {n t : ℕ} {R R′ : Requests} {ph ph′ : ℕ → Phase} {si si′ : 
   pub rank-does-not-rise : (i : ℕ) → i < n → (ph i ≡ idle → ⊥) → (ph′ i ≡ idle → ⊥) → rank n R′ ph′ i ≤ rank n R ph i
   rank-does-not-rise i l a b = rank-at-most n R′ ph′ i R ph i (nothing-new-ahead i l a b)
 
-  -- Where one that was ahead leaves, the rank falls.
+  -- If a write that was ahead leaves, the rank falls.
   pub rank-falls : (i : ℕ) → i < n → (ph i ≡ idle → ⊥) → (ph′ i ≡ idle → ⊥) → (j : ℕ) → j < n → Ahead R ph i j → ph′ j ≡ idle
       → rank n R′ ph′ i < rank n R ph i
   rank-falls i l a b j lj ahead gone = rank-less n R′ ph′ i R ph i (nothing-new-ahead i l a b) j lj ahead (λ x. x .member .active gone)

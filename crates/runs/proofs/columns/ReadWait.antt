@@ -1,5 +1,5 @@
--- Reads of the group wait at most Lr + Lw while its holders keep to their lengths. T1 and T2 hold of the empty arbiter
--- and are kept by each accepted call; with I4, I5 and I7 they bound the wait. Assumes nothing.
+-- Reads of the group wait at most Lr + Lw while the group's holders keep to their lengths. T1 and T2 hold for the empty
+-- arbiter, and each accepted call keeps them; with I4, I5 and I7 they bound the wait. Assumes nothing.
 use Prim.Native.Nat.{ℕ, _<_, _≤_, _+_}
 use native.Mathlib.Omega.{arith}
 use mathlib.Core.Path.{_≡_, refl, sym, _∙_, subst, ap}
@@ -30,8 +30,8 @@ read-timed-fresh all-idle =
 
 module _ {n t Lr Lw : ℕ} {R : Requests} {ph : ℕ → Phase} {si len : ℕ → ℕ}
     (settled : Settled n R ph) (lawful : Lawful n R ph) (timed : ReadTimed n Lr R ph si) (prompt : Prompt n t Lr Lw R ph si len) where
-  -- A waiting read waits for an entitled write, and that one for a read that has held at least as long as ours has
-  -- waited.
+  -- A waiting read waits for an entitled write, and that write waits for a read that has held at least as long as ours
+  -- has waited.
   waiting-read-bounded : (r : ℕ) → r < n → R .group r ≡ true → R .write r ≡ false → ph r ≡ waiting → t ≤ si r + Lr
   waiting-read-bounded r hr g read k = go (settled .i5 r hr read k)
     where
@@ -59,7 +59,8 @@ module _ {n t Lr Lw : ℕ} {R : Requests} {ph : ℕ → Phase} {si len : ℕ →
   read-wait-bounded r hr g read (inl k) = omega (arith, waiting-read-bounded r hr g read k)
   read-wait-bounded r hr g read (inr k) = entitled-read-bounded r hr g read k
 
--- What is asked of a call at tick t: I1 to I7 on both sides of it, and T1, T2, past ticks and kept lengths before it.
+-- What is required of a call at tick t: I1 to I7 before and after it, and T1, T2, past ticks and kept lengths before
+-- it.
 pub record Timely (n t Lr Lw : ℕ) (R R′ : Requests) (ph ph′ : ℕ → Phase) (si len : ℕ → ℕ) : Type 0 where
   pub settled : Settled n R ph
   pub ordered : Ordered n R ph
@@ -73,7 +74,7 @@ pub record Timely (n t Lr Lw : ℕ) (R R′ : Requests) (ph ph′ : ℕ → Phas
 
 module _ {n t Lr Lw : ℕ} {R R′ : Requests} {ph ph′ : ℕ → Phase} {si si′ len : ℕ → ℕ}
     (c : Called n t R R′ ph ph′ si si′) (h : Timely n t Lr Lw R R′ ph ph′ si len) where
-  -- Of requests active before the call and after it, group, kind and conflict are as they were.
+  -- For requests that are active before and after the call, group, kind and conflict are as they were.
   was-in-group : (i : ℕ) → i < n → (ph i ≡ idle → ⊥) → (ph′ i ≡ idle → ⊥) → R′ .group i ≡ true → R .group i ≡ true
   was-in-group i hi a b g = sym (same-group (c .start) i hi (active-untouched c i hi a b)) ∙ g
 
@@ -142,7 +143,7 @@ module _ {n t Lr Lw : ℕ} {R R′ : Requests} {ph ph′ : ℕ → Phase} {si si
       go (inl (j, hj, y)) = found (waited-for .0) j (waited-for .1) hj (waited-for .2) (y .write-is) (y .conflict) (inr (y .phase-is))
       go (inr (j, hj, y)) = found (waited-for .0) j (waited-for .1) hj (waited-for .2) (y .write-is) (y .conflict) (inl (y .phase-is))
 
-  -- T1. A read that waits since before the call: nothing is added in the way of the write that it waits for.
+  -- T1. A read that has waited since before the call: nothing is added in the way of the write that it waits for.
   waited-t1 : (r w q : ℕ) → r < n → w < n → q < n → R′ .group r ≡ true → R′ .write r ≡ false → ph r ≡ waiting → ph′ r ≡ waiting
       → In R′ ph′ entitled true r w → In R′ ph′ holding false w q → si′ q ≤ si′ r
   waited-t1 r w q hr hw hq g read k k′ x y =

@@ -1,4 +1,4 @@
--- I1 to I7 hold of the empty arbiter and are kept by each accepted call. Assumes nothing.
+-- I1 to I7 hold for the empty arbiter, and each accepted call keeps them. Assumes nothing.
 use Prim.Native.Nat.{ℕ, _<_}
 use native.Mathlib.Decide.{ℕ-discrete}
 use mathlib.Core.Path.{_≡_, sym, _∙_, ap}
@@ -21,7 +21,7 @@ settled-fresh {n} {R} {ph} all-idle =
       i7 = λ i hi w k. absurd (clash (all-idle i hi) k tt);
     }
 
--- What of I1 to I7 a request put in or taken out leaves standing before the call settles.
+-- What remains of I1 to I7 when a request has been added or removed, before the call settles.
 record Begun (n : ℕ) (R : Requests) (ph : ℕ → Phase) : Type 0 where
   i1 : (i j : ℕ) → i < n → j < n → R .write i ≡ true → R .write j ≡ true → (ph i ≡ idle → ⊥) → (ph j ≡ idle → ⊥)
       → R .against i j ≡ true → R .earlier i j ≡ true → ph j ≡ waiting
@@ -29,7 +29,7 @@ record Begun (n : ℕ) (R : Requests) (ph : ℕ → Phase) : Type 0 where
   i3 : Excludes n R ph entitled
 
 module _ {n : ℕ} {R R′ : Requests} {ph ph₀ : ℕ → Phase} (settled : Settled n R ph) where
-  -- The newcomer is waiting, and earlier than none.
+  -- The new request is waiting, and earlier than no other.
   touched-later-waits : (s : Start n R R′ ph ph₀) (j : ℕ) → j ≡ touched s → (ph₀ j ≡ idle → ⊥) → ph₀ j ≡ waiting
   touched-later-waits (puts-in p s) j e b = ap ph₀ e ∙ s .now-waiting
   touched-later-waits (takes-out p s) j e b = absurd (b (ap ph₀ e ∙ s .now-idle))
@@ -67,7 +67,7 @@ module _ {n : ℕ} {R R′ : Requests} {ph ph₀ : ℕ → Phase} (settled : Set
 in-phase : {R : Requests} {ph ph′ : ℕ → Phase} {a b : Phase} {isWrite : Bool} {i j : ℕ} → ph′ j ≡ b → In R ph a isWrite i j → In R ph′ b isWrite i j
 in-phase e x = record { phase-is = e; write-is = x .write-is; conflict = x .conflict }
 
--- The four steps, from what the start leaves standing.
+-- The four steps, from what remains after the start.
 
 module _ {n t : ℕ} {R R′ : Requests} {ph ph′ : ℕ → Phase} {si si′ : ℕ → ℕ}
     (c : Called n t R R′ ph ph′ si si′) (lawful : Lawful n R′ ph′) (ordered : Ordered n R′ ph′) (b : Begun n R′ (c .ph₀)) where
@@ -161,7 +161,7 @@ module _ {n t : ℕ} {R R′ : Requests} {ph ph′ : ℕ → Phase} {si si′ : 
       go (Step4.entitles r′ e some none h) = from3 some
       go (Step4.stays why e) = from0 (first-i4 i hi r (sym (read-third c i hi r) ∙ (sym e ∙ k)))
 
-  -- I5: a write entitled or holding after step 1 is so after the call.
+  -- I5: a write that is entitled or holding after step 1 still is after the call.
   after-i5 : (i : ℕ) → i < n → R′ .write i ≡ false → ph′ i ≡ waiting → Exists n (In R′ ph′ entitled true i)
   after-i5 i hi r k = fourth (c .fourth i hi)
     where
@@ -217,7 +217,7 @@ module _ {n t : ℕ} {R R′ : Requests} {ph ph′ : ℕ → Phase} {si si′ : 
       waits0 : c .ph₀ i ≡ waiting
       waits0 = waiting-was-waiting (rises c i hi) k
 
-      -- An entitled read has a holding write against it, and the bridge leads from that write to ours.
+      -- An entitled read conflicts with a holding write, and the bridge leads from that write to ours.
       bridged : (r : ℕ) → r < n → In R′ (c .ph₁) entitled false i r → Exists n (In R′ (c .ph₀) holding true r) → Behind i
       bridged r hr x (v, hv, y) = behind-holding i v hi hv w (y .write-is) waits0 (y .phase-is) conflict
         where

@@ -1,6 +1,6 @@
--- Writes of the group wait at most (m − 1) × (Lr + Lw) while its holders keep to their lengths, where m is above every
--- active processor. Each write ahead takes at most one span Lr + Lw, counted from when the first of them holds. That
--- holds of the empty arbiter and is kept by each accepted call. Assumes nothing.
+-- Writes of the group wait at most (m − 1) × (Lr + Lw) while the group's holders keep to their lengths, where m is
+-- above every active processor. Each write ahead takes at most one span Lr + Lw, counted from when the first of them
+-- holds. This is true of the empty arbiter, and each accepted call keeps it. Assumes nothing.
 use Prim.Native.Nat.{ℕ, suc, _<_, _≤_, _+_, _*_, _-_}
 use native.Mathlib.Omega.{arith}
 use native.Mathlib.Nat.{mul-le-mul-right}
@@ -15,8 +15,8 @@ use Rattle.runs.proofs.columns.Lengths.{Prompt, read-holds-at-most, wri
 use Rattle.runs.proofs.columns.Rank.{GroupWrite, rank, First, Below, rank-below, rank-below-with-read, first-exists, first-is-ahead, first-is-one, nothing-ahead-of-first, ahead-ranks-above-zero}
 use Rattle.runs.proofs.columns.RankMoves.{idle-or-active, was-group-write, is-group-write, rank-does-not-rise, rank-falls, first-stays-first}
 
--- The first write f holds from tick x on at the latest: it holds since x; or it is entitled, and a read that holds
--- since x less Lr is in its way.
+-- The first write f holds from tick x on at the latest: either it has held since x, or it is entitled, and a read that
+-- has held since x − Lr is in its way.
 pub data HoldsBy (n Lr : ℕ) (R : Requests) (ph : ℕ → Phase) (si : ℕ → ℕ) (f x : ℕ) : Type 0 where
   holds : ph f ≡ holding → x ≡ si f → HoldsBy n Lr R ph si f x
   waits-for : (q : ℕ) → q < n → ph f ≡ entitled → In R ph holding false f q → x ≡ si q + Lr → HoldsBy n Lr R ph si f x
@@ -28,7 +28,7 @@ pub record WaitingWrite (n : ℕ) (R : Requests) (ph : ℕ → Phase) (w : ℕ) 
   pub write-is : R .write w ≡ true
   pub unsatisfied : Unsatisfied (ph w)
 
--- W1 where the first write holds, W2 where it is entitled.
+-- W1 if the first write holds, W2 if it is entitled.
 pub record WriteTimed (n m Lr Lw : ℕ) (R : Requests) (ph : ℕ → Phase) (si : ℕ → ℕ) : Type 0 where
   pub timed : (w f x : ℕ) → WaitingWrite n R ph w → First n R ph f → HoldsBy n Lr R ph si f x
       → x + rank n R ph w * (Lr + Lw) ≤ si w + (m - 1) * (Lr + Lw)
@@ -46,7 +46,7 @@ pub record Standing (n : ℕ) (R : Requests) (ph : ℕ → Phase) : Type 0 where
 waiting-group-write : {n : ℕ} {R : Requests} {ph : ℕ → Phase} {w : ℕ} → WaitingWrite n R ph w → GroupWrite R ph w
 waiting-group-write u = record { active = unsatisfied-active (u .unsatisfied); write-is = u .write-is; group-is = u .group-is }
 
--- By I6 a waiting write has one ahead of it.
+-- Because of I6, a waiting write has another one ahead of it.
 first-entitled-or-holding : {n : ℕ} {R : Requests} {ph : ℕ → Phase} {f : ℕ} → Standing n R ph → First n R ph f → EntitledOrHolding (ph f)
 first-entitled-or-holding {ph = ph} {f} s first = go (unsatisfied-or-holding (ph f) (first .member .active))
   where
@@ -65,7 +65,8 @@ last-span : (t x r Lr Lw b : ℕ) → t ≤ x + Lw → 0 < r → x + r * (Lr + L
 last-span t x r Lr Lw b h k l = omega (arith, mul-le-mul-right (Lr + Lw) k)
 
 module _ {n t Lr Lw : ℕ} {R : Requests} {ph : ℕ → Phase} {si len : ℕ → ℕ} (s : Standing n R ph) (prompt : Prompt n t Lr Lw R ph si len) where
-  -- When the first write holds at the latest: it leaves at most Lw after, and that is not past while it is entitled.
+  -- When the first write holds at the latest. It leaves at most Lw after this tick, and the tick is not past while the
+  -- write does not hold.
   record Due (f : ℕ) : Type 0 where
     pub tick : ℕ
     pub by : HoldsBy n Lr R ph si f tick
@@ -108,7 +109,7 @@ module _ {n t Lr Lw : ℕ} {R : Requests} {ph : ℕ → Phase} {si len : ℕ →
       go : (f : ℕ) × First n R ph f → t ≤ si w + (m - 1) * (Lr + Lw)
       go (f, first) = behind f first (first-due f first) (ℕ-discrete f w)
 
--- A newcomer at t, behind a first write that holds, or that is entitled behind a read.
+-- A new request at t, behind a first write that holds, or that is entitled and waits for a read.
 
 newcomer-behind-holder : (t x r m Lr Lw : ℕ) → x ≤ t → r < m → x + r * (Lr + Lw) ≤ t + (m - 1) * (Lr + Lw)
 newcomer-behind-holder t x r m Lr Lw h k =

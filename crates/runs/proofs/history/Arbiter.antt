@@ -1,5 +1,5 @@
--- What whole runs ask of the arbiter, one act at a time. Definitions alone: an arbiter that meets them is shown
--- elsewhere. Assumes nothing.
+-- What whole runs require of the arbiter, one act at a time. This file only defines; refinement/Arbiter.antt shows an
+-- arbiter that meets these definitions. Assumes nothing.
 use Prim.Native.Nat.{ℕ, _+_, _-_, _*_, _<_}
 use mathlib.Core.Path.{_≡_}
 use mathlib.Core.Bool.{Bool, false, cond}
@@ -28,7 +28,8 @@ boundOn b Lr Lw e = cond (bit (b .terms .writes) e) ((b .terms .processors - 1) 
 abbrev pub Kept : Board → (ℕ → Bool) → State → ℕ → Type 0
 Kept b group s t = KeptTo (lengthOn b) group s t
 
--- `Safe` holds of every state that calls lead to, `Timed` as long as each holder of the group keeps to its length.
+-- `Safe` is true of every state that calls lead to, and `Timed` as long as each holder of the group keeps to its
+-- length.
 pub record Arbiter (b : Board) (group : ℕ → Bool) (Lr Lw : ℕ) : Type 1 where
   pub Safe : State → Type 0
   pub Timed : State → Type 0

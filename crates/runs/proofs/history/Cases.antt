@@ -1,4 +1,4 @@
--- Cases on numbers, and lists by place: one element set, `map`, and one element more at the end. Assumes nothing.
+-- Cases on numbers, and lists by place: one element set, `map`, and one more element at the end. Assumes nothing.
 use Prim.Native.Nat.{ℕ, zero, suc, _≤_, _<_}
 use mathlib.Core.Path.{_≡_, refl, ap, _∙_}
 use mathlib.Core.Bool.{Bool, true, false, cond}

@@ -1,4 +1,4 @@
--- The masks of an act, and of one request taken out and another of its processor put in, by the states before and
+-- The masks of an act, and of one request removed and another of its processor added, in terms of the states before and
 -- after. Assumes nothing.
 use Prim.Native.Nat.{ℕ, _<_}
 use mathlib.Core.Path.{_≡_, refl, sym, ap, ap₂, subst, _∙_}
@@ -30,9 +30,9 @@ holdsAt s q = bit (s .phases .holding) q
 abbrev pub entitledAt : State → ℕ → Bool
 entitledAt s q = bit (s .phases .entitled) q
 
--- ---- two rises, by their bits
+-- ---- two rises, bit by bit
 
--- A bit that is set stays: what either rise set, both did.
+-- A bit that is set stays set: what either rise set, the two together set.
 set-by-either : (a b c : Bool) → (a ≡ true → b ≡ true) → (b ≡ true → c ≡ true)
     → ((b && not a) || (c && not b)) ≡ (c && not a)
 set-by-either true true true h k = refl
@@ -43,7 +43,7 @@ set-by-either false true false h k = absurd (false≢true (k refl))
 set-by-either false false true h k = refl
 set-by-either false false false h k = refl
 
--- A bit that is set at both ends was set between.
+-- A bit that is set at both ends was set in between.
 set-at-the-end : (a b c : Bool) → (a ≡ true → c ≡ true → b ≡ true)
     → (((b && not a) || (c && not b)) && c) ≡ (c && not a)
 set-at-the-end true true true h = refl
@@ -68,7 +68,7 @@ module _ (b : Board) (s : State) (t : ℕ) (a : Act) (c : Clean b s) (k : Allowe
   own-rises : Rises (phaseIn (startOf s t a) q) (phaseIn (stateAfterAct b s t a) q)
   own-rises = settled-rises (factsOf b (startOf s t a)) everyEntry (startOf s t a .phases) (start-tidy b s t c a k) q l
 
-  -- A processor that the act leaves alone.
+  -- A processor whose request the act leaves alone.
   module _ (other : q ≡ callerOf a → ⊥) where
     untouched : bitsAt (startOf s t a .phases) q ≡ bitsAt (s .phases) q
     untouched =

@@ -1,5 +1,5 @@
--- An accepted call is its act, carried out and settled, or two acts one after the other; a refused one changes nothing.
--- Assumes nothing.
+-- An accepted call is one act, carried out and settled, or two acts one after the other; a refused call changes
+-- nothing. Assumes nothing.
 use Prim.Native.Nat.{ℕ}
 use mathlib.Core.Path.{_≡_, refl, sym, ap, ap₂, subst, _∙_}
 use mathlib.Core.Bool.{cond, not}
@@ -37,7 +37,7 @@ module _ (number : ℕ) (s : State) (accepted : Answer) where
 
 -- ---- of a clean state
 
--- Those that become entitled by the act a, and are so once all is settled.
+-- The processors that become entitled in the act a, and are entitled once all is settled.
 abbrev pub entitlesIn : Board → State → ℕ → Act → ℕ
 entitlesIn b s t a = maskOf slots (became (startOf s t a .phases) (phasesAfter b s t a))
 
@@ -85,7 +85,7 @@ module _ (b : Board) (s : State) (p t : ℕ) (c : Clean b s) where
 
 -- ---- a completion and then an issue
 
--- The answer to an accepted call that takes p's request out and then puts one of p for entry e in: that of both acts.
+-- The answer to an accepted call that removes p's request and then adds one of p for entry e: that of both acts.
 abbrev pub bothAnswer : Board → State → ℕ → ℕ → ℕ → ℕ → Answer
 bothAnswer b s t p e late =
     both (actAnswer b s t (takes p) late) (actAnswer b (stateAfterAct b s t (takes p)) t (puts p e) 0)
@@ -131,8 +131,8 @@ handover-acts b s p e t c ok =
 
 -- ---- any call
 
--- A call is refused by a number and changes nothing, or it carries out one act, or it takes a request out and puts
--- another of its processor in.
+-- A call is refused with a number and changes nothing, or it carries out one act, or it removes a request and adds
+-- another of its processor.
 pub data Answers (b : Board) (s : State) (c : Call) : Type 0 where
   refused : (n : ℕ) → (n ≡ 0 → ⊥) → answered b s c ≡ record { reply = refusedWith n; state = s } → Answers b s c
   acts : (a : Act) (late : ℕ) → actsOf c ≡ a ∷ [] → Allowed b s (tickOf c) a

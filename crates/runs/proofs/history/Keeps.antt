@@ -1,4 +1,4 @@
--- Holds and waits along the calls: what the claim asks of a history, and what it says of the state that the history
+-- Holds and waits along the calls: what the claim requires of a history, and what it says of the state that the history
 -- led to. Assumes nothing.
 use Prim.Native.Nat.{ℕ, _+_, _-_, _≤_, _<_, zero-le}
 use mathlib.Core.Path.{_≡_, sym, ap, ap₂, subst, _∙_}
@@ -28,7 +28,7 @@ abbrev pub Waits : (ℕ → ℕ) → (ℕ → Bool) → ℕ → History → Type
 Waits bound group n h =
     (i : ℕ) → i < length (h .requests) → group (request h i .entry) ≡ true → waitOf n (request h i) ≤ bound (request h i .entry)
 
--- The same of the state: its holders, and its unsatisfied requests.
+-- The same for the state: its holders, and its unsatisfied requests.
 abbrev pub KeptTo : (ℕ → ℕ) → (ℕ → Bool) → State → ℕ → Type 0
 KeptTo length-of group s t =
     (q : ℕ) → q < slots → phaseIn s q ≡ holding → group (entryFor s q) ≡ true → t ≤ sinceIn s q + length-of (entryFor s q)
@@ -83,7 +83,7 @@ kept-to length-of group s t h rel keeps q l held in-group =
 
 -- ---- the state's unsatisfied requests
 
--- A wait that is over does not grow, and one that is not over is the state's.
+-- A wait that is over does not grow, and one that is not over is a wait in the state.
 wait-later : (bound : ℕ → ℕ) (group : ℕ → Bool) (s : State) (n t : ℕ) → WaitsTo bound group s t → (r : Request)
     → group (r .entry) ≡ true → Tied s r → waitOf n r ≤ bound (r .entry) → waitOf t r ≤ bound (r .entry)
 wait-later bound group s n t to r g = go (r .grant) (r .end)

@@ -22,7 +22,7 @@ use Rattle.runs.proofs.columns.Phases.{idle-stays}
 use Rattle.runs.proofs.refinement.Clean.{phaseIn, fresh-idle}
 use Rattle.runs.proofs.refinement.Acts.{Begun, Settles, ActDone}
 
--- A request without an end that is processor q's.
+-- A request of processor q that has no end.
 pub record OpenOf (h : History) (q i : ℕ) : Type 0 where
   pub listed : i < length (h .requests)
   pub no-end : request h i .end ≡ never
@@ -34,7 +34,7 @@ pub record Related (s : State) (h : History) : Type 0 where
   pub apart : (q i j : ℕ) → OpenOf h q i → OpenOf h q j → i ≡ j
   pub present : (q : ℕ) → q < slots → (phaseIn s q ≡ idle → ⊥) → (i : ℕ) × OpenOf h q i
 
--- What is counted at tick t makes of a history.
+-- What counting at tick t does to a history.
 pub record Advanced (t : ℕ) (h h′ : History) : Type 0 where
   pub longer : length (h .requests) ≤ length (h′ .requests)
   pub old : (i : ℕ) → i < length (h .requests) → Alike t (request h i) (request h′ i)
@@ -64,7 +64,7 @@ related-fresh =
 
 -- ---- every request changed
 
--- A change of all requests, from the state s to s′ at tick t, that ends only those of processors that are idle then.
+-- A change of all requests, from the state s to s′ at tick t, that ends only requests of processors that are then idle.
 record Changes (t : ℕ) (s s′ : State) (f : Request → Request) : Type 0 where
   tied : (r : Request) → Tied s r → Tied s′ (f r)
   alike : (r : Request) → Alike t r (f r)
@@ -145,7 +145,7 @@ granted-changes x s′ g h =
       was-active = λ q l a k. a (idle-stays (h .rises q l) k);
     }
 
--- ---- one request more
+-- ---- one more request
 
 module _ (s x : State) (t p e : ℕ) (f : Begun s x t (puts p e)) (h : History) (rel : Related s h) where
   abbrev h₁ : History
@@ -163,7 +163,7 @@ module _ (s x : State) (t p e : ℕ) (f : Begun s x t (puts p e)) (h : History) 
   new-at : (i : ℕ) → i ≡ n → request h₁ i ≡ arrival p e t
   new-at i same = ap (request h₁) same ∙ getD-append-seam (h .requests) (arrival p e t) [] (arrival 0 0 0)
 
-  -- A place of the longer list is one before, or the last.
+  -- A place of the longer list is one of the old list, or the last.
   place : {A : Type 0} (i : ℕ) → i < length (h₁ .requests) → (i < n → A) → (i ≡ n → A) → A
   place i l below last = ⊎-elim last below (eq-or-lt-of-le (le-of-suc-le-suc (subst (λ (k : ℕ). i < k) one-more l)))
 
@@ -175,7 +175,7 @@ module _ (s x : State) (t p e : ℕ) (f : Begun s x t (puts p e)) (h : History) 
         processor = sym (ap (λ r. r .processor) (old-at i l)) ∙ o .processor;
       }
 
-  -- No old request without an end is p's.
+  -- No old request of p is without an end.
   not-both : (q i j : ℕ) → i < n → j ≡ n → OpenOf h₁ q i → OpenOf h₁ q j → ⊥
   not-both q i j l same oi oj =
       let o = was-open q i l oi in
@@ -241,7 +241,7 @@ act-step : (s x : State) (t : ℕ) (a : Act) → Begun s x t a → (h : History)
 act-step s x t (puts p e) f h rel = put-step s x t p e f h rel
 act-step s x t (takes p) f h rel = changed-step t s x (ending p t) (taken-changes s x t p f) h rel (sym (f .last))
 
--- What is counted of a call at t that carries out the act a, with the mask g of grants.
+-- What is counted for a call at t that carries out the act a, with the mask g of grants.
 abbrev pub afterAct : History → ℕ → Act → ℕ → History
 afterAct h t a g = record { requests = map (granting g t) (acting t a (h .requests)); last = t }
 

@@ -1,5 +1,5 @@
--- Along every list of calls the state and the history stay related, and what is asked of the arbiter at each act holds
--- of the history at the end. Assumes nothing.
+-- Along every list of calls the state and the history stay related, and what is required of the arbiter at each act is
+-- true of the history at the end. Assumes nothing.
 use Prim.Native.Nat.{ℕ, _≤_, _<_}
 use mathlib.Core.Path.{_≡_, refl, sym, ap, ap₂, subst, subst₂, _∙_}
 use mathlib.Core.Bool.{Bool, true, false}
@@ -39,7 +39,7 @@ module _ (b : Board) (group : ℕ → Bool) (Lr Lw : ℕ) (A : Arbiter b group L
 
   -- ---- one call
 
-  -- A call is refused and changes nothing, or an act is taken at a tick t; or one outcome follows another.
+  -- A call is refused and changes nothing, or an act is carried out at a tick t; or one outcome follows another.
   data Outcome : State → State → History → History → Type 0 where
     unchanged : {s s′ : State} {h h′ : History} → s′ ≡ s → h′ ≡ h → Outcome s s′ h h′
     taken : {s s′ : State} {h h′ : History} (t : ℕ) → s .last ≤ t → h′ .last ≡ t → Step t h h′ s′ → Clean b s′
@@ -47,7 +47,7 @@ module _ (b : Board) (group : ℕ → Bool) (Lr Lw : ℕ) (A : Arbiter b group L
         → (A .Timed s → Kept b group s t → A .Timed s′) → Outcome s s′ h h′
     follows : {s s₁ s′ : State} {h h₁ h′ : History} → Outcome s s₁ h h₁ → Outcome s₁ s′ h₁ h′ → Outcome s s′ h h′
 
-  -- An act that is taken, whatever call carries it out.
+  -- An act that is carried out, whichever call does so.
   act-outcome : (s : State) (h : History) (t : ℕ) (a : Act) → Reached s h → Allowed b s t a
       → Outcome s (stateAfterAct b s t a) h (afterAct h t a (grantsIn b s t a))
   act-outcome s h t a r k =
@@ -62,7 +62,7 @@ module _ (b : Board) (group : ℕ → Bool) (Lr Lw : ℕ) (A : Arbiter b group L
       record { clean = clean; safe = safe; related = step .related }
   reached-next r (follows one two) = reached-next (reached-next r one) two
 
-  -- Two acts that are taken at one tick, counted together.
+  -- Two acts that are carried out at one tick, counted together.
   both-outcome : (s : State) (h : History) (t p e : ℕ) → Reached s h → BothAllowed b s t p e
       → Outcome s (stateAfterAct b (stateAfterAct b s t (takes p)) t (puts p e)) h (afterBoth b s h t p e)
   both-outcome s h t p e r k =

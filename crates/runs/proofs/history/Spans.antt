@@ -1,5 +1,5 @@
--- Waits and holds up to a tick t. An act at t and its grants leave those of the requests before as they are, and a new
--- request has waited 0; later they can only grow. Assumes nothing.
+-- Waits and holds up to a tick t. An act at t and its grants do not change those of the old requests, and a new request
+-- has waited 0; later they can only grow. Assumes nothing.
 use Prim.Native.Nat.{ℕ, _-_, _≤_, zero-le}
 use mathlib.Core.Path.{_≡_, refl, _∙_}
 use mathlib.Core.Bool.{Bool, true, false, cond}

@@ -18,7 +18,7 @@ use Rattle.runs.proofs.columns.Phases.{clash, Unsatisfied, unsatisfied-
 use Rattle.runs.proofs.refinement.Clean.{phaseIn, entryFor, sinceIn}
 use Rattle.runs.proofs.refinement.Acts.{Same, Begun, Marked, begins, keeps, Settles}
 
--- The request has no end, and is its processor's in the state.
+-- The request has no end, and it is the request of its processor in the state.
 pub record Open (s : State) (r : Request) : Type 0 where
   pub no-end : r .end ≡ never
   pub below : r .processor < slots
@@ -36,8 +36,8 @@ pub record Holding (s : State) (r : Request) (g : ℕ) : Type 0 where
   pub held : phaseIn s (r .processor) ≡ holding
   pub since : sinceIn s (r .processor) ≡ g
 
--- A request of the history and what the state says of its processor. One that has ended, with a grant or without, is
--- not in it.
+-- A request of the history and what the state says of its processor. A request that has ended, with or without a grant,
+-- is not in the state.
 pub data Tied (s : State) (r : Request) : Type 0 where
   waits : Waiting s r → Tied s r
   holds : (g : ℕ) → Holding s r g → Tied s r
@@ -46,7 +46,7 @@ pub data Tied (s : State) (r : Request) : Type 0 where
 pub never-is-not-at : (t : ℕ) → never ≡ at t → ⊥
 never-is-not-at t e = let z : _≡_ {A = ℕ} 0 1 = cc in omega arith
 
--- A request without an end is its processor's, and active.
+-- A request without an end is its processor's request, and is active.
 open-of : (s : State) (r : Request) → Tied s r → r .end ≡ never → Open s r
 open-of s r (waits w) e = w .open-in
 open-of s r (holds g w) e = w .open-in
@@ -57,7 +57,7 @@ open-active s r (waits w) e = unsatisfied-active (w .unsatisfied)
 open-active s r (holds g w) e = λ k. clash (w .held) k tt
 open-active s r (ended d k) e = absurd (never-is-not-at d (sym e ∙ k))
 
--- A request that holds, by its grant and its end, holds in the state.
+-- A request that holds according to its grant and its end holds in the state.
 pub holder-of : (s : State) (r : Request) → Tied s r → History.holds r ≡ true → (g : ℕ) × Holding s r g
 holder-of s r (waits w) e =
     absurd (false≢true (sym (ap (λ m. happened m && not (happened (r .end))) (w .no-grant)) ∙ e))
@@ -65,7 +65,7 @@ holder-of s r (holds g w) e = (g, w)
 holder-of s r (ended d k) e =
     absurd (false≢true (sym (ap (λ m. happened (r .grant) && not (happened m)) k ∙ and-false (happened (r .grant))) ∙ e))
 
--- ---- what an act and its grants make of a request
+-- ---- what an act and its grants do to a request
 
 pub ending-other : (p t : ℕ) (r : Request) → (r .processor ≡ p → ⊥) → ending p t r ≡ r
 ending-other p t r other = rw (ne-eqb (r .processor) p other)
@@ -95,7 +95,7 @@ tied-untouched s x r same tied = go tied
         (record { grant-at = w .grant-at; open-in = open-on (w .open-in); held = o .phase ∙ w .held; since = o .since ∙ w .since })
     go (ended d e) = ended d e
 
--- Where a request is put in, no old one without an end is its processor's.
+-- When a request is added, no old request of its processor is without an end.
 pub tied-put : (s x : State) (t p e : ℕ) → Begun s x t (puts p e) → (r : Request) → Tied s r → Tied x r
 tied-put s x t p e f r tied =
     tied-untouched s x r
@@ -113,7 +113,7 @@ tied-arrival s x t p e f =
       since = f .own .since;
     })
 
--- Where one is taken out, in whatever phase, it ends.
+-- When a request is removed, in whatever phase, it ends.
 pub tied-taken : (s x : State) (t p : ℕ) → Begun s x t (takes p) → (r : Request) → Tied s r → Tied x (ending p t r)
 tied-taken s x t p f r tied =
     by-processor (r .processor) p (λ same. go same (r .grant) (r .end))

@@ -1,5 +1,5 @@
--- A request is taken out and another of its processor put in, at one tick: the grants of both acts, counted together
--- after both, are those counted after each act. Assumes nothing.
+-- A request is removed and another of its processor added, at one tick: the grants of both acts, counted together after
+-- both, are those counted after each act. Assumes nothing.
 use Prim.Native.Nat.{ℕ}
 use mathlib.Core.Path.{_≡_, refl, sym, ap, ap₂, _∙_}
 use mathlib.Core.Bool.{Bool, true, false, _&&_, _||_}
@@ -21,7 +21,7 @@ use Rattle.runs.proofs.refinement.Acts.{grantsIn, stateAfterAct, Allowe
 abbrev pub either : ℕ → ℕ → ℕ
 either g₁ g₂ = maskOf slots (λ q. bit g₁ q || bit g₂ q)
 
--- Nothing is lost past the last processor, where the masks have nothing.
+-- Nothing is lost past the last processor, where the masks are empty.
 both-below : (l a b : Bool) → (l && ((l && a) || (l && b))) ≡ ((l && a) || (l && b))
 both-below true a b = refl
 both-below false a b = refl
@@ -50,7 +50,7 @@ module _ (g g₁ g₂ t : ℕ) (all : (q : ℕ) → bit g q ≡ (bit g₁ q || b
       go (at k) (at d) = refl
 
   module _ (p e : ℕ) (not-before : bit g₁ p ≡ false) where
-    -- The new request: the first mask does not have its processor.
+    -- The new request: the first mask does not contain its processor.
     arrival-granted : granting g t (arrival p e t) ≡ granting g₂ t (arrival p e t)
     arrival-granted = rw (all p, not-before)
 
@@ -60,18 +60,18 @@ module _ (g g₁ g₂ t : ℕ) (all : (q : ℕ) → bit g q ≡ (bit g₁ q || b
     counted-together [] = ap (λ r. r ∷ []) arrival-granted
     counted-together (r ∷ rs) = ap₂ _∷_ (granted-together (ending p t r)) (counted-together rs)
 
--- What is counted of a call at t that carries out these acts, with the mask g of grants.
+-- What is counted for a call at t that carries out these acts, with the mask g of grants.
 abbrev pub afterActs : History → ℕ → List Act → ℕ → History
 afterActs h t acts g = record { requests = map (granting g t) (allActing t acts (h .requests)); last = t }
 
--- What is counted of a call at t that takes p's request out and puts one of p for entry e in.
+-- What is counted for a call at t that removes p's request and adds one of p for entry e.
 abbrev pub afterBoth : Board → State → History → ℕ → ℕ → ℕ → History
 afterBoth b s h t p e =
     afterActs h t (takes p ∷ puts p e ∷ [])
     (either (grantsIn b s t (takes p)) (grantsIn b (stateAfterAct b s t (takes p)) t (puts p e)))
 
 module _ (b : Board) (s : State) (t p : ℕ) (c : Clean b s) (k : Allowed b s t (takes p)) where
-  -- Whose request is taken out does not begin to hold by that.
+  -- A processor whose request is removed does not begin to hold in that act.
   pub gone-not-granted : bit (grantsIn b s t (takes p)) p ≡ false
   gone-not-granted = go (done .settles .marked p (k .below))
     where

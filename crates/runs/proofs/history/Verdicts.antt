@@ -1,4 +1,5 @@
--- What an accepted call's checks tell: its tick, its processor, its entry, and what its processor has. Assumes nothing.
+-- What the checks of an accepted call show: its tick, its processor, its entry, and the request of its processor.
+-- Assumes nothing.
 use Prim.Native.Nat.{ℕ, _≤_, _<_}
 use mathlib.Core.Path.{_≡_}
 use mathlib.Core.Bool.{true, false, not, _&&_}
@@ -14,7 +15,7 @@ use Rattle.rules.specs.declared.states.Terms.{Terms}
 use Rattle.rules.specs.CountedRequests.{hasProcessor}
 use Rattle.rules.specs.Faults.{tickFault, processorFault, issueFault, takeFault, completeFault}
 
--- What all calls check of their tick and processor.
+-- What the checks of all calls show about their tick and processor.
 pub record Admissible (terms : Terms) (last p t : ℕ) : Type 0 where
   pub in-time : last ≤ t
   pub in-state : p < slots

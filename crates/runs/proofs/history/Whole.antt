@@ -1,5 +1,5 @@
--- Whole runs: every list of calls to the fresh arbiter of an accepted plan, given what is asked of the arbiter at each
--- act. Assumes nothing.
+-- Whole runs: every list of calls to the fresh arbiter of an accepted plan, given what is required of the arbiter at
+-- each act. Assumes nothing.
 use Prim.Native.Nat.{ℕ, _+_, _-_, _*_, _≤_}
 use mathlib.Core.Path.{_≡_, sym, subst, _∙_}
 use mathlib.Core.Bool.{Bool, true, false, cond}

@@ -1,5 +1,5 @@
--- One act on a clean state, processor by processor: a request is put in, or taken out in whatever phase, and then the
--- four steps settle. Assumes nothing.
+-- One act on a clean state, processor by processor: a request is added, or removed in whatever phase, and then the four
+-- steps settle. Assumes nothing.
 use Prim.Native.Nat.{ℕ, _≤_, _<_}
 use mathlib.Core.Path.{_≡_, refl, sym, ap, subst, _∙_}
 use mathlib.Core.Bool.{Bool, true, false, cond}
@@ -32,15 +32,15 @@ use Rattle.runs.proofs.refinement.Steps.{second-fails, first-step, seco
 use Rattle.runs.proofs.refinement.Clean.{phaseIn, entryFor, sinceIn, Clean}
 use Rattle.runs.proofs.refinement.Starts.{put-moves, take-moves}
 
--- ---- what an act makes of a state
+-- ---- what an act does to a state
 
--- The processor whose request is put in or taken out.
+-- The processor whose request is added or removed.
 abbrev pub callerOf : Act → ℕ
 callerOf (puts p e) = p
 callerOf (takes p) = p
 
--- The state with the act carried out at tick t, before it settles: of a state s whose requests that count have the
--- phases ph.
+-- The state with the act carried out at tick t, before it settles. ph contains the phases of the requests of s that
+-- count.
 abbrev pub startFrom : Phases → State → ℕ → Act → State
 startFrom ph s t (puts p e) =
     record { last = t; phases = putIn ph p; since = set (s .since) p t; earlier = putLast (s .earlier) ph p; entry = set (s .entry) p e }
@@ -67,14 +67,14 @@ grantsOf x ph = maskOf slots (began (x .phases) ph)
 abbrev pub grantsIn : Board → State → ℕ → Act → ℕ
 grantsIn b s t a = grantsOf (startOf s t a) (phasesAfter b s t a)
 
--- ---- which acts are taken
+-- ---- which acts are accepted
 
 pub record MayPut (b : Board) (s : State) (p e : ℕ) : Type 0 where
   pub in-plan : p < b .terms .processors
   pub listed : e < b .terms .count
   pub was-idle : phaseIn s p ≡ idle
 
--- A request in any phase may be taken out.
+-- A request may be removed in any phase.
 pub record MayTake (s : State) (p : ℕ) : Type 0 where
   pub was-active : phaseIn s p ≡ idle → ⊥
 
@@ -105,7 +105,7 @@ pub record GoneFrom (s x : State) (p : ℕ) : Type 0 where
   pub now-idle : phaseIn x p ≡ idle
   pub since : sinceIn x p ≡ sinceIn s p
 
--- What the act makes of the request of its own processor.
+-- What the act does to the request of its own processor.
 abbrev pub Own : State → State → ℕ → Act → Type 0
 Own s x t (puts p e) = NewIn s x t p e
 Own s x t (takes p) = GoneFrom s x p
@@ -160,7 +160,7 @@ module _ (b : Board) (s : State) (t : ℕ) (c : Clean b s) where
   start-lengths (puts p e) = (length-set (s .entry) p e ∙ c .entry-length, length-set (s .since) p t ∙ c .since-length)
   start-lengths (takes p) = (c .entry-length, c .since-length)
 
-  -- What Clean asks of the caller's own request.
+  -- What `Clean` requires of the caller's own request.
   abbrev Counts : State → ℕ → Type 0
   Counts x q = (q < b .terms .processors) × (entryFor x q < b .terms .count) × (sinceIn x q ≤ t)
 
@@ -196,7 +196,7 @@ module _ (b : Board) (s : State) (t : ℕ) (c : Clean b s) where
 
 -- ---- the steps settle
 
--- Whether processor q's bit is in the mask g of grants, and what that says.
+-- Whether processor q's bit is in the mask g of grants, and what that means.
 pub data Marked (x s′ : State) (g q : ℕ) : Type 0 where
   begins : bit g q ≡ true → phaseIn s′ q ≡ holding → (phaseIn x q ≡ holding → ⊥) → sinceIn s′ q ≡ x .last
       → Marked x s′ g q
@@ -269,7 +269,7 @@ settles-clean b x ph g c tidy s =
 
 -- ---- the accepted act
 
--- From s to s′, with the mask g of grants: over the state with the act carried out.
+-- From s to s′, with the mask g of grants, through the state with the act carried out.
 pub record ActDone (b : Board) (s : State) (t : ℕ) (a : Act) (s′ : State) (g : ℕ) : Type 0 where
   pub start : State
   pub begun : Begun s start t a

@@ -1,4 +1,4 @@
--- The arbiter of an accepted plan is what whole runs ask for, for every closed group of entries: I1 to I7 and the
+-- The arbiter of an accepted plan meets what whole runs require, for every closed group of entries: I1 to I7 and the
 -- order of calls hold after each act, and T1, T2, W1 and W2 as long as the group's holders keep to their lengths.
 -- Assumes nothing.
 use Prim.Native.Nat.{ℕ, _+_, _-_, _*_, _<_, _≤_}

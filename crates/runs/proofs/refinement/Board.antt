@@ -100,7 +100,7 @@ module _ (p : Plan) (taken : planFault p ≡ 0) (s : State) where
   reads-apart i j hi hj =
       plan-conflict i j ∙ reads-never-conflict p (entryFor s i) (entryFor s j) (plan-read i hi) (plan-read j hj)
 
-  -- What is asked of conflict holds whoever is active.
+  -- What is required of conflict holds whichever requests are active.
   pub lawful : (G : ℕ → Bool) → Closed p G → Lawful slots (requestsOf (factsOf (boardOf p) s) G) (phaseIn s)
   lawful G closed =
       record {

@@ -58,7 +58,7 @@ stamps s x s′ g t a k h i l =
 
 -- ---- the call
 
--- A call at t of the columns, from s to s′.
+-- A call at t in the columns, from s to s′.
 abbrev pub CallOf : Board → (ℕ → Bool) → State → ℕ → State → Type 0
 CallOf b G s t s′ =
     Called slots t (requestsOf (factsOf b s) G) (requestsOf (factsOf b s′) G) (phaseIn s) (phaseIn s′) (sinceIn s)

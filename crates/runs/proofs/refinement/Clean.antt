@@ -1,4 +1,5 @@
--- Clean states: just the requests that count, as calls leave them. The fresh state is one. Assumes nothing.
+-- Clean states: they contain just the requests that count, as calls leave them. The fresh state is clean. Assumes
+-- nothing.
 use Prim.Native.Nat.{ℕ, _≤_, _<_}
 use mathlib.Core.Path.{_≡_, refl, sym, ap, ap₂, _∙_}
 use mathlib.Core.Bool.{Bool, true, not, _&&_, _||_, and-false}
@@ -27,8 +28,8 @@ entryFor s q = getD (s .entry) q 0
 abbrev pub sinceIn : State → ℕ → ℕ
 sinceIn s q = getD (s .since) q 0
 
--- A state that calls lead to, as far as one looks at one processor at a time: tidy phases, requests of the plan,
--- arrays of the declared lengths, and no tick after the last accepted one.
+-- A state that calls lead to, seen one processor at a time: tidy phases, requests of the plan, arrays of the declared
+-- lengths, and no tick after the last accepted one.
 pub record Clean (b : Board) (s : State) : Type 0 where
   pub tidy : Tidy (s .phases)
   pub in-plan : (q : ℕ) → q < slots → (phaseIn s q ≡ idle → ⊥)
@@ -39,7 +40,7 @@ pub record Clean (b : Board) (s : State) : Type 0 where
 
 -- ---- every request counts
 
--- What is left of three bits where n says whether the request counts.
+-- What is left of the three bits of a request, where n says whether the request counts.
 abbrev counted : Bool → Bool × Bool × Bool → Bool × Bool × Bool
 counted n b = three (n && (b .0 && not (b .1 || b .2))) (n && (b .1 && not (b .2))) (n && b .2)
 

@@ -1,11 +1,11 @@
--- What stops a read goes by the phases of the writes alone, which step 1 leaves. Assumes nothing.
+-- What stops a read depends only on the phases of the writes, and step 1 does not change them. Assumes nothing.
 use Prim.Native.Nat.{ℕ, _<_}
 use mathlib.Core.Path.{_≡_, _∙_}
 use mathlib.Core.Bool.{true}
 use mathlib.Core.Logic.{_⊎_, inl, inr}
 use Rattle.runs.proofs.columns.Columns.{Phase, entitled, holding, Requests, Exists, In}
 
--- The same request against i's, seen in other phases.
+-- The same request that conflicts with i's, seen in other phases.
 in-phases : {R : Requests} {ph ph′ : ℕ → Phase} {a : Phase} {i j : ℕ} → ph′ j ≡ ph j → In R ph a true i j
     → In R ph′ a true i j
 in-phases e x = record { phase-is = e ∙ x .phase-is; write-is = x .write-is; conflict = x .conflict }
@@ -18,7 +18,7 @@ pub exists-in : {n : ℕ} {R : Requests} {ph ph′ : ℕ → Phase} {a : Phase} 
     → Exists n (In R ph a true i) → Exists n (In R ph′ a true i)
 exists-in same (j, l, x) = (j, l, in-phases (same j l (x .write-is)) x)
 
--- A write that is entitled or holds is against i's request.
+-- A write that is entitled or holds conflicts with i's request.
 abbrev pub Stopped : ℕ → Requests → (ℕ → Phase) → ℕ → Type 0
 Stopped n R ph i = Exists n (In R ph holding true i) ⊎ Exists n (In R ph entitled true i)
 

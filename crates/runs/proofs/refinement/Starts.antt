@@ -1,4 +1,4 @@
--- A request put in, and one taken out in whatever phase, in columns. Assumes nothing.
+-- A request that is added, and one that is removed in whatever phase, in columns. Assumes nothing.
 use Prim.Native.Nat.{ℕ, _<_}
 use mathlib.Core.Path.{_≡_, refl, ap, ap₂, _∙_}
 use mathlib.Core.Bool.{Bool, true, false, cond, not, _&&_, _||_, and-true, and-false, or-false}
@@ -18,7 +18,7 @@ use Rattle.runs.proofs.history.Cases.{by-processor, getD-set}
 use Rattle.runs.proofs.columns.Columns.{idle, waiting, Requests, PutIn, TakenOut}
 use Rattle.runs.proofs.refinement.State.{requestsOf, phaseOf, three, bitsOf, Tidy, idle-inactive, not-idle-active, bits-in, Becomes, moved, kept}
 
--- ---- put in
+-- ---- added
 
 put-bits : (w e h t : Bool) → (t ≡ true → three w e h ≡ bitsOf idle)
     → three (w || t) e h ≡ cond t (bitsOf waiting) (three w e h)
@@ -39,7 +39,7 @@ module _ (ph : Phases) (p : ℕ) (c : Tidy ph) (was-idle : phaseOf ph p ≡ idle
             ∙ put-bits _ _ _ (eqb q p) (λ t. bits-in ph q c l idle (ap (phaseOf ph) (eqb-true q p t) ∙ was-idle));
       }
 
--- Who is earlier than q's request: for the new one all that are active, for another the same as before without p.
+-- Which requests are earlier than q's: for the new one all that are active, for another the same as before without p's.
 module _ (earlier : List ℕ) (ph : Phases) (p j q : ℕ) (lj : j < slots) (lq : q < slots) where
   abbrev new : ℕ
   new = maskOf slots (active ph)
@@ -97,7 +97,7 @@ module _ (rows : List ℕ) (writes : ℕ) (entry earlier : List ℕ) (ph : Phase
       entry-kept : (i : ℕ) → (i ≡ p → ⊥) → getD (set entry p e) i 0 ≡ getD entry i 0
       entry-kept i d = getD-set entry p e i 0 (omega (arith, full)) ∙ ap (λ u. cond u e (getD entry i 0)) (ne-eqb i p d)
 
--- ---- taken out
+-- ---- removed
 
 take-bits : (w e h t : Bool) → three (w && not t) (e && not t) (h && not t) ≡ cond t (bitsOf idle) (three w e h)
 take-bits w e h true = λ i. three (and-false w i) (and-false e i) (and-false h i)

@@ -1,5 +1,5 @@
--- The columns of phases: from the three masks, the phase of each processor; and what settling goes by, as the requests
--- of the columns. In tidy phases the bits are exactly the phases. Assumes nothing.
+-- The columns of phases: from the three masks, the phase of each processor; and the facts that settling uses, as the
+-- requests of the columns. In tidy phases the bits are exactly the phases. Assumes nothing.
 use Prim.Native.Nat.{ℕ, _<_, _^_}
 use mathlib.Core.Path.{_≡_, refl, sym, ap, _∙_}
 use mathlib.Core.Bool.{Bool, true, false, cond, _||_, true≢false, false≢true}
@@ -22,7 +22,7 @@ requestsOf f G =
       earlier = λ j i. isEarlier f j i;
     }
 
--- The phase that the bits in the masks waiting, entitled and holding say.
+-- The phase that a processor's bits in the masks waiting, entitled and holding mean.
 abbrev pub phaseBy : Bool → Bool → Bool → Phase
 phaseBy w e true = Phase.holding
 phaseBy w true false = Phase.entitled
@@ -45,7 +45,7 @@ bitsOf Phase.waiting = three true false false
 bitsOf Phase.entitled = three false true false
 bitsOf Phase.holding = three false false true
 
--- Phases processor by processor, with nothing past the last one.
+-- Phases processor by processor, with nothing past the last processor.
 pub record Tidy (ph : Phases) : Type 0 where
   pub waiting-below : ph .waiting < 2 ^ slots
   pub entitled-below : ph .entitled < 2 ^ slots
@@ -157,7 +157,7 @@ pub marks-waiting : (ph : Phases) → Tidy ph → Marks ph (ph .waiting) Phase.w
 marks-waiting ph c =
     record { into = λ i. waiting-phase ph i c; from = λ i l k. ap (λ b. b .0) (bits-in ph i c l Phase.waiting k) }
 
--- ---- the processors that pass a test go to one phase
+-- ---- the processors that pass a test move to one phase
 
 pub record Becomes (a : Phase) (test : ℕ → Bool) (ph ph′ : Phases) : Type 0 where
   pub waiting-below : ph′ .waiting < 2 ^ slots

@@ -1,5 +1,5 @@
--- The four settling steps of tidy phases as relations between their columns, processor by processor: a search that
--- finds or does not find becomes the reason for moving or staying. Each leaves the phases tidy. Assumes nothing.
+-- The four settling steps on tidy phases as relations between their columns, processor by processor: what a search
+-- finds or does not find is the reason for moving or staying. Each step leaves the phases tidy. Assumes nothing.
 use Prim.Native.Nat.{ℕ, _<_}
 use mathlib.Core.Path.{_≡_, refl, sym, ap, ap₂, _∙_}
 use mathlib.Core.Bool.{Bool, true, false, cond, not, _&&_, _||_, false≢true, or-true, or-false, and-true, and-false}
@@ -20,7 +20,7 @@ use Rattle.runs.proofs.refinement.State.{requestsOf, phaseOf, three, bi
 
 -- ---- searches among the requests that conflict with p's
 
--- The test, of a request that conflicts with p's, says P.
+-- P means that the request conflicts with p's and passes the test.
 pub record Says (f : Facts) (p : ℕ) (test : ℕ → Bool) (P : ℕ → Type 0) : Type 0 where
   pub into : (q : ℕ) → q < slots → test q ≡ true → conflicts f p q ≡ true → P q
   pub passes : (q : ℕ) → q < slots → P q → test q ≡ true
@@ -219,7 +219,7 @@ module _ (f : Facts) (G : ℕ → Bool) (ph : Phases) (c : Tidy ph) (i : ℕ) (l
           (or-left (entitledRead f ph i) _ (and-both _ _ (marks-entitled ph c .from i l k) (ap not w))))))
           (kept (step1-moves f ph c) i l e)
 
-  -- What a read waits for that step 1 leaves waiting.
+  -- What a read that step 1 leaves waiting waits for.
   pub first-leaves : isWriter f i ≡ false → phaseOf (step1 f ph) i ≡ waiting → Stopped slots R (phaseOf ph) i
   unfolding test1
   first-leaves read w = go (test1 f ph i) refl

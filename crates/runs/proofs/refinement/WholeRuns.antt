@@ -17,8 +17,8 @@ use Rattle.runs.specs.Claim.{Closed, LengthsAtMost, everyEntry, GroupRun
 use Rattle.runs.proofs.history.Whole.{whole-run}
 use Rattle.runs.proofs.refinement.Arbiter.{plan-arbiter}
 
--- A group of entries that no entry outside it conflicts with: the waits come from the group's lengths and holders
--- alone. The figures may be any that are as large.
+-- A group of entries that no entry outside it conflicts with: the waits depend only on the group's lengths and holders.
+-- The figures may also be larger.
 pub group-runs : (p : Plan) → planFault p ≡ 0 → (group : ℕ → Bool) → Closed p group → (Lr Lw : ℕ)
     → LengthsAtMost p group Lr Lw
     → {read write : ℕ} → Lr + Lw ≤ read → (p .processors - 1) * (Lr + Lw) ≤ write → (calls : List Call)

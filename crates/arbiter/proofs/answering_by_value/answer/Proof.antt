@@ -1,4 +1,4 @@
--- `answer` meets its contract: it is the call on the parts of a board. Assumes nothing.
+-- `answer` meets its contract: it makes the call on the parts of a board. Assumes nothing.
 use mathlib.Core.Path.{_∙_}
 use borrow.Author.Needs.{needs}
 use Rattle.calls_in_place.proofs.Verdicts.{call-reads}

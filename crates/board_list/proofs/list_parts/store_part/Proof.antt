@@ -1,5 +1,4 @@
--- `store_part` meets its contract: with room its stores are the part's bytes, without it nothing is stored. Assumes
--- nothing.
+-- `store_part` meets its contract: with room it stores the bytes of the part, without room nothing. Assumes nothing.
 use mathlib.Core.Path.{sym, _∙_}
 use native.Mathlib.Omega.{arith}
 use lib.ListN.{length-set}

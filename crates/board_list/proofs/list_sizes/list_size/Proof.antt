@@ -1,4 +1,4 @@
--- `list_size` meets its contract: the sizes are small, and so nothing runs over. Assumes nothing.
+-- `list_size` meets its contract: the sizes are small, so nothing overflows. Assumes nothing.
 use Prim.Native.Nat.{_≤_}
 use native.Mathlib.Omega.{arith}
 use Rattle.plans.specs.Entries.{slots}

@@ -1,4 +1,4 @@
--- `store_parts` meets its contract. The invariant: the parts of the processors passed are stored. Assumes nothing.
+-- `store_parts` meets its contract. The invariant: the parts of the processors so far are stored. Assumes nothing.
 use mathlib.Core.Path.{_≡_, refl}
 use Prim.Native.Nat.{_-_, _≤_, _<_}
 use native.Mathlib.Omega.{arith}

@@ -1,4 +1,4 @@
--- `write` meets its contract: with room the count and the parts are stored, without it nothing is. Assumes nothing.
+-- `write` meets its contract: with room it stores the count and the parts, without room nothing. Assumes nothing.
 use mathlib.Core.Path.{_∙_}
 use native.Mathlib.Omega.{arith}
 use lib.ListN.{length, length-set}

@@ -1,5 +1,5 @@
--- `bittmelon_issue_parts` meets its contract: an issue in place, told in numbers; its moment is stored where it was
--- carried out. Assumes nothing.
+-- `bittmelon_issue_parts` meets its contract: it issues in place and returns the reply in numbers; the moment is stored
+-- if the call was carried out. Assumes nothing.
 use borrow.Author.Needs.{needs}
 use Rattle.rules.specs.Calls.{issued}
 use Rattle.rules.specs.InPlace.{boardBy, stateBy}

@@ -1,5 +1,5 @@
--- `bittmelon_withdraw_parts` meets its contract: a withdrawal in place, told in numbers; its moment is stored where it
--- was carried out. Assumes nothing.
+-- `bittmelon_withdraw_parts` meets its contract: it withdraws in place and returns the reply in numbers; the moment is
+-- stored if the call was carried out. Assumes nothing.
 use borrow.Author.Needs.{needs}
 use Rattle.rules.specs.Calls.{withdrawn}
 use Rattle.rules.specs.InPlace.{boardBy, stateBy}

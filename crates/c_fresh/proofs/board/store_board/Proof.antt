@@ -1,4 +1,4 @@
--- `store_board` meets its contract: the plan's board where one was read. Assumes nothing.
+-- `store_board` meets its contract: it stores the plan's board if a plan was read. Assumes nothing.
 use borrow.Author.Needs.{needs}
 use Rattle.c_fresh.proofs.StoreOutcomes.{board-read, board-refused}
 use Rattle.c_fresh.proofs.board.store_board.Statement.{statement}

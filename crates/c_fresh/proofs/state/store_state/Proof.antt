@@ -1,4 +1,4 @@
--- `store_state` meets its contract: the fresh state where a plan was read. Assumes nothing.
+-- `store_state` meets its contract: it stores the fresh state if a plan was read. Assumes nothing.
 use mathlib.Core.Path.{refl}
 use borrow.Author.Needs.{needs}
 use Rattle.c_boards.specs.Parts.{phasesBy}

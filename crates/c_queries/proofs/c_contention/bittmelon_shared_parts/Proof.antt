@@ -1,4 +1,4 @@
--- `bittmelon_shared_parts` meets its contract: what the two share, told in numbers. Assumes nothing.
+-- `bittmelon_shared_parts` meets its contract: it returns what the two entries share, in numbers. Assumes nothing.
 use mathlib.Core.Path.{_∙_}
 use borrow.Author.Needs.{needs}
 use Rattle.c_queries.proofs.c_contention.bittmelon_shared_parts.Statement.{statement}

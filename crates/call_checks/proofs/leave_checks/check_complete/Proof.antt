@@ -1,4 +1,4 @@
--- `check_complete` meets its contract: the phase that it asks for is that of a holder. Assumes nothing.
+-- `check_complete` meets its contract: the phase that it requires is that of a holder. Assumes nothing.
 use borrow.Author.Needs.{needs}
 use Rattle.rules.specs.Faults.{completeFault}
 use Rattle.call_checks.proofs.leave_checks.check_complete.Statement.{statement}

@@ -1,4 +1,4 @@
--- `answer_in_place` meets its contract: a call is of one kind. Assumes nothing.
+-- `answer_in_place` meets its contract, one kind of call at a time. Assumes nothing.
 use mathlib.Core.Path.{sym, ap, _∙_}
 use borrow.Author.Needs.{needs}
 use Rattle.rules.specs.Calls.{answered}

@@ -1,4 +1,4 @@
--- `complete_in_place` meets its contract, put together from its parts. Assumes nothing.
+-- `complete_in_place` meets its contract, which follows from the contracts of its parts. Assumes nothing.
 use mathlib.Core.Path.{_∙_}
 use Prim.Native.Nat.{_<_}
 use borrow.Author.Needs.{needs}
@@ -7,7 +7,7 @@ use Rattle.calls_in_place.proofs.Verdicts.{complete-refused, complete-c
 use Rattle.calls_in_place.proofs.completing.complete_in_place.Statement.{statement}
 use Rattle.calls_in_place.proofs.completing.complete_in_place.Tie as tie
 
--- An accepted completion's processor is one of those that a state holds.
+-- The processor of an accepted completion has a place in a state.
 counted : (c : tie.After-enum-told) → c .before .before .before .before .before .before .args .processor < slots
 counted c = complete-counted _ _ _ _ _ _ (c .enum-told .given .1) (c .before .before .check-complete .ensures)
 

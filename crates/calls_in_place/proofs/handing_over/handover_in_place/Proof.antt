@@ -1,5 +1,6 @@
--- `handover_in_place` meets its contract, put together from its parts: the first half is the completion, and the second
--- is the issue on the state that it left, which is not refused. Assumes nothing.
+-- `handover_in_place` meets its contract, which follows from the contracts of its parts: the first half is the
+-- completion, and the second half is the issue on the state that the completion left. That issue is not refused.
+-- Assumes nothing.
 use mathlib.Core.Path.{_∙_}
 use Prim.Native.Nat.{_<_}
 use borrow.Author.Needs.{needs}
@@ -8,7 +9,7 @@ use Rattle.calls_in_place.proofs.Verdicts.{handover-refused, handover-c
 use Rattle.calls_in_place.proofs.handing_over.handover_in_place.Statement.{statement}
 use Rattle.calls_in_place.proofs.handing_over.handover_in_place.Tie as tie
 
--- An accepted handover's processor is one of those that a state holds.
+-- The processor of an accepted handover has a place in a state.
 counted : (c : tie.After-enum-told) → c .before .before .before .before .before .before .args .processor < slots
 counted c = handover-counted _ _ _ _ _ _ (c .enum-told .given .1) _ (c .before .before .check-handover .ensures)
 

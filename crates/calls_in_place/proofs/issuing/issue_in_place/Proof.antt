@@ -1,4 +1,4 @@
--- `issue_in_place` meets its contract, put together from its parts. Assumes nothing.
+-- `issue_in_place` meets its contract, which follows from the contracts of its parts. Assumes nothing.
 use mathlib.Core.Path.{_∙_}
 use borrow.Author.Needs.{needs}
 use Rattle.calls_in_place.proofs.Verdicts.{issue-refused, issue-done}

@@ -1,4 +1,4 @@
--- `withdraw_in_place` meets its contract, put together from its parts. Assumes nothing.
+-- `withdraw_in_place` meets its contract, which follows from the contracts of its parts. Assumes nothing.
 use mathlib.Core.Path.{_∙_}
 use borrow.Author.Needs.{needs}
 use Rattle.calls_in_place.proofs.Verdicts.{withdraw-refused, withdraw-done}

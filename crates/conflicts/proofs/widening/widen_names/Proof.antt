@@ -1,5 +1,5 @@
--- `widen_names` meets its contract. The loop's invariant: what is made so far is the names widened by the counted
--- entries from i on. The measure is how many are left. Assumes nothing.
+-- `widen_names` meets its contract. The loop's invariant: the result so far is the names widened by the counted entries
+-- from i on. The measure is how many are left. Assumes nothing.
 use Prim.Native.Nat.{_≤_, min}
 use native.Mathlib.Omega.{arith}
 use mathlib.Core.Path.{_≡_, sym}

@@ -1,4 +1,4 @@
--- `put_decimal` meets its contract: the digits are stored where they fit with what is behind them. Assumes nothing.
+-- `put_decimal` meets its contract: the digits are stored if they fit with the bytes after them. Assumes nothing.
 use native.Mathlib.Omega.{arith}
 use Prim.Native.Nat.{_+_}
 use mathlib.Core.Path.{refl, ap}

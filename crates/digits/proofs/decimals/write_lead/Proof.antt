@@ -1,4 +1,4 @@
--- `write_lead` meets its contract: a number below 100 is its last two digits, or one. Assumes nothing.
+-- `write_lead` meets its contract: a number below 100 has two digits, or one. Assumes nothing.
 use native.Mathlib.Omega.{arith}
 use mathlib.Core.Path.{refl}
 use Rattle.digits.proofs.DecimalDigits.{decimal-one, decimal-two, length-one, length-two}

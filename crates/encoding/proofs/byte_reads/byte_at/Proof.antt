@@ -1,4 +1,4 @@
--- `byte_at` meets its contract: past the end the list has its default, 0. Assumes nothing.
+-- `byte_at` meets its contract: past the end the list gives its default, 0. Assumes nothing.
 use mathlib.Core.Path.{sym}
 use borrow.Author.Needs.{needs}
 use lib.ListN.{List·getD-eq-default}

@@ -1,4 +1,4 @@
--- `read_number` gives the number of the first eight bytes. The invariant: the sum is the number of the last `done` of
+-- `read_number` returns the number in the first eight bytes. The invariant: the sum is the number in the last `done` of
 -- them. The measure is how many are left. Assumes nothing.
 use Prim.Native.Nat.{_-_}
 use native.Mathlib.Omega.{arith}

@@ -1,4 +1,4 @@
--- `store_number` meets its contract. The invariant: storing what is left of the number from here on gives the whole.
+-- `store_number` meets its contract. The invariant: storing the rest of the number from here on gives the whole.
 -- Assumes nothing.
 use Prim.Native.Nat.{_+_, _-_, _≤_}
 use mathlib.Core.Path.{_≡_, refl, sym, _∙_}

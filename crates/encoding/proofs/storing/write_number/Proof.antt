@@ -1,4 +1,4 @@
--- `write_number` meets its contract: with room the bytes are stored, without it nothing is. Assumes nothing.
+-- `write_number` meets its contract: with room it stores the bytes, without room nothing. Assumes nothing.
 use mathlib.Core.Path.{sym, _∙_}
 use borrow.Author.Needs.{needs}
 use Rattle.encoding.specs.Numbers.{bytesOf}

@@ -1,4 +1,4 @@
--- `put_lead` meets its contract: the tick is stored where all of the line has room, and then the rest of the lead.
+-- `put_lead` meets its contract: the tick is stored if the whole line has room, and then the rest of the lead.
 -- Assumes nothing.
 use Prim.Native.Nat.{ℕ, _+_}
 use native.Mathlib.Omega.{arith}

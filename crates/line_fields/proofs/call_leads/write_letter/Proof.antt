@@ -1,4 +1,4 @@
--- `write_letter` meets its contract: a letter between spaces, the processor. Assumes nothing.
+-- `write_letter` meets its contract: a letter between spaces, then the processor. Assumes nothing.
 use Prim.Native.Nat.{ℕ, suc, _+_, _≤_}
 use native.Mathlib.Omega.{arith}
 use mathlib.Core.Path.{_≡_, refl}

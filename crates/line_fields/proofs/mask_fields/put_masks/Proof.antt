@@ -1,4 +1,4 @@
--- `put_masks` meets its contract: both masks are stored where they fit. Assumes nothing.
+-- `put_masks` meets its contract: both masks are stored if they fit. Assumes nothing.
 use native.Mathlib.Omega.{arith}
 use Prim.Native.Nat.{ℕ, _+_, _*_}
 use mathlib.Core.Path.{_≡_}

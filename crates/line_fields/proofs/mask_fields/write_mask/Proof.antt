@@ -1,4 +1,4 @@
--- `write_mask` meets its contract: two bytes, or four where the plan's masks have not two. Assumes nothing.
+-- `write_mask` meets its contract: two bytes, or four if the plan's masks do not have two. Assumes nothing.
 use native.Mathlib.Omega.{arith}
 use mathlib.Core.Path.{_≡_}
 use lib.ListN.{length-set}

@@ -1,4 +1,5 @@
--- `put_field` meets its contract: the number is stored where all fits, and then the word before it. Assumes nothing.
+-- `put_field` meets its contract: the number is stored if everything fits, and then the word before it.
+-- Assumes nothing.
 use native.Mathlib.Omega.{arith}
 use mathlib.Core.Path.{sym, _∙_}
 use Rattle.digits.specs.Digits.{decimal}

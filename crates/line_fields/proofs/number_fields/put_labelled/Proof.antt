@@ -1,4 +1,4 @@
--- `put_labelled` meets its contract: nothing has to fit behind the field. Assumes nothing.
+-- `put_labelled` meets its contract: nothing has to fit after the field. Assumes nothing.
 use Rattle.line_fields.specs.NumberFields.{labelled}
 use Rattle.line_fields.proofs.number_fields.Words.{alone}
 use borrow.Author.Needs.{needs}

@@ -1,4 +1,5 @@
--- `put_last` meets its contract: the field is stored where the line feed fits too, and then that. Assumes nothing.
+-- `put_last` meets its contract: the field is stored if the line feed fits too, and then the line feed.
+-- Assumes nothing.
 use Prim.Native.Nat.{ℕ, _≤_}
 use native.Mathlib.Omega.{arith}
 use mathlib.Core.Path.{refl}

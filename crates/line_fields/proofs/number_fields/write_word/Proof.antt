@@ -1,4 +1,4 @@
--- `write_word` meets its contract. The invariant: storing what is left of the word from here on gives the whole.
+-- `write_word` meets its contract. The invariant: storing the rest of the word from here on gives the whole.
 -- Assumes nothing.
 use Prim.Native.Nat.{_+_, _-_, _≤_}
 use native.Mathlib.Numerals.{unary-clauses}

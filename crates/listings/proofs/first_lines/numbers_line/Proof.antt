@@ -1,4 +1,4 @@
--- `numbers_line` meets its contract: the line is stored where it fits. Assumes nothing.
+-- `numbers_line` meets its contract: the line is stored if it fits. Assumes nothing.
 use native.Mathlib.Omega.{arith}
 use mathlib.Core.Path.{refl}
 use Rattle.listings.specs.PlainLines.{numbersLine}

@@ -1,4 +1,4 @@
--- `fronts::between` meets its contract. Assumes nothing.
+-- `front_bytes::between` meets its contract. Assumes nothing.
 use mathlib.Core.Logic.{⊎-elim}
 use native.Mathlib.Omega.{arith}
 use borrow.Author.Needs.{needs}

@@ -1,4 +1,4 @@
--- `fronts::bring_to_front` meets its contract. The invariant: the first i bytes are moved. Assumes nothing.
+-- `front_bytes::bring_to_front` meets its contract. The invariant: the first i bytes are moved. Assumes nothing.
 use Prim.Native.Nat.{_≤_, _<_, _-_, min}
 use mathlib.Core.Path.{_≡_, refl}
 use native.Mathlib.Omega.{arith}

@@ -1,4 +1,4 @@
--- `fronts::copy_in` meets its contract. The invariant: the first i bytes are copied. Assumes nothing.
+-- `front_bytes::copy_in` meets its contract. The invariant: the first i bytes are copied. Assumes nothing.
 use Prim.Native.Nat.{_≤_, _-_, min}
 use mathlib.Core.Path.{_≡_, refl}
 use mathlib.Core.Logic.{⊎-elim}

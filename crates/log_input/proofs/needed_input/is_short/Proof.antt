@@ -1,4 +1,4 @@
--- `needed_input::is_short` meets its contract: what is read is refused by 1. Assumes nothing.
+-- `needed_input::is_short` meets its contract: the bytes so far are refused with 1. Assumes nothing.
 use mathlib.Core.Path.{ap, _∙_}
 use lib.Dec.{eqb}
 use Rattle.refusals.specs.Due.{Said}

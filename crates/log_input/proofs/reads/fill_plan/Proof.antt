@@ -1,4 +1,4 @@
--- `log_input::fill_plan` lends parts that are there, and ends: each read but the last brings a byte. Assumes nothing.
+-- `reads::fill_plan` lends only parts that exist, and it ends: each read but the last adds a byte. Assumes nothing.
 use Prim.Native.Nat.{_≤_, _-_}
 use mathlib.Core.Path.{_≡_, refl, sym, _∙_}
 use native.Mathlib.Omega.{arith}

@@ -1,4 +1,4 @@
--- `log_input::fill_to` meets its contract, and ends: each read but the last brings a byte. Assumes nothing.
+-- `reads::fill_to` meets its contract, and it ends: each read but the last adds a byte. Assumes nothing.
 use Prim.Native.Nat.{_≤_, _-_, min}
 use mathlib.Core.Path.{_≡_, refl, _∙_}
 use native.Mathlib.Omega.{arith}

@@ -1,4 +1,4 @@
--- `log_input::read_behind` meets its contract: only what stands behind the first bytes was lent. Assumes nothing.
+-- `reads::read_behind` meets its contract: only the bytes after the first ones were lent. Assumes nothing.
 use Prim.Native.Nat.{_-_}
 use lib.ListN.{length}
 use borrow.Author.Needs.{needs}

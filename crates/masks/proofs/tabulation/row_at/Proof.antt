@@ -1,4 +1,4 @@
--- `row_at` meets its contract: past the rows the list has its default, 0. Assumes nothing.
+-- `row_at` meets its contract: past the last row the list gives its default, 0. Assumes nothing.
 use mathlib.Core.Path.{sym}
 use lib.ListN.{List·getD-eq-default}
 use borrow.Author.Needs.{needs}

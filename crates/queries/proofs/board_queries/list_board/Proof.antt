@@ -1,4 +1,4 @@
--- `list_board` meets its contract: it hands the parts over. Assumes nothing.
+-- `list_board` meets its contract: it passes the parts on. Assumes nothing.
 use Rattle.queries.specs.Queries.{stateNumber, waitsFor}
 use Rattle.queries.specs.WholeBoard.{boardPart}
 use borrow.Author.Needs.{needs}

@@ -1,5 +1,5 @@
--- `list_board_in_place` meets its contract: the list of the phases that count and the direct waits of all. Assumes
--- nothing.
+-- `list_board_in_place` meets its contract: it makes the list from the phases that count and the direct waits of all
+-- processors. Assumes nothing.
 use mathlib.Core.Path.{_∙_}
 use mathlib.Core.List.{[]}
 use Rattle.rules.specs.InPlace.{boardBy, stateBy}

@@ -12,7 +12,7 @@ use Rattle.queries.specs.Contention.{sharedIn}
 use Rattle.queries.proofs.contention.conflict_in.Statement.{statement}
 use Rattle.queries.proofs.contention.conflict_in.Tie as tie
 
--- What is said of looked-up kinds and sets is said of the entries.
+-- What holds for the kinds and sets that were looked up holds for the entries.
 looked-up : (writes : ℕ) (names widened : List ℕ) (i j : ℕ) {o : Over} {w w′ : Bool} {n n′ d d′ : ℕ} → w ≡ bit writes i → w′ ≡ bit writes j
     → n ≡ getD names i 0 → n′ ≡ getD names j 0 → d ≡ getD widened i 0 → d′ ≡ getD widened j 0
     → o ≡ over (sharedBy (w && w′) (not w && not w′) (bitAnd n n′) (bitAnd d d′)) → o ≡ over (sharedIn writes names widened i j)

@@ -1,4 +1,4 @@
--- `shared_on` meets its contract: each entry is looked at, then the conflict is theirs. Assumes nothing.
+-- `shared_on` meets its contract: it checks each entry, and then the conflict is that of the two. Assumes nothing.
 use borrow.Author.Needs.{needs}
 use borrow.Author.Tests.{lt-ltb, le-ltb}
 use Rattle.queries.specs.Contention.{sharedOf}

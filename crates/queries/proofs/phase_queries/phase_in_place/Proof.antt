@@ -1,4 +1,4 @@
--- `phase_in_place` meets its contract: of a counted processor the masks have the phase. Assumes nothing.
+-- `phase_in_place` meets its contract: the masks contain the phase of a processor that counts. Assumes nothing.
 use Rattle.queries.specs.Queries.{stateNumber}
 use Rattle.queries.proofs.Answers.{accepted-says, refused-says}
 use borrow.Author.Needs.{needs}

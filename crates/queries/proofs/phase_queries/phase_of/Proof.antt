@@ -1,4 +1,4 @@
--- `phase_of` meets its contract: it hands the parts over. Assumes nothing.
+-- `phase_of` meets its contract: it passes the parts on. Assumes nothing.
 use Rattle.queries.specs.Queries.{stateNumber}
 use borrow.Author.Needs.{needs}
 use Rattle.queries.proofs.phase_queries.phase_of.Statement.{statement}

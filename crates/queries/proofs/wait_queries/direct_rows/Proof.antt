@@ -1,4 +1,4 @@
--- `direct_rows` meets its contract: the direct waits by the phases that count. Assumes nothing.
+-- `direct_rows` meets its contract: it uses the phases that count. Assumes nothing.
 use Rattle.queries.specs.Parts.{boardWith, stateWith}
 use Rattle.queries.proofs.Answers.{rows-counted}
 use borrow.Author.Needs.{needs}

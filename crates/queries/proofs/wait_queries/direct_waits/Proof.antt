@@ -1,4 +1,4 @@
--- `direct_waits` meets its contract: it hands the parts over. Assumes nothing.
+-- `direct_waits` meets its contract: it passes the parts on. Assumes nothing.
 use Rattle.queries.specs.Queries.{waitsFor}
 use borrow.Author.Needs.{needs}
 use Rattle.queries.proofs.wait_queries.direct_waits.Statement.{statement}

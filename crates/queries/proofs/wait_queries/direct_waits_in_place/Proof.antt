@@ -1,4 +1,4 @@
--- `direct_waits_in_place` meets its contract: the direct waits by the phases that count. Assumes nothing.
+-- `direct_waits_in_place` meets its contract: it uses the phases that count. Assumes nothing.
 use mathlib.Core.Path.{sym, ap, _∙_}
 use Rattle.refusals.specs.Number.{verdictNumber}
 use Rattle.queries.specs.Parts.{boardWith, stateWith}

@@ -1,4 +1,4 @@
--- `put_list` does not run over: no list is longer than that of all places with masks of four bytes. Assumes nothing.
+-- `put_list` does not overflow: no list is longer than that of all places with masks of four bytes. Assumes nothing.
 use Prim.Native.Nat.{_≤_}
 use native.Mathlib.Omega.{arith}
 use Rattle.plans.specs.Entries.{slots, maskSizeFor}

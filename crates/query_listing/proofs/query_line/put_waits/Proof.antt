@@ -1,4 +1,4 @@
--- `put_waits` does not run over: a mask has at most four bytes. Assumes nothing.
+-- `put_waits` does not overflow: a mask has at most four bytes. Assumes nothing.
 use native.Mathlib.Omega.{arith}
 use Rattle.board_list.proofs.Sizes.{mask-size-small}
 use borrow.Author.Needs.{needs}

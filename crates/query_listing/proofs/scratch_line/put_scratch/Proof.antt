@@ -1,4 +1,4 @@
--- `put_scratch` does not run over: no scratch needs more than 128 bytes. Assumes nothing.
+-- `put_scratch` does not overflow: no scratch needs more than 128 bytes. Assumes nothing.
 use native.Mathlib.Omega.{arith}
 use Rattle.plans.specs.Entries.{maskSizeFor}
 use Rattle.board_list.proofs.Sizes.{mask-size-small}

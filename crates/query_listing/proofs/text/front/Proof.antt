@@ -1,4 +1,4 @@
--- `front` lends a part of the bytes that is there. Assumes nothing.
+-- `front` lends only a part that is in the bytes. Assumes nothing.
 use mathlib.Core.Path.{sym}
 use mathlib.Core.Logic.{⊎-elim}
 use native.Mathlib.Omega.{arith}

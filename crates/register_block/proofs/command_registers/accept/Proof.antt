@@ -1,4 +1,4 @@
--- `accept` meets its contract: the masks one after the other, and the line. Assumes nothing.
+-- `accept` meets its contract: it stores the masks one after the other, and the interrupt line. Assumes nothing.
 use native.Mathlib.Omega.{arith}
 use borrow.Author.Needs.{needs}
 use Rattle.register_block.proofs.command_registers.Blocks.{accepted-put}

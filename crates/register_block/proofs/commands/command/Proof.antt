@@ -1,4 +1,5 @@
--- `command` meets its contract: none, one that is refused by 18, or one that the arbiter answers. Assumes nothing.
+-- `command` meets its contract: command 0, one that is refused with 18, or one that the arbiter answers. Assumes
+-- nothing.
 use borrow.Author.Needs.{needs}
 use Rattle.register_block.proofs.commands.Blocks.{command-none, command-above, command-answered}
 use Rattle.register_block.proofs.commands.command.Statement.{statement}

@@ -1,6 +1,6 @@
--- `read_lent` meets its contract: a walk of its MIR, by hand. A lifetime is made, and half of the local block is lent
--- for it to `read_register`; then the lifetime is ended, and the halves are the whole block again. All that the proof
--- knows of `read_register` is that it meets its contract. Assumes nothing.
+-- `read_lent` meets its contract: its MIR is walked by hand. A lifetime is made, and half of the local block is lent
+-- for it to `read_register`; then the lifetime is ended, and the halves are the whole block again. The proof uses only
+-- the contract of `read_register`. Assumes nothing.
 use mathlib.Core.Path.{_≡_, refl}
 use Prim.Native.Nat.{ℕ, _<_, _^_}
 use mathlib.Core.List.{[], _∷_, List}
@@ -95,7 +95,7 @@ module _ {M : Type 1} (𝓤 : URA M) (H : Heap 𝓤) (A : Atoms 𝓤) (W : Given
   goes-read : (l : ℕ) (γ : GName) (ν : ℕ) → ent 𝓤 (sep 𝓤 (mean 𝓤 H A (‵ (flft (ν ∷ []) fullShare) ⊛ ‵ ftrue)) (sem 𝓤 H A (owns (ShrRef (named 0) (ν ∷ []) B.the-row ∷ u8 ∷ []) (lent l γ, (n, tt)) (vptr l 0 ∷ [], (vint w8 n ∷ [], tt))))) (Read 𝓤 H A mem run .pre (to-read l γ ν))
   goes-read l γ ν = qed W ((‵ (flft (ν ∷ []) fullShare) ⊛ ‵ ftrue) ∷ ‵ (owns (ShrRef (named 0) (ν ∷ []) B.the-row ∷ u8 ∷ []) (lent l γ, (n, tt)) (vptr l 0 ∷ [], (vint w8 n ∷ [], tt))) ∷ []) ∵ join ! $ frame ! $ done !
 
-  -- of `read_register`'s `ensured`, the clause alone: it has no `&mut`, so what is said of last values is dropped
+  -- only the clause of `read_register`'s `ensured`: there is no `&mut`, so the part about last values is dropped
   said-of : (l : ℕ) (γ : GName) (ν : ℕ) (r : ReadAnswer) → ent 𝓤 (ensured 𝓤 H A read.ended (read.clauses 𝓤 H A mem run) (ν ∷ [], tt) (lent l γ, (n, tt)) tt r) (fact 𝓤 (Said r))
   said-of l γ ν r = exE 𝓤 _ (λ ws. snd∗ 𝓤 (sem 𝓤 H A (lasts read.ended (ν ∷ [], tt) (lent l γ, (n, tt)) ws)) (fact 𝓤 (Said r)))
 

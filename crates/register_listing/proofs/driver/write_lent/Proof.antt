@@ -1,7 +1,7 @@
--- `write_lent` meets its contract: a walk of its MIR, by hand. A lifetime is made, and the local block is lent for it
--- to `write_register`; then the lifetime is ended, and the block comes back at what `write_register` left there. Rows
--- and lengths are lent on: what a `&` owns is had twice, one for the call and one for the exit. All that the proof
--- knows of `write_register` is that it meets its contract. Assumes nothing.
+-- `write_lent` meets its contract: its MIR is walked by hand. A lifetime is made, and the local block is lent for it to
+-- `write_register`; then the lifetime is ended, and the block comes back as `write_register` left it. Rows and lengths
+-- are lent on: what a `&` owns is available twice, once for the call and once for the exit. The proof uses only the
+-- contract of `write_register`. Assumes nothing.
 use mathlib.Core.Path.{_≡_, refl, ap, subst}
 use Prim.Native.Nat.{ℕ, _<_, _^_}
 use mathlib.Core.List.{[], _∷_, List}
@@ -120,7 +120,7 @@ module _ {M : Type 1} (𝓤 : URA M) (H : Heap 𝓤) (A : Atoms 𝓤) (W : Given
   abbrev at : List Val × (List Val × (List Val × (List Val × (List Val × (List Val × (List Val × Unit {0}))))))
   at = (terms-val ∷ [], (ptr-vals rows, (ptr-vals lengths, (state-val ∷ [], (block-val h ∷ [], (vint w8 n ∷ [], (vint w8 v ∷ [], tt)))))))
 
-  -- what `write_register` is passed: the local block, lent for the lifetime ν under the name γ, and the rest
+  -- the arguments of `write_register`: the local block, lent for the lifetime ν under the name γ, and the rest
   abbrev passed : ℕ → GName → RefT Block × (Terms × (RefT (List ℕ) × (RefT (List ℕ) × (State × (ℕ × (ℕ × Unit {0}))))))
   passed l γ = (record { ptr = (l, 0); name = γ; now = h }, (terms, (rows, (lengths, (state, (n, (v, tt)))))))
 
@@ -156,7 +156,7 @@ module _ {M : Type 1} (𝓤 : URA M) (H : Heap 𝓤) (A : Atoms 𝓤) (W : Given
     made : (r : Written) (b : Block) → Is R.the-row r (written-val r ∷ []) → Is B.the-row b (block-val b ∷ []) → Is D.the-row (change r b) (change-val r b ∷ [])
     made r b r-is b-is = LL.owes D.the-type D′.the-laws (change r b) (b-is, (r-is, tt))
 
-    -- an answer is at the machine value that its laws spell
+    -- an answer has the machine value that its laws give
     written-is : (r : Written) (u : Val) → Is R.the-row r (u ∷ []) → Is R.the-row r (written-val r ∷ [])
     written-is r u is = subst (Is R.the-row r) (LL.tells R.the-type R′.the-laws r _ is) is
 
@@ -184,8 +184,8 @@ module _ {M : Type 1} (𝓤 : URA M) (H : Heap 𝓤) (A : Atoms 𝓤) (W : Given
           pass1 ! (init ! 10 refl (tt, record { fits = n-fits })) $ pass1 ! (init ! 8 refl (tt, record { fits = v-fits })) $ pass0 ! $
           assigns ! (of-opd ! (load ! (from ! (stop !)) (look ! 12 refl))) (from ! (stop !)) (init ! 6 refl (LL.lawful B.the-type B′.the-laws 𝓤 H A W .typed h _ h-is .0)) $
           assigns ! (addr ! (from ! (stop !))) (from ! (stop !)) (init ! 2 refl (tt, tt)) $
-          -- of what the parameters own the two references are kept, each twice; the plain values are made again where
-          -- they are asked for
+          -- of what the parameters own, the two references are kept, each twice; the plain values are made again where
+          -- they are needed
           move ! (25 ∷ []) $ fsplit ! $ drop ! $ fsplit ! $ move ! (1 ∷ []) $ fsplit ! $ move ! (1 ∷ []) $ drop ! $ move ! (1 ∷ []) $
           use1 W (‵ (Rows .own rows (ptr-vals rows)) ⊛ ‵ (Rows .own rows (ptr-vals rows))) (shr-copy 𝓤 H A W (named 0) κ₁ (Array u64 64) .twice rows (ptr-vals rows)) $ split ! $ move ! (2 ∷ []) $
           use1 W (‵ (Lengths .own lengths (ptr-vals lengths)) ⊛ ‵ (Lengths .own lengths (ptr-vals lengths))) (shr-copy 𝓤 H A W (named 1) κ₂ (Array u16 64) .twice lengths (ptr-vals lengths)) $ split ! $
@@ -194,19 +194,19 @@ module _ {M : Type 1} (𝓤 : URA M) (H : Heap 𝓤) (A : Atoms 𝓤) (W : Given
           move ! (10 ∷ []) $ use1 W (‵ (partAt B.the-row fullShare h l₈ 0)) (block-in 𝓤 H A W h h-is l₈) $ lft-new ! tt (λ ν. move ! (1 ∷ []) $
           use1 W (later (some (λ (γ : GName). ‵ (MutRef (named 0) (ν ∷ []) B.the-row .own (passed l₈ γ .0) (vptr l₈ 0 ∷ [])) ⊛ ‵ (flent (ν ∷ []) (Body (mem B.the-row) l₈ 0 γ)))))
           (lends-ref 𝓤 H A W B.the-row (named 0) (ν ∷ []) h l₈ 0) $ await ! tt $ pick ! (λ γ. split ! $
-          -- [the reference; `lent`; its token; lengths; lengths; rows; rows; …]: what `write_register` asks, from its
-          -- last parameter to its first
+          -- [the reference; `lent`; its token; lengths; lengths; rows; rows; …]: what `write_register` asks for, from
+          -- its last parameter to its first
           nothing ! $ owned ! u8 (Is u8) (uint-makes 𝓤 H A W w8) v _ (refl, v-fits) $ fjoin ! $ owned ! u8 (Is u8) (uint-makes 𝓤 H A W w8) n _ (refl, n-fits) $ fjoin ! $
           owned ! ST.the-row (Is ST.the-row) (LL.makes ST.the-type ST′.the-plain 𝓤 H A) state _ state-is $ fjoin ! $ move ! (4 ∷ 0 ∷ []) $ fjoin ! $ move ! (5 ∷ 0 ∷ []) $ fjoin ! $
           owned ! TT.the-row (Is TT.the-row) (LL.makes TT.the-type TT′.the-plain 𝓤 H A) terms _ terms-is $ fjoin ! $ move ! (1 ∷ 0 ∷ []) $ fjoin ! $
           move ! (2 ∷ 28 ∷ []) $ join ! $ use2 W (raw (Write 𝓤 H A at-mem run .pre (to-write l₈ γ ν))) (goes-write l₈ γ ν) $
-          -- [what is asked; `lent`; lengths; rows; room for _11; …; _10; …; room for _9; …; of _8 what frees it; _7; …;
-          -- _6; …; _5; …; _4; …; _3; …; _2; …; _1; …; room for _0; …]
+          -- [what is asked for; `lent`; lengths; rows; room for _11; …; _10; …; room for _9; …; of _8 what frees it;
+          -- _7; …; _6; …; _5; …; _4; …; _3; …; _2; …; _1; …; room for _0; …]
           calls-at ! fm (Write 𝓤 H A at-mem run) known (to-write l₈ γ ν)
           (and-then ! (load ! (from ! (stop !)) (look ! 6 refl)) (and-then ! (load ! (from ! (stop !)) (look ! 23 refl)) (and-then ! (load ! (from ! (stop !)) (look ! 21 refl)) (and-then ! (load ! (from ! (stop !)) (look ! 19 refl))
           (and-then ! (load ! (from ! (stop !)) (look ! 17 refl)) (and-then ! (load ! (from ! (stop !)) (look ! 13 refl)) (and-then ! (load ! (from ! (stop !)) (look ! 11 refl)) (no-more !)))))))) (λ u.
           use1 W (later (some (λ (r : Written). ((‵ (flft (ν ∷ []) fullShare) ⊛ Tokens) ⊛ ‵ (R.the-row .own r (u ∷ []))) ⊛ raw (ensured 𝓤 H A write.ended (write.clauses 𝓤 H A at-mem run) (ν ∷ [], (κ₁, (κ₂, tt))) (passed l₈ γ) tt r)))) (id⊢ 𝓤 _) $ await ! tt $ pick ! (λ r.
-          -- what `write_register` ensures, at some last block
+          -- what `write_register` ensures, for some last block
           split ! $ move ! (1 ∷ []) $ use1 W (some (λ (ws : Block × (Unit {0} × (Unit {0} × (Unit {0} × (Unit {0} × (Unit {0} × (Unit {0} × Unit {0}))))))). ‵ (lasts write.ended (ν ∷ [], (κ₁, (κ₂, tt))) (passed l₈ γ) ws) ⊛ raw (fact 𝓤 (Said r (ws .0))))) (id⊢ 𝓤 _) $ pick ! (λ ws.
           split ! $ move ! (1 ∷ []) $ heard ! (Said r (ws .0)) (λ e. fsplit ! $ move ! (2 ∷ []) $ split ! $ move ! (1 ∷ []) $
           -- [the answer; the tokens; the last value; …; `lent`; lengths; rows; room for _11; …; _10; …; room for _9; …;

@@ -1,4 +1,4 @@
--- `print` writes a part of the line that is there. Assumes nothing.
+-- `print` writes only a part that is in the line. Assumes nothing.
 use mathlib.Core.Path.{sym}
 use native.Mathlib.Omega.{arith}
 use lib.ListN.{length-map}

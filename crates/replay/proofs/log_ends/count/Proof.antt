@@ -1,4 +1,4 @@
--- `log_ends::count` meets its contract, the line is that of the count's refusal. Assumes nothing.
+-- `log_ends::count` meets its contract: the line is that of the count's refusal. Assumes nothing.
 use mathlib.Core.Path.{ap, _∙_}
 use Rattle.refusals.specs.Due.{Said}
 use borrow.Author.Needs.{needs}

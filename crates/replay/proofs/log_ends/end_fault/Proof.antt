@@ -1,4 +1,4 @@
--- `log_ends::end_fault` meets its contract: the tail where no call is left, and else the record. Assumes nothing.
+-- `log_ends::end_fault` meets its contract: the tail if no call is left, otherwise the record. Assumes nothing.
 use borrow.Author.Tests.{eq-eqb, ne-eqb}
 use mathlib.Core.Path.{sym}
 use Rattle.logs.proofs.Answers.{record-is, record-refused}

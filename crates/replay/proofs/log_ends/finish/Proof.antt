@@ -1,4 +1,4 @@
--- `log_ends::finish` meets its contract: the line of the fault at the end. Assumes nothing.
+-- `log_ends::finish` meets its contract: it writes the line of the fault at the end. Assumes nothing.
 use borrow.Author.Needs.{needs}
 use Rattle.replay.proofs.log_ends.finish.Statement.{statement}
 use Rattle.replay.proofs.log_ends.finish.Tie as tie

@@ -1,4 +1,4 @@
--- `log_openings::begin` meets its contract, the plan and its outcome are those that were read. Assumes nothing.
+-- `log_openings::begin` meets its contract: the plan and its outcome are those that were read. Assumes nothing.
 use mathlib.Core.Path.{ap, _∙_}
 use Rattle.refusals.specs.Due.{Said}
 use Rattle.boards.specs.Fresh.{freshBoard}
