@@ -61,7 +61,8 @@ pub fn take_out(phases: Phases, processor: u8) -> Phases
     }
 }
 
-// The phases of the requests that are left, settled. Where nobody waits or is entitled there is nothing to settle.
+// The phases of the requests that are left, settled. Where nobody waits or is entitled there is nothing to settle: a
+// request that is put in always waits, so this test stands here alone.
 pub fn settle_left(
     rows: &[u64; ENTRIES],
     writes: u64,

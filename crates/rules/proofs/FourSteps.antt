@@ -12,21 +12,13 @@ use Rattle.masks.proofs.Tests.{Mask, bit-is, agree-is, places-is, and-is, or-is
 use Rattle.plans.specs.Entries.{slots}
 use Rattle.rules.specs.Requests.{Facts, active, isWriter, conflicts, against, isEarlier, waitingRead, waitingWrite, unsatisfiedWrite, entitledRead, entitledWrite, holdingWrite}
 use Rattle.rules.specs.Settling.{hold, entitle, test1, step1, test2, step2, test3, step3, test4, step4, settled}
-use Rattle.rules.specs.inner.Moves.{Follows}
+use Rattle.rules.specs.inner.Moves.{Follows, unopposedIn, firstInLine}
 use Rattle.rules.specs.declared.settling.Phases.{Phases}
 use Rattle.rules.proofs.Active.{unsatisfied-active, waiting-active, entitled-active, holding-active, within-and, within-not, active-held, active-entitled}
 
 -- A mask of processors fits the code's word.
 pub fit : slots ≤ 32
 fit = omega arith
-
--- The candidates whose requests conflict with that of none of the others, and with that of no earlier one of them.
-abbrev pub unopposedIn : Facts → ℕ → ℕ → ℕ
-unopposedIn f candidates others = maskOf slots (λ p. bit candidates p && not (against f p (bit others)))
-
-abbrev pub firstInLine : Facts → ℕ → ℕ → ℕ
-firstInLine f candidates others =
-    maskOf slots (λ p. bit candidates p && not (against f p (λ q. isEarlier f q p && bit others q)))
 
 -- Processor p is active and its request is a write.
 abbrev pub activeWrite : Facts → Phases → ℕ → Bool

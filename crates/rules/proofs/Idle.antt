@@ -14,9 +14,9 @@ use Rattle.masks.proofs.Tests.{Mask, agree-is, same-is, own-is, places-is, none
 use Rattle.plans.specs.Entries.{slots}
 use Rattle.rules.specs.Requests.{Facts, isWriter, isEarlier, conflicts, against}
 use Rattle.rules.specs.Settling.{settled}
-use Rattle.rules.specs.inner.Moves.{Follows}
+use Rattle.rules.specs.inner.Moves.{Follows, unopposedIn, firstInLine}
 use Rattle.rules.specs.declared.settling.Phases.{Phases}
-use Rattle.rules.proofs.FourSteps.{fit, unopposedIn, firstInLine, At, at-first, after1, after2, after3, after4, at-last}
+use Rattle.rules.proofs.FourSteps.{fit, At, at-first, after1, after2, after3, after4, at-last}
 use Rattle.rules.proofs.Quiet.{none-unopposed, none-first}
 
 abbrev aloneWaiting : ℕ → Phases

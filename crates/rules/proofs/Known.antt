@@ -19,14 +19,10 @@ use Rattle.masks.proofs.Masks.{mask-below, mask-agree, bit-mask}
 use Rattle.masks.proofs.Tests.{Mask, bit-is, agree-is, same-is, and-is, or-is, without-is}
 use Rattle.plans.specs.Entries.{slots, mostEntries}
 use Rattle.rules.specs.Requests.{Facts, entryOf, isWriter, conflicts, against}
-use Rattle.rules.specs.inner.Moves.{Table, knownIn}
-use Rattle.rules.proofs.FourSteps.{fit, unopposedIn}
+use Rattle.rules.specs.inner.Moves.{Table, Known, knownIn, unopposedIn}
+use Rattle.rules.proofs.FourSteps.{fit}
 
 -- ---- masks of such processors alone
-
-pub record Known (entry : List ℕ) (among : ℕ) : Type 0 where
-  pub within : among < 2 ^ slots
-  pub entries : (p : ℕ) → bit among p ≡ true → getD entry p 0 < mostEntries
 
 module _ {entry : List ℕ} where
   pub known-kept : {a b : ℕ} (P : ℕ → Bool) → Known entry a → b ≡ maskOf slots (λ p. bit a p && P p) → Known entry b

@@ -8,9 +8,9 @@ use Rattle.masks.proofs.Tests.{cut-is, neither}
 use Rattle.plans.specs.Entries.{slots}
 use Rattle.rules.specs.Requests.{Facts}
 use Rattle.rules.specs.Settling.{settled}
-use Rattle.rules.specs.inner.Moves.{Follows}
+use Rattle.rules.specs.inner.Moves.{Follows, unopposedIn, firstInLine}
 use Rattle.rules.specs.declared.settling.Phases.{Phases}
-use Rattle.rules.proofs.FourSteps.{unopposedIn, firstInLine, At, at-first, after1, after2, after3, after4, at-last}
+use Rattle.rules.proofs.FourSteps.{At, at-first, after1, after2, after3, after4, at-last}
 
 -- The places of any phases, cut to the processors.
 pub cut-follows : (ph : Phases)

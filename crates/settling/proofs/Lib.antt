@@ -1,2 +1,1 @@
 pub mod Processors
-pub mod Lookups

@@ -1,8 +1,13 @@
--- A word is a mask of processors: the walk through it, and that a processor's entry has a row. Assumes nothing.
-use Prim.Native.Nat.{ℕ, _%_, _^_, _<_, _≤_}
+-- A word is a mask of processors: the walk through it, and the entry of the lowest one, if all are known. Assumes
+-- nothing.
+use Prim.Native.Nat.{ℕ, _^_, _<_, _≤_}
+use mathlib.Core.List.{List}
 use native.Mathlib.Omega.{arith}
-use Rattle.masks.proofs.Walks.{Left}
+use lib.Count.{trailingZeros}
+use lib.ListN.{getD}
+use Rattle.masks.proofs.Walks.{Left, lowest-bit, lowest-place}
 use Rattle.plans.specs.Entries.{slots, mostEntries}
+use Rattle.rules.specs.inner.Moves.{Known}
 
 fit : slots ≤ 32
 fit = omega arith
@@ -10,5 +15,9 @@ fit = omega arith
 pub walk-of : {among : ℕ} → among < 2 ^ slots → Left slots 32 among
 walk-of h = record { fit = fit; rest = h }
 
-pub has-row : (e : ℕ) → e % mostEntries < mostEntries
-has-row e = omega arith
+module _ {entry : List ℕ} {left : ℕ} (known : Known entry left) (some-left : 0 < left) where
+  pub lowest-known : trailingZeros 32 left < slots
+  lowest-known = lowest-place (walk-of (known .within)) some-left
+
+  pub lowest-entry : getD entry (trailingZeros 32 left) 0 < mostEntries
+  lowest-entry = known .entries (trailingZeros 32 left) (lowest-bit (walk-of (known .within)) some-left)

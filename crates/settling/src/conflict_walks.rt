@@ -1,32 +1,25 @@
-// Opposition: whose requests conflict with whose, by masks of processors and 64-bit sets of entries. A row has the
-// entries that an entry conflicts with (specification, clause 5.7). Every walk goes through the processors of a mask
-// and takes their entries modulo the number of rows: it compares none with anything. Settling and the direct waits use
-// it, for processors whose entries are below that number.
+// Whose requests conflict with whose, by masks of processors and 64-bit sets of entries. A row has the entries that an
+// entry conflicts with (specification, clause 5.7). Every walk goes through the processors of a mask, one after the
+// other. The masks are of known processors: there is a row for each one's entry, and a place in a set.
+use crate::known_requests::add_if;
+use crate::known_requests::entries_below;
 use masks::meet64;
 use plans::ENTRIES;
 use plans::SLOTS;
 ghost use mathlib.Core.Path.{_≡_};
 ghost use mathlib.Core.Bool.{cond, not, _&&_};
+ghost use mathlib.Core.List.{[]};
 ghost use Prim.Native.Nat.{ℕ, _<_};
-ghost use Rattle.masks.specs.Sets.{bit, added, meets, maskOf};
+ghost use lib.ListN.{getD};
+ghost use Rattle.masks.specs.Sets.{bit, added, some, meets, maskOf};
 ghost use Rattle.plans.specs.Entries.{slots, mostEntries};
-ghost use Rattle.settling.specs.Opposition.{wrappedEntry, rowIn, inRow, thoseIn, unopposedBy, firstBefore};
-
-// The number of rows.
-const ROWS: u8 = ENTRIES as u8;
+ghost use Rattle.rules.specs.Requests.{factsBy};
+ghost use Rattle.rules.specs.inner.Moves.{Known, unopposedIn, firstInLine};
 
 // ---- one processor
 
-// The set with the place in it, where the test says so.
-fn add_if(set: u32, place: u32, test: bool) -> u32
-    requires { ⌜ place < 32 ⌝ }
-    ensures { λ r. ⌜ r ≡ cond test (added set place) set ⌝ }
-{
-    if test { set | (1 << place) } else { set }
-}
-
 // The set with the place in it, where the row has the entry. It does not branch: nobody foresees which are in the row.
-fn add_if_in(set: u32, place: u32, row: u64, entry: u32) -> u32
+fn add_if_in(set: u32, place: u32, row: u64, entry: u8) -> u32
     requires { ⌜ (place < 32) × (entry < mostEntries) ⌝ }
     ensures { λ r. ⌜ r ≡ cond (bit row entry) (added set place) set ⌝ }
 {
@@ -34,26 +27,27 @@ fn add_if_in(set: u32, place: u32, row: u64, entry: u32) -> u32
 }
 
 // The entry of a processor's request.
-fn entry_at(entry: &[u8; SLOTS], p: u32) -> u32
+fn entry_at(entry: &[u8; SLOTS], p: u32) -> u8
     requires { ⌜ p < slots ⌝ }
-    ensures { λ r. ⌜ r ≡ wrappedEntry (now (entry .entry)) p ⌝ }
+    ensures { λ r. ⌜ r ≡ getD (now (entry .entry)) p 0 ⌝ }
 {
-    (entry[p as usize] % ROWS) as u32
+    entry[p as usize]
 }
 
 // The entries that a processor's request conflicts with.
 fn row_at(rows: &[u64; ENTRIES], entry: &[u8; SLOTS], p: u32) -> u64
-    requires { ⌜ p < slots ⌝ }
-    ensures { λ r. ⌜ r ≡ rowIn (now (rows .entry)) (now (entry .entry)) p ⌝ }
+    requires { ⌜ (p < slots) × (getD (now entry) p 0 < mostEntries) ⌝ }
+    ensures { λ r. ⌜ r ≡ getD (now (rows .entry)) (getD (now (entry .entry)) p 0) 0 ⌝ }
 {
     rows[entry_at(entry, p) as usize]
 }
 
 // ---- the processors in a mask
 
-// Those among the processors whose entries are in the set.
-pub fn those_in(entry: &[u8; SLOTS], set: u64, among: u32) -> u32
-    ensures { λ r. ⌜ r ≡ thoseIn (now (entry .entry)) set among ⌝ }
+// Those among known processors whose entries are in the set.
+pub fn known_among(entry: &[u8; SLOTS], set: u64, among: u32) -> u32
+    requires { ⌜ Known (now entry) among ⌝ }
+    ensures { λ r. ⌜ r ≡ maskOf slots (λ p. bit among p && bit set (getD (now (entry .entry)) p 0)) ⌝ }
 {
     let mut out: u32 = 0;
     let mut left = among;
@@ -65,9 +59,18 @@ pub fn those_in(entry: &[u8; SLOTS], set: u64, among: u32) -> u32
     out
 }
 
+// Those among any processors whose entries are in the set. An entry that is not known is in none.
+pub fn those_in(entry: &[u8; SLOTS], set: u64, among: u32) -> u32
+    ensures { λ r. ⌜ r ≡ maskOf slots (λ p. bit among p && bit set (getD (now (entry .entry)) p 0)) ⌝ }
+{
+    known_among(entry, set, entries_below(among, ENTRIES as u8, entry))
+}
+
 // The set of their entries: a row meets it where it has one of them.
 fn entries_of(entry: &[u8; SLOTS], among: u32) -> u64
-    ensures { λ r. ⌜ ((row : ℕ) → meets row r ≡ inRow row (now (entry .entry)) among) ⌝ }
+    requires { ⌜ Known (now entry) among ⌝ }
+    ensures { λ r. ⌜ ((row : ℕ) → meets row r
+        ≡ some slots (λ q. bit among q && bit row (getD (now (entry .entry)) q 0))) ⌝ }
 {
     let mut set: u64 = 0;
     let mut left = among;
@@ -80,7 +83,8 @@ fn entries_of(entry: &[u8; SLOTS], among: u32) -> u64
 
 // One of them has its entry in the row. It stops at the first.
 fn in_row(row: u64, entry: &[u8; SLOTS], among: u32) -> bool
-    ensures { λ r. ⌜ r ≡ inRow row (now (entry .entry)) among ⌝ }
+    requires { ⌜ Known (now entry) among ⌝ }
+    ensures { λ r. ⌜ r ≡ some slots (λ q. bit among q && bit row (getD (now (entry .entry)) q 0)) ⌝ }
 {
     let mut left = among;
     while left != 0 {
@@ -94,8 +98,9 @@ fn in_row(row: u64, entry: &[u8; SLOTS], among: u32) -> bool
 
 // The candidates whose requests conflict with no entry of the set.
 fn clear_of(rows: &[u64; ENTRIES], entry: &[u8; SLOTS], candidates: u32, set: u64) -> u32
-    ensures { λ r. ⌜ r ≡ maskOf slots
-        (λ p. bit candidates p && not (meets (rowIn (now (rows .entry)) (now (entry .entry)) p) set)) ⌝ }
+    requires { ⌜ Known (now entry) candidates ⌝ }
+    ensures { λ r. ⌜ r ≡ maskOf slots (λ p. bit candidates p
+        && not (meets (getD (now (rows .entry)) (getD (now (entry .entry)) p 0) 0) set)) ⌝ }
 {
     let mut out: u32 = 0;
     let mut left = candidates;
@@ -112,7 +117,8 @@ fn clear_of(rows: &[u64; ENTRIES], entry: &[u8; SLOTS], candidates: u32, set: u6
 // The candidates whose requests conflict with that of none of the others. Where there are no candidates or no others,
 // nothing is looked at.
 pub fn unopposed(rows: &[u64; ENTRIES], entry: &[u8; SLOTS], candidates: u32, others: u32) -> u32
-    ensures { λ r. ⌜ r ≡ unopposedBy (now (rows .entry)) (now (entry .entry)) candidates others ⌝ }
+    requires { ⌜ Known (now entry) candidates × Known (now entry) others ⌝ }
+    ensures { λ r. ⌜ r ≡ unopposedIn (factsBy (now (rows .entry)) 0 (now (entry .entry)) []) candidates others ⌝ }
 {
     if candidates == 0 {
         return 0;
@@ -131,8 +137,9 @@ pub fn first_in_line(
     candidates: u32,
     others: u32,
 ) -> u32
-    ensures { λ r. ⌜ r ≡ firstBefore
-        (now (rows .entry)) (now (entry .entry)) (now (earlier .entry)) candidates others ⌝ }
+    requires { ⌜ Known (now entry) candidates × Known (now entry) others ⌝ }
+    ensures { λ r. ⌜ r ≡ firstInLine (factsBy (now (rows .entry)) 0 (now (entry .entry)) (now (earlier .entry)))
+        candidates others ⌝ }
 {
     let mut out: u32 = 0;
     let mut left = candidates;

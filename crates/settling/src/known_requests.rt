@@ -1,6 +1,6 @@
 // Known requests: those whose entries are below a count, as masks of processors. By the number of a plan's entries they
 // are those that count (specification, clause 4.10), and by the number of rows those that conflict with some at all
-// (clause 5.7). The states, settling and the direct waits use it.
+// (clause 5.7).
 use plans::SLOTS;
 ghost use mathlib.Core.Path.{_≡_};
 ghost use mathlib.Core.Bool.{cond, _&&_};
@@ -14,7 +14,7 @@ ghost use Rattle.plans.specs.Entries.{slots};
 pub const ALL: u32 = ((1u64 << SLOTS as u64) - 1) as u32;
 
 // The set with the place in it, where the test says so.
-fn add_if(set: u32, place: u32, test: bool) -> u32
+pub fn add_if(set: u32, place: u32, test: bool) -> u32
     requires { ⌜ place < 32 ⌝ }
     ensures { λ r. ⌜ r ≡ cond test (added set place) set ⌝ }
 {

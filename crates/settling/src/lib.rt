@@ -8,5 +8,4 @@ mod steps;
 pub use conflict_walks::those_in;
 pub use counted_requests::clean;
 pub use known_requests::ALL;
-pub use known_requests::all_below;
 pub use settle_phases::settle;

@@ -21,7 +21,7 @@ fn known_in(rows: &[u64], entry: &[u8; SLOTS]) -> u32
     all_below(rows.len() as u8, entry)
 }
 
-// The phases after the four steps. Where nobody is unsatisfied there is nothing to settle.
+// The phases after the four steps.
 pub fn settle(
     rows: &[u64; ENTRIES],
     writes: u64,
@@ -36,13 +36,6 @@ pub fn settle(
     let waiting = phases.waiting & ALL;
     let entitled = phases.entitled & ALL;
     let holding = phases.holding & ALL;
-    if waiting | entitled == 0 {
-        return Phases {
-            waiting: 0,
-            entitled: 0,
-            holding: holding,
-        };
-    }
     let known = known_in(rows, entry);
     four_steps(
         rows,

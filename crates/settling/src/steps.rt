@@ -1,6 +1,6 @@
 // The four settling steps. Specification, section 5.
 use crate::conflict_walks::first_in_line;
-use crate::conflict_walks::those_in;
+use crate::conflict_walks::known_among;
 use crate::conflict_walks::unopposed;
 use plans::ENTRIES;
 use plans::SLOTS;
@@ -27,7 +27,7 @@ pub fn four_steps(
     ensures { λ r. ⌜ ((ph : Phases) → Follows ph waiting entitled holding
         → r ≡ settled (factsBy (now (rows .entry)) writes (now (entry .entry)) (now (earlier .entry))) ph) ⌝ }
 {
-    let w = those_in(entry, writes, (waiting | entitled | holding) & known);
+    let w = known_among(entry, writes, (waiting | entitled | holding) & known);
     let r = known & !w;
     // Step 1 (5.3): reads that no holding write is against, entitled, or waiting with no entitled write against them
     // either. One that is not known conflicts with none.

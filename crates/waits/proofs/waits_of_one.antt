@@ -1,1 +1,1 @@
-pub mod Faced
+pub mod Cases

@@ -1,2 +1,1 @@
-pub mod Facing
-pub mod Joined
+pub mod Writers

@@ -1,5 +1,4 @@
 // Direct waits: the processors that a request waits for, of one processor and of all. Specification, clause 7.2.
-mod facing;
 mod waits_of_each;
 mod waits_of_one;
 

@@ -1,35 +1,67 @@
 // For whom a request waits directly, by masks of processors, on the parts of a board and a state. An entry past the
 // rows conflicts with none. The queries use it. Specification, clause 7.2.
-use crate::facing::facing_of;
+use masks::has32;
+use masks::join_if;
 use masks::row_at;
 use plans::ENTRIES;
 use plans::SLOTS;
 use rules::Phases;
-use settling::all_below;
 use settling::those_in;
 ghost use mathlib.Core.Path.{_≡_};
-ghost use lib.ListN.{length};
-ghost use Rattle.plans.specs.Entries.{mostEntries};
+ghost use mathlib.Core.List.{[]};
+ghost use Prim.Native.Nat.{ℕ, _<_};
+ghost use lib.ListN.{getD};
+ghost use Rattle.masks.specs.Sets.{maskOf};
+ghost use Rattle.plans.specs.Entries.{slots};
 ghost use Rattle.rules.specs.Requests.{factsBy};
-ghost use Rattle.rules.specs.inner.Moves.{Table, knownIn};
-ghost use Rattle.waits.specs.Waits.{waitsOf};
+ghost use Rattle.waits.specs.Waits.{waitsIn, waitsOf};
+ghost use Rattle.waits.specs.inner.Writers.{writersIn};
 
 // The places of a mask of processors.
 const PLACES: u32 = SLOTS as u32;
 
-fn wide(entry: u8) -> u32
-    ensures { λ r. ⌜ r ≡ entry ⌝ }
+// The active processors whose requests are writes.
+pub fn writers_of(writes: u64, entry: &[u8; SLOTS], phases: Phases) -> u32
+    ensures { λ r. ⌜ r ≡ writersIn (factsBy [] writes (now (entry .entry)) []) phases ⌝ }
 {
-    entry as u32
+    those_in(
+        entry,
+        writes,
+        phases.waiting | phases.entitled | phases.holding,
+    )
 }
 
-// The processors whose requests' entries have a row. The others' are no writes and conflict with none, so that no walk
-// goes over them, and none compares an entry with anything.
-fn known_in(rows: &[u64], entry: &[u8; SLOTS]) -> u32
-    requires { ⌜ length (now rows) ≡ mostEntries ⌝ }
-    ensures { λ r. ⌜ (r ≡ knownIn (now (entry .entry))) × Table (now (rows .entry)) ⌝ }
+// The entries that an entry conflicts with.
+fn row_of(rows: &[u64; ENTRIES], entry: u8) -> u64
+    ensures { λ r. ⌜ r ≡ getD (now (rows .entry)) entry 0 ⌝ }
 {
-    all_below(rows.len() as u8, entry)
+    row_at(rows, entry as u32)
+}
+
+// The direct waits of processor p, from who writes: those that it waits for in each of the four cases, if their
+// requests conflict with its own.
+pub fn waits_from(
+    rows: &[u64; ENTRIES],
+    entry: &[u8; SLOTS],
+    earlier: &[u32; SLOTS],
+    phases: Phases,
+    writers: u32,
+    p: u32,
+) -> u32
+    requires { ⌜ p < slots ⌝ }
+    ensures { λ r. ⌜ ((writes : ℕ) → writers ≡ writersIn (factsBy [] writes (now (entry .entry)) []) phases
+        → r ≡ maskOf slots (waitsIn
+        (factsBy (now (rows .entry)) writes (now (entry .entry)) (now (earlier .entry))) phases p)) ⌝ }
+{
+    let waiting = has32(phases.waiting, p);
+    let entitled = has32(phases.entitled, p);
+    let write = has32(writers, p);
+    let read = !write;
+    let first = join_if(0, phases.holding & writers, entitled & read);
+    let second = join_if(first, phases.entitled & writers, waiting & read);
+    let third = join_if(second, phases.holding & !writers, entitled & write);
+    let others = join_if(third, earlier[p as usize] & writers, waiting & write);
+    those_in(entry, row_of(rows, entry[p as usize]), others)
 }
 
 // The direct waits of processor p, a mask. A number past the processors waits for nobody.
@@ -48,10 +80,6 @@ pub fn waits_of(
     if p >= PLACES {
         return 0;
     }
-    let known = known_in(rows, entry);
-    let active = (phases.waiting | phases.entitled | phases.holding) & known;
-    let writers = those_in(entry, writes, active);
-    let others = facing_of(phases, writers, earlier[p as usize], p);
-    let row = row_at(rows, wide(entry[p as usize]));
-    those_in(entry, row, others & known)
+    let writers = writers_of(writes, entry, phases);
+    waits_from(rows, entry, earlier, phases, writers, p)
 }

@@ -1,12 +1,14 @@
--- Processors in masks, as the functions that settle and that find waits go by them.
+-- Processors in masks, as the functions that settle go by them.
 use Prim.Native.Nat.{ℕ, _<_, _^_}
 use mathlib.Core.Path.{_≡_}
+use mathlib.Core.Bool.{true, not, _&&_}
 use mathlib.Core.List.{List}
 use lib.Dec.{ltb}
 use lib.ListN.{length, getD}
 use Rattle.masks.specs.Sets.{bit, maskOf}
 use Rattle.plans.specs.Entries.{slots, mostEntries}
 use Rattle.rules.specs.declared.settling.Phases.{Phases}
+use Rattle.rules.specs.Requests.{Facts, isEarlier, against}
 
 -- There is a row for each entry, and a place for each in a row.
 pub record Table (rows : List ℕ) : Type 0 where
@@ -16,6 +18,19 @@ pub record Table (rows : List ℕ) : Type 0 where
 -- The processors whose requests' entries have a row. The others' are no writes and conflict with none.
 abbrev pub knownIn : List ℕ → ℕ
 knownIn entry = maskOf slots (λ p. ltb (getD entry p 0) mostEntries)
+
+-- A mask of such processors alone.
+pub record Known (entry : List ℕ) (among : ℕ) : Type 0 where
+  pub within : among < 2 ^ slots
+  pub entries : (p : ℕ) → bit among p ≡ true → getD entry p 0 < mostEntries
+
+-- The candidates whose requests conflict with that of none of the others, and with that of no earlier one of them.
+abbrev pub unopposedIn : Facts → ℕ → ℕ → ℕ
+unopposedIn f candidates others = maskOf slots (λ p. bit candidates p && not (against f p (bit others)))
+
+abbrev pub firstInLine : Facts → ℕ → ℕ → ℕ
+firstInLine f candidates others =
+    maskOf slots (λ p. bit candidates p && not (against f p (λ q. isEarlier f q p && bit others q)))
 
 -- The three masks are those of the phases, for the processors that there are.
 pub record Follows (ph : Phases) (waiting entitled holding : ℕ) : Type 0 where

@@ -1,66 +1,88 @@
 -- `first_in_line` meets its contract, by the walk that keeps the candidates whose row has no entry of those before
 -- them. Assumes nothing.
 use mathlib.Core.Path.{_≡_, ap, _∙_}
-use mathlib.Core.Bool.{Bool, cond, not}
-use mathlib.Core.List.{List}
+use mathlib.Core.Bool.{Bool, cond, not, _&&_}
+use mathlib.Core.List.{[]}
 use Prim.Native.Nat.{ℕ}
 use native.Mathlib.Omega.{arith}
 use lib.Bits.{bitAnd}
 use lib.ListN.{getD}
-use borrow.Author.Needs.{needs}
-use Rattle.masks.specs.Sets.{added}
+use Rattle.masks.specs.Sets.{bit, added, some}
 use Rattle.masks.proofs.Lowest.{rest-less}
-use Rattle.masks.proofs.Walks.{Kept, kept-first, kept-more, kept-last, lowest-place}
+use Rattle.masks.proofs.Places.{bit-and}
+use Rattle.masks.proofs.Some.{some-agree}
+use Rattle.masks.proofs.Walks.{Kept, kept-first, kept-more, kept-last}
 use Rattle.plans.specs.Entries.{slots}
-use Rattle.settling.specs.Opposition.{rowIn, inRow, firstBefore}
-use Rattle.settling.proofs.Processors.{walk-of}
+use Rattle.rules.specs.Requests.{Facts, factsBy, entryOf, isEarlier, conflicts, against}
+use Rattle.rules.specs.inner.Moves.{Known}
+use Rattle.rules.proofs.Known.{known-and, and-known}
+use Rattle.settling.proofs.Processors.{walk-of, lowest-known, lowest-entry}
 use Rattle.settling.proofs.conflict_walks.first_in_line.Statement.{statement}
 use Rattle.settling.proofs.conflict_walks.first_in_line.Tie as tie
 
--- The candidate is kept where its row has no entry of those before it.
-kept-where : {row looked : ℕ} {before : Bool} (next : ℕ) (entry : List ℕ) (among out p : ℕ) → row ≡ looked
-    → before ≡ inRow row entry among → next ≡ cond (not before) (added out p) out
-    → next ≡ cond (not (inRow looked entry among)) (added out p) out
-kept-where next entry among out p e f g =
-    g ∙ ap (λ t. cond (not t) (added out p) out) (f ∙ ap (λ (x : ℕ). inRow x entry among) e)
+module _ (f : Facts) (others : ℕ) where
+  -- An earlier one of the others conflicts with p's request.
+  abbrev opposed : ℕ → Bool
+  opposed p = against f p (λ q. isEarlier f q p && bit others q)
+
+  -- The code joins two masks, and the definition asks of both.
+  both-masks : (p row : ℕ) → row ≡ getD (f .rows) (entryOf f p) 0
+      → some slots (λ q. bit (bitAnd (getD (f .earlier) p 0) others) q && bit row (entryOf f q)) ≡ opposed p
+  both-masks p row e =
+      ap (λ (x : ℕ). some slots (λ q. bit (bitAnd (getD (f .earlier) p 0) others) q && bit x (entryOf f q))) e
+      ∙ some-agree slots _ _ (λ q l. ap (λ t. t && conflicts f p q) (bit-and (getD (f .earlier) p 0) others q))
+
+  -- The candidate is kept where its row has no entry of those before it.
+  kept-where : {row : ℕ} {before : Bool} (next out p : ℕ) → row ≡ getD (f .rows) (entryOf f p) 0
+      → before ≡ some slots (λ q. bit (bitAnd (getD (f .earlier) p 0) others) q && bit row (entryOf f q))
+      → next ≡ cond (not before) (added out p) out → next ≡ cond (not (opposed p)) (added out p) out
+  kept-where {row} next out p e g h = h ∙ ap (λ t. cond (not t) (added out p) out) (g ∙ both-masks p row e)
 
 abbrev Inv-loop : tie.InvT-loop
 Inv-loop rows entry earlier candidates others out₀ left₀ out left =
-    Kept slots 32 (λ p. not (inRow (rowIn rows entry p) entry (bitAnd (getD earlier p 0) others))) candidates left out
+    Kept slots 32 (λ p. not (opposed (factsBy rows 0 entry earlier) others p)) candidates left out × Known entry left
 
 abbrev μ-loop : tie.MeasureT-loop
 μ-loop rows entry earlier candidates others out₀ left₀ out left = left
 
 loop-holds : tie.Need-loop-holds Inv-loop μ-loop
-loop-holds c = kept-first _ (walk-of (c .fits .candidates .fits))
+loop-holds c = (kept-first _ (walk-of (c .fits .candidates .fits)), c .pre .0)
 
 row-at-requires : tie.Need-row-at-requires Inv-loop μ-loop
-row-at-requires c κs = lowest-place (c .before .loop .inv .walk) (omega arith)
+row-at-requires c κs =
+    let known = c .before .loop .inv .1 in
+    (lowest-known known (omega arith), lowest-entry known (omega arith))
 
 in-earlier : tie.Need-element-copy-out-in-row Inv-loop μ-loop
-in-earlier c = lowest-place (c .before .before .loop .inv .walk) (omega arith)
+in-earlier c = lowest-known (c .before .before .loop .inv .1) (omega arith)
+
+in-row-requires : tie.Need-in-row-requires Inv-loop μ-loop
+in-row-requires c κs =
+    let start = c .before .before .before .before in
+    and-known (getD (start .args .earlier .now) _ 0) (start .pre .1)
 
 add-if-requires : tie.Need-add-if-requires Inv-loop μ-loop
-add-if-requires c κs = omega (arith, lowest-place (c .before .before .before .before .loop .inv .walk) (omega arith))
+add-if-requires c κs = omega (arith, lowest-known (c .before .before .before .before .loop .inv .1) (omega arith))
 
 loop-again : tie.Need-loop-again Inv-loop μ-loop
 loop-again c =
     let row = c .before .before .before in
     let loop = row .before .before .loop in
-    let a = row .before .before .before .args in
-    kept-more _ (omega arith) (loop .inv)
-    (kept-where _ (a .entry .now) (bitAnd (getD (a .earlier .now) _ 0) (a .others)) (loop .out) _ (row .row-at .ensures)
-    (c .before .in-row .ensures) (c .add-if .ensures))
+    let a = row .before .before .before .args in (
+      kept-more _ (omega arith) (loop .inv .0)
+          (kept-where (factsBy (a .rows .now) 0 (a .entry .now) (a .earlier .now)) (a .others) _ (loop .out) _ (row .row-at .ensures)
+          (c .before .in-row .ensures) (c .add-if .ensures)),
+      known-and _ (loop .inv .1),
+    )
 
 returns : tie.Need-returns Inv-loop μ-loop
-unfolding firstBefore
-returns c = kept-last (c .loop-test .left) (c .before .loop .inv)
+returns c = kept-last (c .loop-test .left) (c .before .loop .inv .0)
 
 pub first-in-line-spec : {M : Type 1} → statement M
 first-in-line-spec =
     tie.close
     (tie.spec Inv-loop μ-loop loop-holds row-at-requires
-    (λ c. omega (arith, lowest-place (c .before .before .loop .inv .walk) (omega arith)))
-    (λ c. omega (arith, lowest-place (c .before .before .loop .inv .walk) (omega arith))) in-earlier
-    (λ c κs. search needs) add-if-requires
+    (λ c. omega (arith, lowest-known (c .before .before .loop .inv .1) (omega arith)))
+    (λ c. omega (arith, lowest-known (c .before .before .loop .inv .1) (omega arith))) in-earlier
+    in-row-requires add-if-requires
     (λ c. omega arith) (λ c. rest-less _ (omega arith)) loop-again returns)

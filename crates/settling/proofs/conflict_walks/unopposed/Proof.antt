@@ -2,40 +2,43 @@
 -- exactly if one of them is in it. Assumes nothing.
 use mathlib.Core.Path.{_≡_, sym, ap, _∙_}
 use mathlib.Core.Bool.{not, _&&_, and-true}
-use mathlib.Core.List.{List}
+use mathlib.Core.List.{[]}
 use Prim.Native.Nat.{ℕ, _^_, _<_}
-use borrow.Author.Needs.{needs}
-use Rattle.masks.specs.Sets.{bit, meets, maskOf}
+use lib.ListN.{getD}
+use Rattle.masks.specs.Sets.{bit, some, meets, maskOf}
 use Rattle.masks.proofs.Masks.{is-mask, mask-agree}
 use Rattle.masks.proofs.Walks.{none-kept, some-last}
 use Rattle.plans.specs.Entries.{slots}
-use Rattle.settling.specs.Opposition.{wrappedEntry, rowIn, inRow, unopposedBy}
+use Rattle.rules.specs.Requests.{Facts, factsBy, entryOf, conflicts}
+use Rattle.rules.specs.inner.Moves.{unopposedIn}
 use Rattle.settling.proofs.conflict_walks.unopposed.Statement.{statement}
 use Rattle.settling.proofs.conflict_walks.unopposed.Tie as tie
 
-module _ (rows entry : List ℕ) (candidates others : ℕ) where
-  no-others : candidates < 2 ^ slots → others ≡ 0 → candidates ≡ unopposedBy rows entry candidates others
-  unfolding unopposedBy
+module _ (f : Facts) (candidates others : ℕ) where
+  no-others : candidates < 2 ^ slots → others ≡ 0 → candidates ≡ unopposedIn f candidates others
   no-others h none =
       is-mask slots candidates _ h
-      (λ p l. sym (ap (λ t. bit candidates p && not t) (some-last slots (λ q. bit (rowIn rows entry p) (wrappedEntry entry q)) others none)
-      ∙ and-true (bit candidates p)))
+      (λ p l. sym (ap (λ t. bit candidates p && not t) (some-last slots (conflicts f p) others none) ∙ and-true (bit candidates p)))
 
-  clear-of-others : (set r : ℕ) → ((row : ℕ) → meets row set ≡ inRow row entry others)
-      → r ≡ maskOf slots (λ p. bit candidates p && not (meets (rowIn rows entry p) set)) → r ≡ unopposedBy rows entry candidates others
-  unfolding unopposedBy
+  clear-of-others : (set r : ℕ) → ((row : ℕ) → meets row set ≡ some slots (λ q. bit others q && bit row (entryOf f q)))
+      → r ≡ maskOf slots (λ p. bit candidates p && not (meets (getD (f .rows) (entryOf f p) 0) set)) → r ≡ unopposedIn f candidates others
   clear-of-others set r has e =
-      e ∙ mask-agree slots _ _ (λ p l. ap (λ t. bit candidates p && not t) (has (rowIn rows entry p)))
+      e ∙ mask-agree slots _ _ (λ p l. ap (λ t. bit candidates p && not t) (has (getD (f .rows) (entryOf f p) 0)))
 
 returns : tie.Need-returns
-unfolding unopposedBy
 returns c = none-kept slots _ _ (c .if1 .taken)
 
 returns-2 : tie.Need-returns-2
-returns-2 c = no-others _ _ _ _ (c .before .before .fits .candidates .fits) (c .if2 .taken)
+returns-2 c =
+    let a = c .before .before .args in
+    no-others (factsBy (a .rows .now) 0 (a .entry .now) []) _ _ (c .before .before .fits .candidates .fits) (c .if2 .taken)
 
 returns-3 : tie.Need-returns-3
-returns-3 c = clear-of-others _ _ _ _ _ _ (c .before .entries-of .ensures) (c .clear-of .ensures)
+returns-3 c =
+    let a = c .before .before .before .before .args in
+    clear-of-others (factsBy (a .rows .now) 0 (a .entry .now) []) _ _ _ _ (c .before .entries-of .ensures) (c .clear-of .ensures)
 
 pub unopposed-spec : {M : Type 1} → statement M
-unopposed-spec = tie.close (tie.spec returns returns-2 (λ c κs. search needs) (λ c κs. search needs) returns-3)
+unopposed-spec =
+    tie.close
+    (tie.spec returns returns-2 (λ c κs. c .before .before .pre .1) (λ c κs. c .before .before .before .pre .0) returns-3)

@@ -1,0 +1,86 @@
+-- The walk that fills in the direct waits of each processor. Assumes nothing.
+use Prim.Native.Nat.{ℕ, zero, suc, _-_, _^_, _<_}
+use mathlib.Core.Path.{_≡_, refl, sym, ap, _∙_}
+use mathlib.Core.List.{List}
+use mathlib.Core.Bool.{Bool, true, false, cond, not, _&&_, _||_, and-true, true≢false}
+use native.Mathlib.Omega.{arith}
+use lib.Bits.{bitAnd, bitOr}
+use lib.Count.{trailingZeros}
+use lib.Dec.{eqb}
+use lib.ListN.{length, getD, set, replicate, length-set}
+use lib.Seq.{ext-getD}
+use Rattle.masks.specs.Sets.{bit, maskOf}
+use Rattle.masks.proofs.Places.{bit-or}
+use Rattle.masks.proofs.Masks.{mask-none, mask-agree}
+use Rattle.masks.proofs.Walks.{Left, left-more, lowest-place, bit-left, at-lowest, bit-none}
+use Rattle.masks.proofs.Stores.{stored-at}
+use Rattle.plans.specs.Entries.{slots}
+use Rattle.masks.specs.Tabulation.{tabulate}
+use Rattle.masks.proofs.Tabulate.{length-tabulate, getD-tabulate}
+use Rattle.rules.specs.declared.settling.Phases.{Phases}
+use Rattle.rules.specs.Requests.{Facts, active, isEarlier, isWriter, conflicts, holdingRead, holdingWrite, entitledWrite}
+use Rattle.waits.specs.Waits.{waitsIn}
+
+-- Who neither waits nor is entitled waits for nobody.
+neither-waits : (x e W a b c d : Bool) → (x || e) ≡ false → (e && not W && a || (x && not W && b || (e && W && c || x && W && d))) ≡ false
+neither-waits true e W a b c d h = absurd (true≢false h)
+neither-waits false true W a b c d h = absurd (true≢false h)
+neither-waits false false W a b c d h = refl
+
+-- The masks of the start are all empty.
+getD-zeros : (n p : ℕ) → _≡_ {A = ℕ} (getD (replicate n 0) p 0) 0
+getD-zeros zero p = refl
+getD-zeros (suc n) zero = refl
+getD-zeros (suc n) (suc p) = getD-zeros n p
+
+module _ (f : Facts) (ph : Phases) where
+  -- All masks are filled in but those of what is left of the processors.
+  pub record Filled (left : ℕ) (out : List ℕ) : Type 0 where
+    pub walk : Left slots 32 left
+    pub full : length out ≡ slots
+    pub masks : (k : ℕ) → k < slots → bit left k ≡ false → getD out k 0 ≡ maskOf slots (waitsIn f ph k)
+
+  nobody : (k : ℕ) → (bit (ph .waiting) k || bit (ph .entitled) k) ≡ false → 0 ≡ maskOf slots (waitsIn f ph k)
+  unfolding waitsIn
+  nobody k e =
+      sym (mask-none slots)
+      ∙ mask-agree slots _ _
+      (λ q l. sym (neither-waits (bit (ph .waiting) k) (bit (ph .entitled) k) (isWriter f k)
+      (holdingWrite f ph q && conflicts f k q) (entitledWrite f ph q && conflicts f k q) (holdingRead f ph q && conflicts f k q)
+      (isEarlier f q k && (active ph q && isWriter f q) && conflicts f k q) e))
+
+  pub filled-first : Left slots 32 (bitOr (ph .waiting) (ph .entitled)) → length {A = ℕ} (replicate slots 0) ≡ slots
+      → Filled (bitOr (ph .waiting) (ph .entitled)) (replicate slots 0)
+  filled-first walk full =
+      record {
+        walk = walk;
+        full = full;
+        masks = λ k l e. getD-zeros slots k ∙ nobody k (sym (bit-or (ph .waiting) (ph .entitled) k) ∙ e);
+      }
+
+  module _ {left : ℕ} {out : List ℕ} (new : ℕ) (some-left : 0 < left) (h : Filled left out)
+      (e : new ≡ maskOf slots (waitsIn f ph (trailingZeros 32 left))) where
+    abbrev low : ℕ
+    low = trailingZeros 32 left
+
+    at-place : (k : ℕ) → k < slots → (t : Bool) → eqb k low ≡ t → (bit left k && not t) ≡ false
+        → cond t new (getD out k 0) ≡ maskOf slots (waitsIn f ph k)
+    at-place k l true same none =
+        e ∙ ap (λ (x : ℕ). maskOf slots (waitsIn f ph x)) (sym (at-lowest (h .walk) some-left k same .0))
+    at-place k l false same none = h .masks k l (sym (and-true (bit left k)) ∙ none)
+
+    pub filled-more : Filled (bitAnd left (left - 1)) (set out low new)
+    filled-more =
+        record {
+          walk = left-more (h .walk);
+          full = length-set out low new ∙ h .full;
+          masks = λ k l none.
+              stored-at out low new k (omega (arith, lowest-place (h .walk) some-left, h .full))
+              ∙ at-place k l (eqb k low) refl (sym (bit-left (h .walk) some-left k) ∙ none);
+        }
+
+  pub filled-last : {left : ℕ} {out : List ℕ} → left ≡ 0 → Filled left out → out ≡ tabulate slots (λ p. maskOf slots (waitsIn f ph p))
+  filled-last {left} {out} e h =
+      ext-getD 0 out _ (h .full ∙ sym (length-tabulate slots _))
+      (λ k l. let here : k < slots = omega (arith, h .full) in
+      h .masks k here (bit-none left k e) ∙ sym (getD-tabulate slots (λ p. maskOf slots (waitsIn f ph p)) k 0 here))

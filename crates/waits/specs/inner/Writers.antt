@@ -1,0 +1,11 @@
+-- Who writes, as the private functions go by it.
+use Prim.Native.Nat.{ℕ}
+use mathlib.Core.Bool.{_&&_}
+use Rattle.masks.specs.Sets.{maskOf}
+use Rattle.plans.specs.Entries.{slots}
+use Rattle.rules.specs.declared.settling.Phases.{Phases}
+use Rattle.rules.specs.Requests.{Facts, active, isWriter}
+
+-- The active processors whose requests are writes.
+abbrev pub writersIn : Facts → Phases → ℕ
+writersIn f ph = maskOf slots (λ q. active ph q && isWriter f q)
