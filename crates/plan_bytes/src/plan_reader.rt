@@ -11,12 +11,12 @@ use plans::Entry;
 use plans::HEAD_BYTES;
 use plans::Plan;
 use plans::Read;
+use plans::entry_size;
 use refusals::Refusal;
 use refusals::Verdict;
 ghost use mathlib.Core.Path.{_≡_};
 ghost use mathlib.Core.Bool.{cond};
 ghost use lib.Dec.{eqb};
-ghost use lib.ListN.{getD};
 ghost use Rattle.refusals.specs.Due.{said};
 ghost use Rattle.encoding.specs.Buffers.{outcomeSays};
 ghost use Rattle.plans.specs.Entries.{planSize};
@@ -65,7 +65,7 @@ fn whole(bytes: &[u8], entries: [Entry; ENTRIES], taken: usize) -> Read
 fn read_entries(bytes: &[u8]) -> Read
     requires { ⌜ CountsThere (now bytes) ⌝ }
     ensures outcome { λ r. ⌜
-        outcomeSays (r .outcome) ≡ said (bodyFault (now (bytes .entry))) (planSize (getD (now (bytes .entry)) 2 0))
+        outcomeSays (r .outcome) ≡ said (bodyFault (now (bytes .entry))) (planSize (planIn (now (bytes .entry))))
         ⌝ }
     ensures plan { λ r. ⌜
         r .plan ≡ cond (eqb (bodyFault (now (bytes .entry))) 0) (planIn (now (bytes .entry))) blankPlan
@@ -96,7 +96,7 @@ fn read_entries(bytes: &[u8]) -> Read
             break Verdict::Refused(refusal);
         }
         entries[i] = entry;
-        at += ENTRY_BYTES;
+        at += entry_size(entry);
         i += 1;
     };
     match verdict {

@@ -1,6 +1,6 @@
 -- One turn of the loop over the entries of a plan: what was read so far, and what each way on makes of it. Assumes
 -- nothing.
-use Prim.Native.Nat.{ℕ, zero, suc, _+_, _-_, _*_, _≤_, _<_}
+use Prim.Native.Nat.{ℕ, zero, suc, _+_, _-_, _≤_, _<_}
 use native.Mathlib.Nat.{le-refl}
 use native.Mathlib.Numerals.{add-one}
 use native.Mathlib.Omega.{arith}
@@ -20,43 +20,55 @@ use Rattle.encoding.specs.Buffers.{outcomeSays}
 use Rattle.encoding.proofs.Room.{enough-at}
 use Rattle.plans.specs.declared.Entry.{Entry}
 use Rattle.plans.specs.declared.Read.{Read}
-use Rattle.plans.specs.Entries.{mostEntries, headSize, entrySize, planSize, blankEntry}
+use Rattle.plans.specs.Entries.{mostEntries, headSize, entrySize, entrySizeOf, sectionSize, planSize, blankEntry}
 use Rattle.plans.specs.Acceptance.{kindFault, setFault, lengthFault, entryFault}
 use Rattle.plans.specs.Reading.{entryIn, entriesIn, sectionFault, blankPlan, planIn}
+use Rattle.plans.proofs.Sizes.{entry-size-due, section-size-append, section-size-one}
 use Rattle.plans.proofs.EntryBytes.{length-entriesIn}
+use Rattle.plans.proofs.PlanBytes.{counted-planIn}
 use Rattle.plan_bytes.specs.inner.Body.{bodyFault, wholeRead}
 
 -- The first i of n entries are read and have no fault. The next one stands at place `at` of the bytes.
 pub record SoFar (resources n : ℕ) (bytes : List ℕ) (entries : List Entry) (at i : ℕ) : Type 0 where
-  pub place : at ≡ planSize i
+  pub place : at ≡ headSize + sectionSize (entriesIn i (drop headSize bytes))
   pub inside : at ≤ length bytes
   pub counted : i ≤ n
   pub fault : sectionFault resources n (drop headSize bytes) ≡ sectionFault resources (n - i) (drop at bytes)
   pub filled : entries ≡ entriesIn i (drop headSize bytes) ++ replicate (mostEntries - i) blankEntry
 
-one-entry-more : (i : ℕ) (s : List ℕ) → entriesIn (suc i) s ≡ entriesIn i s ++ (entryIn (drop (entrySize * i) s) ∷ [])
-unfolding entriesIn
+-- The entry behind the first i.
+abbrev entryAfter : ℕ → List ℕ → Entry
+entryAfter i s = entryIn (drop (sectionSize (entriesIn i s)) s)
+
+one-entry-more : (i : ℕ) (s : List ℕ) → entriesIn (suc i) s ≡ entriesIn i s ++ (entryAfter i s ∷ [])
+unfolding entriesIn sectionSize
 one-entry-more zero s = refl
 one-entry-more (suc i) s =
-    let e : entrySize * suc i ≡ entrySize + entrySize * i = omega arith in
-    ap (λ l. entryIn s ∷ l) (one-entry-more i (drop entrySize s) ∙ rw (e, drop-drop))
+    ap (λ l. entryIn s ∷ l) (one-entry-more i (drop (entrySizeOf (entryIn s)) s) ∙ rw drop-drop)
+
+one-size-more : (i : ℕ) (s : List ℕ)
+    → sectionSize (entriesIn (suc i) s) ≡ sectionSize (entriesIn i s) + entrySizeOf (entryAfter i s)
+one-size-more i s =
+    ap sectionSize (one-entry-more i s)
+    ∙ section-size-append (entriesIn i s) (entryAfter i s ∷ [])
+    ∙ ap (λ k. sectionSize (entriesIn i s) + k) (section-size-one (entryAfter i s))
 
 store-next : (i : ℕ) (s : List ℕ) → i < mostEntries
-    → set (entriesIn i s ++ replicate (mostEntries - i) blankEntry) i (entryIn (drop (entrySize * i) s))
+    → set (entriesIn i s ++ replicate (mostEntries - i) blankEntry) i (entryAfter i s)
     ≡ entriesIn (suc i) s ++ replicate (mostEntries - suc i) blankEntry
 store-next i s h =
     let e : mostEntries - i ≡ suc (mostEntries - suc i) = omega arith in
-    let next = entryIn (drop (entrySize * i) s) in
+    let blank = replicate (mostEntries - suc i) blankEntry in
     rw (
       e,
-      set-at (entriesIn i s) blankEntry (replicate (mostEntries - suc i) blankEntry) next i (length-entriesIn i s),
+      set-at (entriesIn i s) blankEntry blank (entryAfter i s) i (length-entriesIn i s),
       one-entry-more,
       append-assoc,
     )
 
 pub nothing-read : (resources n : ℕ) (bytes : List ℕ) → headSize ≤ length bytes
     → SoFar resources n bytes (replicate mostEntries blankEntry) headSize 0
-unfolding entriesIn
+unfolding entriesIn sectionSize
 nothing-read resources n bytes h =
     let e : n - 0 ≡ n = omega arith in
     record { place = refl; inside = h; counted = omega arith; fault = rw e; filled = refl }
@@ -98,7 +110,7 @@ module _
 
         -- What is looked at after the entry.
         abbrev later : ℕ
-        later = sectionFault resources (n - suc i) (drop (at + entrySize) bytes)
+        later = sectionFault resources (n - suc i) (drop (at + entrySizeOf e) bytes)
 
         entry-first : sectionFault resources n (drop headSize bytes)
             ≡ firstOf (verdictNumber kind) (firstOf (setFault resources e) (firstOf (lengthFault e) later))
@@ -107,7 +119,7 @@ module _
             let turn : n - i ≡ suc (n - suc i) = omega arith in
             let due : entrySize ≤ length (drop at bytes) = rw length-drop there in
             h .fault
-            ∙ rw (turn, enough-at entrySize (drop at bytes) due, drop-drop entrySize at bytes, ← entry-read, k)
+            ∙ rw (turn, enough-at entrySize (drop at bytes) due, ← entry-read, drop-drop (entrySizeOf e) at bytes, k)
             (sym (first-of-four (kindFault e) (setFault resources e) (lengthFault e) later))
 
         pub kind-refused : (r : Refusal) → kind ≡ Verdict.Refused r
@@ -136,20 +148,23 @@ module _
                 ticks-refused r f = ticks-first ∙ first-refuses-verdict ticks _ r f
 
                 -- The entry has no fault and is stored.
-                pub entry-passes : ticks ≡ Verdict.Accepted → n ≤ mostEntries
-                    → SoFar resources n bytes (set entries i e) (at + entrySize) (i + 1)
-                entry-passes a most =
-                    let p : at ≡ headSize + entrySize * i = h .place in
+                pub entry-passes : ticks ≡ Verdict.Accepted → n ≤ mostEntries → (size : ℕ) → size ≡ entrySizeOf e
+                    → SoFar resources n bytes (set entries i e) (at + size) (i + 1)
+                entry-passes a most size sized =
                     let small : i < mostEntries = omega arith in
                     let reached : at ≤ length bytes = h .inside in
+                    let held : e ≡ entryAfter i (drop headSize bytes) =
+                    entry-read
+                    ∙ rw (h .place, ← drop-drop (sectionSize (entriesIn i (drop headSize bytes))) headSize bytes)
+                    in
                     record {
-                      place = omega arith;
-                      inside = omega arith;
+                      place =
+                          rw add-one
+                          (omega (arith, h .place, one-size-more i (drop headSize bytes), ap entrySizeOf held));
+                      inside = omega (arith, entry-size-due e);
                       counted = omega arith;
-                      fault = ticks-first ∙ first-accepts-verdict ticks _ a ∙ rw add-one;
-                      filled =
-                          rw (h .filled, entry-read, p, ← drop-drop (entrySize * i) headSize bytes, add-one)
-                          (store-next i (drop headSize bytes) small);
+                      fault = ticks-first ∙ first-accepts-verdict ticks _ a ∙ rw (sized, add-one);
+                      filled = rw (h .filled, held, add-one) (store-next i (drop headSize bytes) small);
                     }
 
 -- All entries are read: what is said, and the plan.
@@ -166,8 +181,13 @@ module _
         let z : getD bytes 2 0 - i ≡ 0 = omega arith in
         h .fault ∙ rw z
 
-    pub read-whole : (read : Read) → read ≡ wholeRead bytes entries at
-        → (outcomeSays (read .outcome) ≡ said (bodyFault bytes) (planSize (getD bytes 2 0)))
-        × (read .plan ≡ cond (eqb (bodyFault bytes) 0) (planIn bytes) blankPlan)
+    whole-plan : wholeRead bytes entries at .plan ≡ planIn bytes
     unfolding planIn
-    read-whole read e = rw (e, no-fault, h .place) (rw all-read, rw (h .filled, all-read))
+    whole-plan = rw (h .filled, all-read)
+
+    pub read-whole : (read : Read) → read ≡ wholeRead bytes entries at
+        → (outcomeSays (read .outcome) ≡ said (bodyFault bytes) (planSize (planIn bytes)))
+        × (read .plan ≡ cond (eqb (bodyFault bytes) 0) (planIn bytes) blankPlan)
+    read-whole read e =
+        let size : at ≡ planSize (planIn bytes) = h .place ∙ rw (all-read, counted-planIn) in
+        rw (e, no-fault) (ap (said 0) size, whole-plan)

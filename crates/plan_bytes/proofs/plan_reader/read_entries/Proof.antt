@@ -5,6 +5,7 @@ use native.Mathlib.Omega.{arith}
 use mathlib.Core.Logic.{⊎-elim}
 use borrow.Author.Needs.{needs}
 use lib.ListN.{getD}
+use Rattle.plans.proofs.Sizes.{sized-due}
 use Rattle.plan_bytes.proofs.plan_reader.Answers.{refused-only}
 use Rattle.plan_bytes.proofs.plan_reader.Section.{SoFar, nothing-read, rest-length, entry-passes, read-whole}
 use Rattle.plan_bytes.proofs.plan_reader.Section.{not-both, left-with, entry-missing, kind-refused, names-refused, ticks-refused}
@@ -32,15 +33,19 @@ part-entry-of-start c = c .before .before .loop .inv .inside
 entry-of-requires : tie.Need-entry-of-requires Inv-loop μ-loop
 entry-of-requires c κs = rw rest-length (c .before .if2 .left)
 
+add-at : tie.Need-add-at Inv-loop μ-loop
+add-at c = omega (arith, sized-due _ _ (c .entry-size .ensures))
+
 loop-again : tie.Need-loop-again Inv-loop μ-loop
 loop-again c =
-    let set = c .before .before .before .before .before in
+    let set = c .before .before .before .before .before .before in
     let kind = set .before .before .before .before in
     let there = kind .before .before .before in
     entry-passes _ _ _ _ _ _ (there .before .before .loop .inv) (there .before .if1 .left) (there .if2 .left)
     _ (kind .before .entry-of .ensures) _ (kind .check-kind .ensures) (set .before .before .enum-told .given .1)
-    _ (set .check-set .ensures) (c .before .before .before .enum-told2 .given .1)
-    _ (c .before .before .check-length .ensures) (c .enum-told3 .given .1) (omega arith)
+    _ (set .check-set .ensures) (c .before .before .before .before .enum-told2 .given .1)
+    _ (c .before .before .before .check-length .ensures) (c .before .enum-told3 .given .1) (omega arith)
+    _ (c .entry-size .ensures)
 
 -- The loop is left after the last entry. The other ways out have a refusal.
 returns : tie.Need-returns Inv-loop μ-loop
@@ -103,7 +108,8 @@ read-entries-spec =
     (λ c. search needs)
     (λ c. omega arith)
     (λ c. omega arith)
-    (λ c. omega arith)
+    (λ c κs. search needs)
+    add-at
     (λ c. omega arith)
     (λ c. omega arith)
     loop-again
