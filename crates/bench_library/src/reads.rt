@@ -2,6 +2,7 @@
 use crate::board::plan;
 use encoding::Outcome;
 use plans::Entry;
+use plans::MAX_PLAN_BYTES;
 ghost use Prim.Native.Nat.{_<_};
 
 fn taken(outcome: Outcome) -> u64 {
@@ -16,7 +17,7 @@ fn mixed(sum: u64, taken: u64, entry: Entry) -> u64 {
 }
 
 // The turns over the bytes of a plan, and the checksum of what was read.
-fn sum_over(bytes: &mut [u8; 707], turns: u64) -> u64
+fn sum_over(bytes: &mut [u8; MAX_PLAN_BYTES], turns: u64) -> u64
     requires { ⌜ turns < 1000000000 ⌝ }
 {
     let mut sum: u64 = 0;
@@ -37,7 +38,7 @@ fn sum_over(bytes: &mut [u8; 707], turns: u64) -> u64
 pub fn sum_of(turns: u64) -> u64
     requires { ⌜ turns < 1000000000 ⌝ }
 {
-    let mut bytes = [0; 707];
+    let mut bytes = [0; MAX_PLAN_BYTES];
     plan_bytes::write(plan(16), &mut bytes, 0);
     sum_over(&mut bytes, turns)
 }

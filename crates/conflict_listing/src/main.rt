@@ -4,13 +4,11 @@ use conflicts::Conflict;
 use encoding::Outcome;
 use libc::STDIN_FILENO;
 use libc::STDOUT_FILENO;
+use plans::MAX_PLAN_BYTES;
 use queries::SharedAnswer;
 use queries::shared_by;
 use refusals::Refusal;
 use rules::Board;
-
-// The bytes of the longest plan.
-const PLAN_ROOM: usize = 707;
 
 fn print_refusal(refusal: Refusal) {
     io::write_all(STDOUT_FILENO, b"refused ");
@@ -63,7 +61,7 @@ fn print_pairs(board: Board, count: u8) {
 }
 
 fn main() {
-    let mut bytes = [0u8; PLAN_ROOM];
+    let mut bytes = [0u8; MAX_PLAN_BYTES];
     let filled = io::read_full(STDIN_FILENO, &mut bytes);
     let read = plan_bytes::read(&bytes[..filled]);
     let outcome = read.outcome;

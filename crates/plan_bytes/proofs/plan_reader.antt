@@ -1,3 +1,3 @@
 pub mod Head
-pub mod Answers
 pub mod Section
+pub mod Answers

@@ -1,3 +1,1 @@
-pub mod Head
-pub mod NextEntry
 pub mod inner

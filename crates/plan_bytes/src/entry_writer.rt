@@ -2,23 +2,23 @@
 // 2.12.
 use encoding::has_room;
 use encoding::write_number;
-use plans::ENTRY_BYTES;
 use plans::Entry;
+use plans::entry_size;
 ghost use mathlib.Core.Path.{_≡_};
 ghost use lib.ListN.{length};
 ghost use Rattle.encoding.specs.Buffers.{roomFault, bufferAfter};
-ghost use Rattle.plans.specs.Entries.{entrySize};
+ghost use Rattle.plans.specs.Entries.{entrySizeOf};
 ghost use Rattle.plans.specs.Writing.{entryBytes};
 
-// Stores an entry's 11 bytes from position at: kind, set, length; other bytes stay. Without room it stores nothing.
+// Stores an entry's bytes from position at: kind, set, length; other bytes stay. Without room it stores nothing.
 pub fn write_entry(entry: Entry, section: &mut [u8], at: usize)
     ensures { λ _. ⌜
         now (section .exit)
-        ≡ bufferAfter (roomFault entrySize (length (now (section .entry))) at) (entryBytes entry)
+        ≡ bufferAfter (roomFault (entrySizeOf entry) (length (now (section .entry))) at) (entryBytes entry)
         (now (section .entry)) at
         ⌝ }
 {
-    if has_room(ENTRY_BYTES, section.len(), at) {
+    if has_room(entry_size(entry), section.len(), at) {
         section[at] = entry.kind;
         write_number(entry.set, 8, section, at + 1);
         write_number(entry.length as u64, 2, section, at + 9);

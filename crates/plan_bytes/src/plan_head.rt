@@ -10,7 +10,7 @@ use refusals::Verdict;
 use refusals::first_of;
 ghost use mathlib.Core.Path.{_≡_};
 ghost use Rattle.refusals.specs.Number.{verdictNumber};
-ghost use Rattle.plan_bytes.specs.Head.{headFault};
+ghost use Rattle.plan_bytes.specs.inner.Head.{headFault};
 
 // Clause 2.9: the three counts in the order of their bytes: refuses by 1 where one is not there, and by 3 to 5.
 pub fn check_head(bytes: &[u8]) -> Verdict

@@ -1,21 +1,22 @@
 // From bytes to a plan. A log's reader begins with it, and so does the viewer. Specification, section 2.
-use crate::entry_reader::Next;
-use crate::entry_reader::next_entry;
+use crate::entry_reader::entry_of;
 use crate::plan_head::check_head;
 use encoding::Outcome;
+use plan_checks::check_kind;
+use plan_checks::check_length;
+use plan_checks::check_set;
 use plans::ENTRIES;
 use plans::ENTRY_BYTES;
 use plans::Entry;
 use plans::HEAD_BYTES;
 use plans::Plan;
 use plans::Read;
-use plans::plan_size;
+use plans::entry_size;
 use refusals::Refusal;
 use refusals::Verdict;
 ghost use mathlib.Core.Path.{_≡_};
 ghost use mathlib.Core.Bool.{cond};
 ghost use lib.Dec.{eqb};
-ghost use lib.ListN.{getD};
 ghost use Rattle.refusals.specs.Due.{said};
 ghost use Rattle.encoding.specs.Buffers.{outcomeSays};
 ghost use Rattle.plans.specs.Entries.{planSize};
@@ -44,13 +45,13 @@ fn refused(refusal: Refusal) -> Read
     }
 }
 
-// Clause 2.8: the plan of the counts and these entries, and how many bytes it took.
-fn whole(bytes: &[u8], entries: [Entry; ENTRIES]) -> Read
+// Clause 2.8: the plan of the counts and these entries, which took so many bytes.
+fn whole(bytes: &[u8], entries: [Entry; ENTRIES], taken: usize) -> Read
     requires { ⌜ CountsThere (now bytes) ⌝ }
-    ensures { λ r. ⌜ r ≡ wholeRead (now (bytes .entry)) entries ⌝ }
+    ensures { λ r. ⌜ r ≡ wholeRead (now (bytes .entry)) entries taken ⌝ }
 {
     Read {
-        outcome: Outcome::Bytes(plan_size(bytes[2])),
+        outcome: Outcome::Bytes(taken),
         plan: Plan {
             processors: bytes[0],
             resources: bytes[1],
@@ -64,27 +65,44 @@ fn whole(bytes: &[u8], entries: [Entry; ENTRIES]) -> Read
 fn read_entries(bytes: &[u8]) -> Read
     requires { ⌜ CountsThere (now bytes) ⌝ }
     ensures outcome { λ r. ⌜
-        outcomeSays (r .outcome) ≡ said (bodyFault (now (bytes .entry))) (planSize (getD (now (bytes .entry)) 2 0))
+        outcomeSays (r .outcome) ≡ said (bodyFault (now (bytes .entry))) (planSize (planIn (now (bytes .entry))))
         ⌝ }
     ensures plan { λ r. ⌜
         r .plan ≡ cond (eqb (bodyFault (now (bytes .entry))) 0) (planIn (now (bytes .entry))) blankPlan
         ⌝ }
 {
-    let resources = bytes[1];
     let count = bytes[2] as usize;
     let mut entries = [BLANK; ENTRIES];
     let mut at: usize = HEAD_BYTES;
     let mut i: usize = 0;
-    while i < count {
-        let next = next_entry(&bytes[at..], resources);
-        match next {
-            Next::Met(entry) => entries[i] = entry,
-            Next::Fault(refusal) => return refused(refusal),
+    let verdict = loop {
+        if count <= i {
+            break Verdict::Accepted;
         }
-        at += ENTRY_BYTES;
+        if bytes.len() - at < ENTRY_BYTES {
+            break Verdict::Refused(Refusal::Short);
+        }
+        let entry = entry_of(&bytes[at..]);
+        let kind = check_kind(entry);
+        if let Verdict::Refused(refusal) = kind {
+            break Verdict::Refused(refusal);
+        }
+        let set = check_set(entry, bytes[1]);
+        if let Verdict::Refused(refusal) = set {
+            break Verdict::Refused(refusal);
+        }
+        let length = check_length(entry);
+        if let Verdict::Refused(refusal) = length {
+            break Verdict::Refused(refusal);
+        }
+        entries[i] = entry;
+        at += entry_size(entry);
         i += 1;
+    };
+    match verdict {
+        Verdict::Accepted => whole(bytes, entries, at),
+        Verdict::Refused(refusal) => refused(refusal),
     }
-    whole(bytes, entries)
 }
 
 // Clause 2.8: the plan and the number of bytes that it took, or the refusal. What stands behind it is left alone.

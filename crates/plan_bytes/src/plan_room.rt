@@ -2,18 +2,19 @@
 // bytes. Specification, clauses 2.12 and 8.2.
 use encoding::check_room;
 use plans::Plan;
-use plans::plan_size;
 use refusals::Verdict;
 use refusals::first_of;
 ghost use mathlib.Core.Path.{_≡_};
 ghost use Rattle.refusals.specs.Number.{verdictNumber};
-ghost use Rattle.plans.specs.Writing.{writeFault};
+ghost use Rattle.refusals.specs.Due.{firstOf};
+ghost use Rattle.encoding.specs.Buffers.{roomFault};
+ghost use Rattle.plans.specs.Acceptance.{planFault};
 
-// Clause 8.2: refuses first by 3 to 8 for the plan, then by 16 for the room in a buffer of that size.
-pub fn check_writing(plan: Plan, size: usize, at: usize) -> Verdict
-    ensures { λ r. ⌜ verdictNumber r ≡ writeFault plan size at ⌝ }
+// Clause 8.2: refuses first by 3 to 8 for the plan, then by 16 for the room of so many bytes in a buffer of that size.
+pub fn check_writing(plan: Plan, needed: usize, size: usize, at: usize) -> Verdict
+    ensures { λ r. ⌜ verdictNumber r ≡ firstOf (planFault plan) (roomFault needed size at) ⌝ }
 {
     let value = plan_checks::check(plan);
-    let room = check_room(plan_size(plan.count), size, at);
+    let room = check_room(needed, size, at);
     first_of(value, room)
 }

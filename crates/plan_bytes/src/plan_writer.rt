@@ -3,29 +3,31 @@ use crate::entry_writer::write_entry;
 use crate::plan_room::check_writing;
 use encoding::Outcome;
 use plans::ENTRIES;
-use plans::ENTRY_BYTES;
 use plans::Entry;
 use plans::HEAD_BYTES;
 use plans::Plan;
+use plans::entry_size;
 use plans::plan_size;
 use refusals::Verdict;
 ghost use mathlib.Core.Path.{_≡_};
-ghost use Prim.Native.Nat.{_+_, _*_, _≤_};
+ghost use Prim.Native.Nat.{_+_, _≤_};
 ghost use lib.ListN.{length, take};
 ghost use lib.Seq.{sets};
 ghost use Rattle.encoding.specs.Buffers.{overwritten, outcomeSays};
-ghost use Rattle.plans.specs.Entries.{mostEntries, entrySize, planSize};
+ghost use Rattle.plans.specs.Entries.{mostEntries, sectionSize, planSize};
 ghost use Rattle.plans.specs.Writing.{sectionBytes, planBytes, writeSays, writtenBuffer};
 
 // Stores the first count entries from the start of the section.
 fn write_section(entries: [Entry; ENTRIES], count: usize, section: &mut [u8])
-    requires { ⌜ (count ≤ mostEntries) × (entrySize * count ≤ length (now section)) ⌝ }
+    requires { ⌜ (count ≤ mostEntries) × (sectionSize (take count entries) ≤ length (now section)) ⌝ }
     ensures { λ _. ⌜ now (section .exit) ≡ sets (now (section .entry)) 0 (sectionBytes (take count entries)) ⌝ }
 {
     let mut i = 0;
+    let mut at = 0;
     while i < count {
         let entry = entries[i];
-        write_entry(entry, section, ENTRY_BYTES * i);
+        write_entry(entry, section, at);
+        at += entry_size(entry);
         i += 1;
     }
 }
@@ -33,7 +35,7 @@ fn write_section(entries: [Entry; ENTRIES], count: usize, section: &mut [u8])
 // Stores the plan from position at, where there is room for it: the counts, then the entries into the rest of the
 // buffer.
 fn write_plan(plan: Plan, buffer: &mut [u8], at: usize)
-    requires { ⌜ (plan .count ≤ mostEntries) × (at + planSize (plan .count) ≤ length (now buffer)) ⌝ }
+    requires { ⌜ (plan .count ≤ mostEntries) × (at + planSize plan ≤ length (now buffer)) ⌝ }
     ensures { λ _. ⌜ now (buffer .exit) ≡ overwritten (now (buffer .entry)) at (planBytes plan) ⌝ }
 {
     let count = plan.count as usize;
@@ -51,8 +53,8 @@ pub fn write(plan: Plan, buffer: &mut [u8], at: usize) -> Outcome
     ensures outcome { λ r. ⌜ outcomeSays r ≡ writeSays plan (now (buffer .entry)) at ⌝ }
     ensures bytes { λ _. ⌜ now (buffer .exit) ≡ writtenBuffer plan (now (buffer .entry)) at ⌝ }
 {
-    let verdict = check_writing(plan, buffer.len(), at);
-    let size = plan_size(plan.count);
+    let size = plan_size(plan);
+    let verdict = check_writing(plan, size, buffer.len(), at);
     match verdict {
         Verdict::Accepted => {
             write_plan(plan, buffer, at);

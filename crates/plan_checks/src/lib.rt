@@ -7,4 +7,6 @@ pub use acceptance::check;
 pub use plan_counts::check_entry_count;
 pub use plan_counts::check_processors;
 pub use plan_counts::check_resources;
-pub use plan_entries::check_entry;
+pub use plan_entries::check_kind;
+pub use plan_entries::check_length;
+pub use plan_entries::check_set;

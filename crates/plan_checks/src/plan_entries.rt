@@ -10,15 +10,36 @@ use refusals::first_of;
 use refusals::refuse_unless;
 ghost use mathlib.Core.Path.{_≡_};
 ghost use Rattle.refusals.specs.Number.{verdictNumber};
-ghost use Rattle.plans.specs.Acceptance.{entryFault};
+ghost use Rattle.plans.specs.Acceptance.{kindFault, setFault, lengthFault, entryFault};
 
-// An entry of a plan with so many resources: 6, 7, 8.
+// Clause 2.6: refuses by 6.
+pub fn check_kind(entry: Entry) -> Verdict
+    ensures { λ r. ⌜ verdictNumber r ≡ kindFault entry ⌝ }
+{
+    refuse_unless(is_read(entry) | is_write(entry), Refusal::Kind)
+}
+
+// Clause 2.7: refuses by 7 the names of an entry of a plan with so many resources.
+pub fn check_set(entry: Entry, resources: u8) -> Verdict
+    ensures { λ r. ⌜ verdictNumber r ≡ setFault resources entry ⌝ }
+{
+    let named = (entry.set != 0) & below64(entry.set, resources as u32);
+    refuse_unless(named, Refusal::Set)
+}
+
+// Clause 2.7: refuses by 8.
+pub fn check_length(entry: Entry) -> Verdict
+    ensures { λ r. ⌜ verdictNumber r ≡ lengthFault entry ⌝ }
+{
+    refuse_unless(0 < entry.length, Refusal::Length)
+}
+
+// Clause 2.9: an entry of a plan with so many resources: 6, 7, 8.
 pub fn check_entry(entry: Entry, resources: u8) -> Verdict
     ensures { λ r. ⌜ verdictNumber r ≡ entryFault resources entry ⌝ }
 {
-    let kind = refuse_unless(is_read(entry) | is_write(entry), Refusal::Kind);
-    let named = (entry.set != 0) & below64(entry.set, resources as u32);
-    let set = refuse_unless(named, Refusal::Set);
-    let length = refuse_unless(0 < entry.length, Refusal::Length);
+    let kind = check_kind(entry);
+    let set = check_set(entry, resources);
+    let length = check_length(entry);
     first_of(kind, first_of(set, length))
 }

@@ -10,10 +10,11 @@ use Rattle.refusals.proofs.Numbers.{first-accepted}
 use Rattle.encoding.specs.Buffers.{overwritten, bufferAfter}
 use Rattle.encoding.proofs.Room.{room-fits, fits-room}
 use Rattle.plans.specs.declared.Plan.{Plan}
-use Rattle.plans.specs.Entries.{mostEntries, headSize, planSize}
+use Rattle.plans.specs.Entries.{mostEntries, headSize, sectionSize, planSize}
 use Rattle.plans.specs.Acceptance.{countsFault, entriesFault, planFault}
 use Rattle.plans.specs.Reading.{entriesIn, sectionFault, readFault, planIn, planRead}
 use Rattle.plans.specs.Writing.{planBytes, writeFault, writeSays, writtenBuffer}
+use Rattle.plans.proofs.PlanBytes.{counted-planIn}
 use Rattle.plans.proofs.Faults.{counts-at-most, section-fault, section-length, read-fault, read-length}
 
 -- ---- a plan value
@@ -36,7 +37,7 @@ pub record Taken (s : List ℕ) : Type 0 where
   pub counts : countsFault (getD s 0 0) (getD s 1 0) (getD s 2 0) ≡ 0
   pub entries : entriesFault (getD s 1 0) (entriesIn (getD s 2 0) (drop headSize s)) ≡ 0
   pub few : getD s 2 0 ≤ mostEntries
-  pub inside : planSize (getD s 2 0) ≤ length s
+  pub inside : planSize (planIn s) ≤ length s
 
 pub taken : (s : List ℕ) → readFault s ≡ 0 → Taken s
 taken s e =
@@ -49,24 +50,24 @@ taken s e =
       counts = both .first;
       entries = sym (section-fault (getD s 1 0) (getD s 2 0) (drop headSize s) long) ∙ both .later;
       few = counts-at-most (getD s 0 0) (getD s 1 0) (getD s 2 0) (both .first);
-      inside = omega (arith, length-drop headSize s);
+      inside = omega (arith, length-drop headSize s, ap sectionSize (counted-planIn s));
     }
 
 -- ---- a writing
 
 module _ (p : Plan) (buffer : List ℕ) (at : ℕ) where
-  pub accepted-room : planFault p ≡ 0 → at + planSize (p .count) ≤ length buffer → writeFault p (length buffer) at ≡ 0
+  pub accepted-room : planFault p ≡ 0 → at + planSize p ≤ length buffer → writeFault p (length buffer) at ≡ 0
   unfolding writeFault
-  accepted-room e room = rw (e, fits-room (planSize (p .count)) (length buffer) at room)
+  accepted-room e room = rw (e, fits-room (planSize p) (length buffer) at room)
 
   module _ (e : writeFault p (length buffer) at ≡ 0) where
-    pub accepted-fits : (planFault p ≡ 0) × (at + planSize (p .count) ≤ length buffer)
+    pub accepted-fits : (planFault p ≡ 0) × (at + planSize p ≤ length buffer)
     unfolding writeFault
     accepted-fits =
         let both = first-accepted (planFault p) _ e in
-        (both .first, room-fits (planSize (p .count)) (length buffer) at (both .later))
+        (both .first, room-fits (planSize p) (length buffer) at (both .later))
 
-    pub accepted-says : writeSays p buffer at ≡ said 0 (planSize (p .count))
+    pub accepted-says : writeSays p buffer at ≡ said 0 (planSize p)
     accepted-says = rw e
 
     pub accepted-buffer : writtenBuffer p buffer at ≡ overwritten buffer at (planBytes p)

@@ -1,5 +1,5 @@
--- An entry and its 11 bytes are one another's inverse, and so are entries and their section. Assumes nothing.
-use Prim.Native.Nat.{ℕ, zero, suc, _+_, _*_, _≤_}
+-- An entry and its bytes are one another's inverse, and so are entries and their section. Assumes nothing.
+use Prim.Native.Nat.{ℕ, zero, suc, _≤_}
 use mathlib.Core.Path.{_≡_, refl, sym, ap, ap₂, _∙_}
 use mathlib.Core.List.{List, [], _∷_, _++_, append-assoc}
 use native.Mathlib.Omega.{arith}
@@ -9,14 +9,16 @@ use Rattle.plans.specs.declared.Entry.{Entry}
 use Rattle.encoding.specs.Numbers.{number, bytesOf}
 use Rattle.encoding.proofs.Bytes.{AreBytes, bytes-tail, bytes-drop, bytes-take, bytes-slice, bytes-none, bytes-cons, bytes-append}
 use Rattle.encoding.proofs.Numbers.{number-bytesOf, bytesOf-number-at, number-below-at, bytes-bytesOf}
+use Rattle.plans.specs.Entries.{entrySize, entrySizeOf, sectionSize}
 use Rattle.plans.specs.Reading.{entryIn, entriesIn}
 use Rattle.plans.specs.Writing.{entryBytes, sectionBytes}
 use Rattle.plans.proofs.Fits.{Fits-entry, Fit-entries}
+use Rattle.plans.proofs.Sizes.{entry-size-least}
 
 -- ---- one entry
 
-pub length-entryBytes : (e : Entry) → length (entryBytes e) ≡ 11
-unfolding entryBytes bytesOf
+pub length-entryBytes : (e : Entry) → length (entryBytes e) ≡ entrySizeOf e
+unfolding entryBytes bytesOf entrySizeOf
 length-entryBytes e = refl
 
 pub bytes-entryBytes : (e : Entry) → Fits-entry e → AreBytes (entryBytes e)
@@ -34,9 +36,10 @@ entryIn-entryBytes e h rest =
     let len : number (bytesOf 2 (e .length)) ≡ e .length = number-bytesOf 2 (e .length) (h .length) in
     λ i. record { kind = e .kind; set = set i; length = len i }
 
--- Eleven bytes that are read and then written.
-pub entryBytes-entryIn : (s : List ℕ) → AreBytes s → 11 ≤ length s → entryBytes (entryIn s) ≡ take 11 s
-unfolding entryBytes entryIn
+-- Bytes that are read as an entry and then written.
+pub entryBytes-entryIn : (s : List ℕ) → AreBytes s → entrySizeOf (entryIn s) ≤ length s
+    → entryBytes (entryIn s) ≡ take (entrySizeOf (entryIn s)) s
+unfolding entryBytes entryIn entrySizeOf
 entryBytes-entryIn [] h l = absurd (omega arith)
 entryBytes-entryIn (k ∷ s) h l =
     let bytes : AreBytes s = bytes-tail k s h in
@@ -51,13 +54,13 @@ entryBytes-entryIn (k ∷ s) h l =
     in
     ap (λ t. k ∷ t) (ap₂ (λ a b. a ++ b) set len ∙ both)
 
-pub fits-entryIn : (s : List ℕ) → AreBytes s → 11 ≤ length s → Fits-entry (entryIn s)
+pub fits-entryIn : (s : List ℕ) → AreBytes s → entrySize ≤ length s → Fits-entry (entryIn s)
 unfolding entryIn
 fits-entryIn s h l =
     record {
       kind = h 0 (omega arith);
       set = number-below-at 8 (slice 1 9 s) (bytes-slice 1 9 s h) (length-slice 1 9 s (omega arith));
-      length = number-below-at 2 (slice 9 11 s) (bytes-slice 9 11 s h) (length-slice 9 11 s l);
+      length = number-below-at 2 (slice 9 entrySize s) (bytes-slice 9 entrySize s h) (length-slice 9 entrySize s l);
     }
 
 -- ---- the entries of a section
@@ -65,10 +68,10 @@ fits-entryIn s h l =
 pub length-entriesIn : (n : ℕ) (s : List ℕ) → length (entriesIn n s) ≡ n
 unfolding entriesIn
 length-entriesIn zero s = refl
-length-entriesIn (suc n) s = ap suc (length-entriesIn n (drop 11 s))
+length-entriesIn (suc n) s = ap suc (length-entriesIn n (drop (entrySizeOf (entryIn s)) s))
 
-pub length-sectionBytes : (es : List Entry) → length (sectionBytes es) ≡ 11 * length es
-unfolding sectionBytes
+pub length-sectionBytes : (es : List Entry) → length (sectionBytes es) ≡ sectionSize es
+unfolding sectionBytes sectionSize
 length-sectionBytes [] = refl
 length-sectionBytes (e ∷ es) =
     omega (arith, length-append (entryBytes e) (sectionBytes es), length-entryBytes e, length-sectionBytes es)
@@ -91,28 +94,41 @@ entriesIn-sectionBytes (e ∷ es) h rest =
     rw (
       append-assoc (entryBytes e) (sectionBytes es) rest,
       entryIn-entryBytes e first (sectionBytes es ++ rest),
-      drop-at (entryBytes e) (sectionBytes es ++ rest) 11 (length-entryBytes e),
+      drop-at (entryBytes e) (sectionBytes es ++ rest) (entrySizeOf e) (length-entryBytes e),
       entriesIn-sectionBytes es later rest,
     )
 
+module _ (n : ℕ) (s : List ℕ) (l : sectionSize (entriesIn (suc n) s) ≤ length s) where
+  -- The first entry is there, and the later ones behind it.
+  pub first-there : entrySizeOf (entryIn s) ≤ length s
+  unfolding entriesIn sectionSize
+  first-there = omega arith
+
+  pub later-there : sectionSize (entriesIn n (drop (entrySizeOf (entryIn s)) s))
+      ≤ length (drop (entrySizeOf (entryIn s)) s)
+  unfolding entriesIn sectionSize
+  later-there = simp length-drop (omega arith)
+
 -- Bytes that are read as n entries and then written.
-pub sectionBytes-entriesIn : (n : ℕ) (s : List ℕ) → AreBytes s → 11 * n ≤ length s
-    → sectionBytes (entriesIn n s) ≡ take (11 * n) s
-unfolding sectionBytes entriesIn
+pub sectionBytes-entriesIn : (n : ℕ) (s : List ℕ) → AreBytes s → sectionSize (entriesIn n s) ≤ length s
+    → sectionBytes (entriesIn n s) ≡ take (sectionSize (entriesIn n s)) s
+unfolding sectionBytes entriesIn sectionSize
 sectionBytes-entriesIn zero s h l = refl
 sectionBytes-entriesIn (suc n) s h l =
-    let more : 11 * suc n ≡ 11 + 11 * n = omega arith in
+    let k = entrySizeOf (entryIn s) in
     rw (
-      more,
-      take-add 11 (11 * n) s,
-      entryBytes-entryIn s h (omega arith),
-      sectionBytes-entriesIn n (drop 11 s) (bytes-drop 11 s h) (omega (arith, length-drop 11 s)),
+      take-add k (sectionSize (entriesIn n (drop k s))) s,
+      entryBytes-entryIn s h (first-there n s l),
+      sectionBytes-entriesIn n (drop k s) (bytes-drop k s h) (later-there n s l),
     )
 
 -- What is read from bytes fits.
-pub fit-entriesIn : (n : ℕ) (s : List ℕ) → AreBytes s → 11 * n ≤ length s → Fit-entries (entriesIn n s)
+pub fit-entriesIn : (n : ℕ) (s : List ℕ) → AreBytes s → sectionSize (entriesIn n s) ≤ length s
+    → Fit-entries (entriesIn n s)
 unfolding entriesIn
 fit-entriesIn zero s h l i inside = absurd (omega arith)
-fit-entriesIn (suc n) s h l zero inside = fits-entryIn s h (omega arith)
+fit-entriesIn (suc n) s h l zero inside =
+    fits-entryIn s h (omega (arith, first-there n s l, entry-size-least (entryIn s)))
 fit-entriesIn (suc n) s h l (suc i) inside =
-    fit-entriesIn n (drop 11 s) (bytes-drop 11 s h) (omega (arith, length-drop 11 s)) i (omega arith)
+    let k = entrySizeOf (entryIn s) in
+    fit-entriesIn n (drop k s) (bytes-drop k s h) (later-there n s l) i (omega arith)

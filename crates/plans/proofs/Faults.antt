@@ -1,5 +1,5 @@
 -- The first fault of a plan's bytes is that of the plan value they hold. Assumes nothing.
-use Prim.Native.Nat.{ℕ, zero, suc, _*_, _≤_}
+use Prim.Native.Nat.{ℕ, zero, suc, _≤_}
 use mathlib.Core.Path.{_≡_, refl}
 use mathlib.Core.List.{List}
 use native.Mathlib.Omega.{arith}
@@ -11,9 +11,11 @@ use Rattle.refusals.specs.Due.{due, firstOf}
 use Rattle.refusals.proofs.Numbers.{first-accepted, first-of-four, due-accepted}
 use Rattle.encoding.specs.Buffers.{shortFault}
 use Rattle.encoding.proofs.Room.{enough-at, enough-length}
-use Rattle.plans.specs.Entries.{mostEntries, headSize, entrySize}
+use Rattle.plans.specs.Entries.{mostEntries, headSize, entrySize, entrySizeOf, sectionSize}
 use Rattle.plans.specs.Acceptance.{within, processorsFault, resourcesFault, countFault, countsFault, entryFault, entriesFault}
 use Rattle.plans.specs.Reading.{entryIn, entriesIn, sectionFault, readFault}
+use Rattle.plans.proofs.Sizes.{entry-size-least, entry-size-due}
+use Rattle.plans.proofs.EntryBytes.{first-there, later-there}
 
 -- ---- the counts
 
@@ -29,19 +31,30 @@ counts-at-most m n k e =
 
 -- ---- the entries
 
-pub section-fault : (r n : ℕ) (s : List ℕ) → entrySize * n ≤ length s → sectionFault r n s ≡ entriesFault r (entriesIn n s)
+pub section-fault : (r n : ℕ) (s : List ℕ) → sectionSize (entriesIn n s) ≤ length s
+    → sectionFault r n s ≡ entriesFault r (entriesIn n s)
 unfolding sectionFault entriesFault entriesIn
 section-fault r zero s l = refl
 section-fault r (suc n) s l =
-    rw (enough-at entrySize s (omega arith), section-fault r n (drop entrySize s) (omega (arith, length-drop entrySize s)))
+    rw (
+      enough-at entrySize s (omega (arith, first-there n s l, entry-size-least (entryIn s))),
+      section-fault r n (drop (entrySizeOf (entryIn s)) s) (later-there n s l),
+    )
 
-pub section-length : (r n : ℕ) (s : List ℕ) → sectionFault r n s ≡ 0 → entrySize * n ≤ length s
-unfolding sectionFault
+pub section-length : (r n : ℕ) (s : List ℕ) → sectionFault r n s ≡ 0 → sectionSize (entriesIn n s) ≤ length s
+unfolding sectionFault entriesIn sectionSize
 section-length r zero s e = omega arith
 section-length r (suc n) s e =
+    let k = entrySizeOf (entryIn s) in
     let both = first-accepted (shortFault entrySize s) _ e in
     let later = first-accepted (entryFault r (entryIn s)) _ (both .later) .later in
-    omega (arith, enough-length entrySize s (both .first), section-length r n (drop entrySize s) later, length-drop entrySize s)
+    omega (
+      arith,
+      enough-length entrySize s (both .first),
+      entry-size-due (entryIn s),
+      section-length r n (drop k s) later,
+      length-drop k s,
+    )
 
 -- ---- a whole plan
 

@@ -1,6 +1,7 @@
 pub mod Flags
 pub mod Counted
 pub mod Fits
+pub mod Sizes
 pub mod EntryBytes
 pub mod Faults
 pub mod PlanBytes

@@ -1,5 +1,5 @@
 -- A plan with at most 64 entries and its bytes: how many there are, and each made from the other. Assumes nothing.
-use Prim.Native.Nat.{ℕ, _-_, _*_, _≤_, _<_}
+use Prim.Native.Nat.{ℕ, _-_, _≤_, _<_}
 use mathlib.Core.Path.{_≡_, refl, sym, ap, _∙_}
 use mathlib.Core.List.{List, [], _∷_, _++_}
 use native.Mathlib.Omega.{arith}
@@ -8,7 +8,7 @@ use lib.Seq.{getD-take, length-take-le, take-at, take-add}
 use Rattle.plans.specs.declared.Entry.{Entry}
 use Rattle.plans.specs.declared.Plan.{Plan}
 use Rattle.encoding.proofs.Bytes.{AreBytes, bytes-cons, bytes-drop}
-use Rattle.plans.specs.Entries.{mostEntries, planSize, countedEntries, blankEntry, Same}
+use Rattle.plans.specs.Entries.{mostEntries, sectionSize, planSize, countedEntries, blankEntry, Same}
 use Rattle.plans.specs.Reading.{entriesIn, planIn}
 use Rattle.plans.specs.Writing.{sectionBytes, planBytes}
 use Rattle.plans.proofs.Fits.{Fits-entry, Fit-entries, Fits-plan}
@@ -19,9 +19,9 @@ use Rattle.plans.proofs.EntryBytes.{length-sectionBytes, bytes-sectionB
 pub length-counted : (p : Plan) → length (p .entries) ≡ mostEntries → p .count ≤ mostEntries → length (countedEntries p) ≡ p .count
 length-counted p size h = length-take-le (p .count) (p .entries) (omega arith)
 
-pub length-planBytes : (p : Plan) → length (p .entries) ≡ mostEntries → p .count ≤ mostEntries → length (planBytes p) ≡ planSize (p .count)
+pub length-planBytes : (p : Plan) → length (planBytes p) ≡ planSize p
 unfolding planBytes
-length-planBytes p size h = omega (arith, length-sectionBytes (countedEntries p), length-counted p size h)
+length-planBytes p = omega (arith, length-sectionBytes (countedEntries p))
 
 fit-counted : (p : Plan) → Fits-plan p → Fit-entries (countedEntries p)
 fit-counted p f i l =
@@ -61,18 +61,22 @@ same-planIn p f h rest =
       entries = sym (counted-planIn (planBytes p ++ rest) ∙ entries-written p f h rest);
     }
 
-pub planBytes-planIn : (s : List ℕ) → AreBytes s → planSize (getD s 2 0) ≤ length s
-    → planBytes (planIn s) ≡ take (planSize (getD s 2 0)) s
+pub planBytes-planIn : (s : List ℕ) → AreBytes s → planSize (planIn s) ≤ length s
+    → planBytes (planIn s) ≡ take (planSize (planIn s)) s
 unfolding planBytes planIn
 planBytes-planIn [] h l = absurd (omega arith)
 planBytes-planIn (m ∷ []) h l = absurd (omega arith)
 planBytes-planIn (m ∷ n ∷ []) h l = absurd (omega arith)
 planBytes-planIn (m ∷ n ∷ k ∷ s) h l =
     let whole = m ∷ n ∷ k ∷ s in
-    let section : sectionBytes (countedEntries (planIn whole)) ≡ take (11 * k) s =
-    ap sectionBytes (counted-planIn whole) ∙ sectionBytes-entriesIn k s (bytes-drop 3 whole h) (omega arith)
+    let held = countedEntries (planIn whole) in
+    let size : sectionSize held ≡ sectionSize (entriesIn k s) = ap sectionSize (counted-planIn whole) in
+    let section : sectionBytes held ≡ take (sectionSize held) s =
+    ap sectionBytes (counted-planIn whole)
+    ∙ sectionBytes-entriesIn k s (bytes-drop 3 whole h) (omega arith)
+    ∙ ap (λ z. take z s) (sym size)
     in
-    ap (λ t. m ∷ n ∷ k ∷ t) section ∙ sym (take-add 3 (11 * k) whole)
+    ap (λ t. m ∷ n ∷ k ∷ t) section ∙ sym (take-add 3 (sectionSize held) whole)
 
 pub size-planIn : (s : List ℕ) → getD s 2 0 ≤ mostEntries → length (planIn s .entries) ≡ mostEntries
 unfolding planIn
@@ -82,7 +86,8 @@ size-planIn s l =
     omega (arith, length-append read blank, length-entriesIn (getD s 2 0) (drop 3 s), length-replicate (mostEntries - getD s 2 0) blankEntry)
 
 -- What is read from bytes fits.
-pub fits-planIn : (s : List ℕ) → AreBytes s → planSize (getD s 2 0) ≤ length s → getD s 2 0 ≤ mostEntries → Fits-plan (planIn s)
+pub fits-planIn : (s : List ℕ) → AreBytes s → planSize (planIn s) ≤ length s → getD s 2 0 ≤ mostEntries
+    → Fits-plan (planIn s)
 unfolding planIn
 fits-planIn s h l k =
     record {
@@ -103,4 +108,5 @@ fits-planIn s h l k =
     read-fit i inside =
         let known : i < length read = omega (arith, length-entriesIn count (drop 3 s)) in
         rw (List·getD-append read (replicate (mostEntries - count) blankEntry) blankEntry i known)
-        (fit-entriesIn count (drop 3 s) (bytes-drop 3 s h) (omega (arith, length-drop 3 s)) i known)
+        (fit-entriesIn count (drop 3 s) (bytes-drop 3 s h)
+        (omega (arith, length-drop 3 s, ap sectionSize (counted-planIn s))) i known)

@@ -10,14 +10,15 @@ use Rattle.refusals.proofs.Numbers.{first-same, first-refuses, said-refusal}
 use Rattle.encoding.specs.Buffers.{overwritten}
 use Rattle.encoding.proofs.Bytes.{AreBytes}
 use Rattle.plans.specs.declared.Plan.{Plan}
-use Rattle.plans.specs.Entries.{mostEntries, entrySize, planSize, countedEntries, Same}
+use Rattle.plans.specs.Entries.{mostEntries, sectionSize, planSize, countedEntries, Same}
 use Rattle.plans.specs.Acceptance.{countsFault, entriesFault, planFault}
-use Rattle.plans.specs.Reading.{sectionFault, readFault, planIn, readSays, planRead}
+use Rattle.plans.specs.Reading.{entriesIn, sectionFault, readFault, planIn, readSays, planRead}
 use Rattle.plans.specs.Writing.{sectionBytes, planBytes, writeFault, writeSays, writtenBuffer}
 use Rattle.plans.proofs.Fits.{Fits-plan}
 use Rattle.plans.proofs.EntryBytes.{length-sectionBytes}
 use Rattle.plans.proofs.Faults.{counts-at-most, section-fault, read-fault}
-use Rattle.plans.proofs.PlanBytes.{length-counted, length-planBytes, entries-written, counted-planIn, same-planIn, planBytes-planIn, size-planIn, fits-planIn}
+use Rattle.plans.proofs.PlanBytes.{length-planBytes, entries-written, counted-planIn}
+use Rattle.plans.proofs.PlanBytes.{same-planIn, planBytes-planIn, size-planIn, fits-planIn}
 use Rattle.plans.proofs.Accepted.{accepted-count, accepted-read, accepted-room, accepted-fits, accepted-says, accepted-buffer, accepted-from, taken}
 
 -- ---- the same fault
@@ -39,12 +40,12 @@ same-fault p f rest =
         → sectionFault (p .resources) (p .count) section ≡ entriesFault (p .resources) (countedEntries p)
     entries e =
         let few = counts-at-most (p .processors) (p .resources) (p .count) e in
-        let long : entrySize * p .count ≤ length section =
+        let long : sectionSize (entriesIn (p .count) section) ≤ length section =
         omega (
           arith,
           length-append (sectionBytes (countedEntries p)) rest,
           length-sectionBytes (countedEntries p),
-          length-counted p (f .size) few,
+          ap sectionSize (entries-written p f few rest),
         )
         in
         section-fault (p .resources) (p .count) section long
@@ -68,16 +69,17 @@ same-refusal p f rest buffer at h =
 
 -- ---- written, then read
 
-pub written-size : (p : Plan) → Fits-plan p → planFault p ≡ 0 → length (planBytes p) ≡ planSize (p .count)
-written-size p f e = length-planBytes p (f .size) (accepted-count p e)
+pub written-size : (p : Plan) → length (planBytes p) ≡ planSize p
+written-size p = length-planBytes p
 
 -- Clause 2.13: the same plan and the same number of bytes, whatever bytes follow.
 pub written-then-read : (p : Plan) (rest : List ℕ) → Fits-plan p → planFault p ≡ 0
-    → (readSays (planBytes p ++ rest) ≡ said 0 (planSize (p .count))) × Same p (planRead (planBytes p ++ rest))
+    → (readSays (planBytes p ++ rest) ≡ said 0 (planSize p)) × Same p (planRead (planBytes p ++ rest))
 unfolding planBytes
 written-then-read p rest f e =
     let accepted = same-fault p f rest ∙ e in
-    (rw accepted, rw (accepted-read (planBytes p ++ rest) accepted) (same-planIn p f (accepted-count p e) rest))
+    let same = same-planIn p f (accepted-count p e) rest in
+    (rw (accepted, ← same .entries), rw (accepted-read (planBytes p ++ rest) accepted) same)
 
 -- Clause 2.13: what the writer wrote is read from the position as the same plan, and as many bytes as the writer said.
 pub written-in-buffer : (p : Plan) (buffer : List ℕ) (at : ℕ) → Fits-plan p → writeFault p (length buffer) at ≡ 0
@@ -91,7 +93,7 @@ written-in-buffer p buffer at f e =
 
 module _ (s : List ℕ) (e : readFault s ≡ 0) where
   -- The bytes that were taken.
-  pub read-then-written : AreBytes s → planBytes (planRead s) ≡ take (planSize (getD s 2 0)) s
+  pub read-then-written : AreBytes s → planBytes (planRead s) ≡ take (planSize (planRead s)) s
   read-then-written h = rw (taken s e .plan) (planBytes-planIn s h (taken s e .inside))
 
   -- The writer takes what the reader took.
@@ -106,21 +108,17 @@ module _ (s : List ℕ) (e : readFault s ≡ 0) where
   pub read-entries : length (planRead s .entries) ≡ mostEntries
   read-entries = rw (taken s e .plan) (size-planIn s (taken s e .few))
 
-  pub read-count : planRead s .count ≡ getD s 2 0
-  unfolding planIn
-  read-count = ap (λ p. p .count) (taken s e .plan)
-
-  pub read-inside : planSize (getD s 2 0) ≤ length s
+  pub read-inside : planSize (planIn s) ≤ length s
   read-inside = taken s e .inside
 
   -- Clause 2.13: with room for it, the writer takes the plan that was read, says what the reader said, and puts back
   -- the bytes that were taken.
-  pub written-back : (buffer : List ℕ) (at : ℕ) → AreBytes s → at + planSize (getD s 2 0) ≤ length buffer
+  pub written-back : (buffer : List ℕ) (at : ℕ) → AreBytes s → at + planSize (planRead s) ≤ length buffer
       → (writeSays (planRead s) buffer at ≡ readSays s)
-      × (writtenBuffer (planRead s) buffer at ≡ overwritten buffer at (take (planSize (getD s 2 0)) s))
+      × (writtenBuffer (planRead s) buffer at ≡ overwritten buffer at (take (planSize (planRead s)) s))
   written-back buffer at h room =
-      let accepted = accepted-room (planRead s) buffer at read-is-accepted (omega (arith, read-count)) in
-      let says : readSays s ≡ said 0 (planSize (getD s 2 0)) = rw e in (
-        accepted-says (planRead s) buffer at accepted ∙ ap (λ n. said 0 (planSize n)) read-count ∙ sym says,
+      let accepted = accepted-room (planRead s) buffer at read-is-accepted room in
+      let says : readSays s ≡ said 0 (planSize (planRead s)) = rw (e, taken s e .plan) in (
+        accepted-says (planRead s) buffer at accepted ∙ sym says,
         accepted-buffer (planRead s) buffer at accepted ∙ ap (λ new. overwritten buffer at new) (read-then-written h),
       )

@@ -2,7 +2,7 @@
 use Prim.Native.Nat.{ℕ, _+_, _*_}
 use mathlib.Core.Path.{_≡_}
 use mathlib.Core.Bool.{Bool, cond}
-use mathlib.Core.List.{List}
+use mathlib.Core.List.{List, [], _∷_}
 use lib.Dec.{eqb, leb}
 use lib.ListN.{take, getD}
 use Rattle.plans.specs.declared.Entry.{Entry}
@@ -32,20 +32,36 @@ isRead e = eqb (e .kind) 0
 abbrev pub isWrite : Entry → Bool
 isWrite e = eqb (e .kind) 1
 
--- Clauses 2.2 and 2.6: the bytes of the three counts, and those of an entry.
+-- Clause 2.2: the bytes of the three counts.
 abbrev pub headSize : ℕ
 headSize = 3
 
+-- Clause 2.6: the bytes of a kind, of names and of a length.
 abbrev pub entrySize : ℕ
 entrySize = 11
 
--- Clause 2.6: the bytes of a plan of n entries.
-abbrev pub planSize : ℕ → ℕ
-planSize n = headSize + entrySize * n
+-- Clause 2.6: the bytes of an entry, and the most that one has.
+unfoldable pub entrySizeOf : Entry → ℕ
+entrySizeOf e = entrySize
+
+abbrev pub largestEntry : ℕ
+largestEntry = entrySize
+
+-- The bytes of entries one after the other.
+unfoldable pub sectionSize : List Entry → ℕ
+sectionSize [] = 0
+sectionSize (e ∷ later) = entrySizeOf e + sectionSize later
 
 -- Clause 2.10: the counted entries. The others play no part.
 abbrev pub countedEntries : Plan → List Entry
 countedEntries p = take (p .count) (p .entries)
+
+-- Clause 2.6: the bytes of a plan, and the most that one has.
+abbrev pub planSize : Plan → ℕ
+planSize p = headSize + sectionSize (countedEntries p)
+
+abbrev pub maxPlanSize : ℕ
+maxPlanSize = headSize + largestEntry * mostEntries
 
 -- What fills the places past the count.
 abbrev pub blankEntry : Entry

@@ -8,7 +8,7 @@ use lib.Seq.{slice}
 use Rattle.refusals.specs.Due.{Said, firstOf, said}
 use Rattle.encoding.specs.Numbers.{number}
 use Rattle.encoding.specs.Buffers.{shortFault}
-use Rattle.plans.specs.Entries.{mostEntries, headSize, entrySize, planSize, blankEntry}
+use Rattle.plans.specs.Entries.{mostEntries, headSize, entrySize, entrySizeOf, planSize, blankEntry}
 use Rattle.plans.specs.Acceptance.{processorsFault, resourcesFault, countFault, entryFault}
 use Rattle.plans.specs.declared.Entry.{Entry}
 use Rattle.plans.specs.declared.Plan.{Plan}
@@ -20,14 +20,14 @@ entryIn s = record { kind = getD s 0 0; set = number (slice 1 9 s); length = num
 -- The first n entries of the bytes s.
 unfoldable pub entriesIn : ℕ → List ℕ → List Entry
 entriesIn zero s = []
-entriesIn (suc n) s = entryIn s ∷ entriesIn n (drop entrySize s)
+entriesIn (suc n) s = entryIn s ∷ entriesIn n (drop (entrySizeOf (entryIn s)) s)
 
 -- Clauses 2.9 and 8.2: the first fault of n entries in the bytes s. Each entry is due (1) before it is looked at.
 unfoldable pub sectionFault : ℕ → ℕ → List ℕ → ℕ
 sectionFault resources zero s = 0
 sectionFault resources (suc n) s =
     firstOf (shortFault entrySize s)
-    (firstOf (entryFault resources (entryIn s)) (sectionFault resources n (drop entrySize s)))
+    (firstOf (entryFault resources (entryIn s)) (sectionFault resources n (drop (entrySizeOf (entryIn s)) s)))
 
 -- Clauses 2.9 and 8.2: the first fault of the bytes s. Each count is due (1) before it is looked at, then the entries.
 unfoldable pub readFault : List ℕ → ℕ
@@ -55,7 +55,7 @@ planIn s =
 
 -- Clause 2.8: how many bytes the plan took, or the refusal. Bytes behind the plan play no part.
 abbrev pub readSays : List ℕ → Said
-readSays s = said (readFault s) (planSize (getD s 2 0))
+readSays s = said (readFault s) (planSize (planIn s))
 
 -- Clause 2.9: the plan beside it, the blank one where the bytes are refused.
 unfoldable pub planRead : List ℕ → Plan

@@ -26,11 +26,11 @@ planBytes p = p .processors ∷ p .resources ∷ p .count ∷ sectionBytes (coun
 -- Clauses 2.12 and 8.2: first 3 to 8 for the plan, then 16 for the room. The buffer has size bytes and the plan goes to
 -- position at.
 unfoldable pub writeFault : Plan → ℕ → ℕ → ℕ
-writeFault p size at = firstOf (planFault p) (roomFault (planSize (p .count)) size at)
+writeFault p size at = firstOf (planFault p) (roomFault (planSize p) size at)
 
 -- Clause 2.12: how many bytes were written, or the refusal.
 abbrev pub writeSays : Plan → List ℕ → ℕ → Said
-writeSays p buffer at = said (writeFault p (length buffer) at) (planSize (p .count))
+writeSays p buffer at = said (writeFault p (length buffer) at) (planSize p)
 
 -- Clause 2.12: the buffer after writing. Bytes beside the plan stay, and on a refusal all do.
 unfoldable pub writtenBuffer : Plan → List ℕ → ℕ → List ℕ

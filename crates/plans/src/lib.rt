@@ -9,6 +9,7 @@ use encoding::Outcome;
 pub use entry_kinds::counted_of;
 pub use entry_kinds::is_read;
 pub use entry_kinds::is_write;
+pub use plan_sizes::entry_size;
 pub use plan_sizes::mask_size;
 pub use plan_sizes::plan_size;
 
@@ -24,8 +25,14 @@ pub const ENTRIES: usize = 64;
 // The bytes of the three counts.
 pub const HEAD_BYTES: usize = 3;
 
-// The bytes of an entry.
+// The bytes of a kind, of names and of a length.
 pub const ENTRY_BYTES: usize = 11;
+
+// The most bytes of an entry.
+pub const MAX_ENTRY_BYTES: usize = ENTRY_BYTES;
+
+// The most bytes of a plan.
+pub const MAX_PLAN_BYTES: usize = HEAD_BYTES + MAX_ENTRY_BYTES * ENTRIES;
 
 // What a request asks for: kind 0 reads and kind 1 writes, bit r of the set names resource r, length is in ticks.
 pub struct Entry {

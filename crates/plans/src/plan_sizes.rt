@@ -1,14 +1,32 @@
-// How many bytes a plan takes, and a mask of it. Specification, clauses 2.6, 7.4, 7.7 and 9.9.
+// How many bytes an entry takes, a plan, and a mask of it. Specification, clauses 2.6, 7.4, 7.7 and 9.9.
 use crate::ENTRY_BYTES;
+use crate::Entry;
 use crate::HEAD_BYTES;
+use crate::Plan;
+use crate::entry_kinds::counted_of;
 ghost use mathlib.Core.Path.{_≡_};
-ghost use Rattle.plans.specs.Entries.{maskSizeFor, planSize};
+ghost use Rattle.plans.specs.Entries.{entrySizeOf, maskSizeFor, planSize};
 
-// The bytes of a plan with so many entries.
-pub fn plan_size(count: u8) -> usize
-    ensures { λ r. ⌜ r ≡ planSize count ⌝ }
+// The bytes of an entry.
+pub fn entry_size(entry: Entry) -> usize
+    ensures { λ r. ⌜ r ≡ entrySizeOf entry ⌝ }
 {
-    HEAD_BYTES + ENTRY_BYTES * count as usize
+    ENTRY_BYTES
+}
+
+// The bytes of a plan: of its counts and of its counted entries.
+pub fn plan_size(plan: Plan) -> usize
+    ensures { λ r. ⌜ r ≡ planSize plan ⌝ }
+{
+    let entries = plan.entries;
+    let count = counted_of(plan.count) as usize;
+    let mut size: usize = HEAD_BYTES;
+    let mut i: usize = 0;
+    while i < count {
+        size += entry_size(entries[i]);
+        i += 1;
+    }
+    size
 }
 
 // The bytes of a mask, where it is printed or laid out, of a plan with so many processors.

@@ -2,7 +2,7 @@
 // entry conflicts with (specification, clause 5.7). Every walk goes through the processors of a mask, one after the
 // other. The masks are of known processors: there is a row for each one's entry, and a place in a set.
 use crate::known_requests::add_if;
-use crate::known_requests::entries_below;
+use masks::has64;
 use masks::meet64;
 use plans::ENTRIES;
 use plans::SLOTS;
@@ -59,11 +59,26 @@ pub fn known_among(entry: &[u8; SLOTS], set: u64, among: u32) -> u32
     out
 }
 
-// Those among any processors whose entries are in the set. An entry that is not known is in none.
+// The set with the place in it, if the row contains the entry. A row contains no entry past its 64 places.
+fn add_if_there(set: u32, place: u32, row: u64, entry: u8) -> u32
+    requires { ⌜ place < 32 ⌝ }
+    ensures { λ r. ⌜ r ≡ cond (bit row entry) (added set place) set ⌝ }
+{
+    add_if(set, place, has64(row, entry as u32))
+}
+
+// The processors of any mask whose entries are in the set.
 pub fn those_in(entry: &[u8; SLOTS], set: u64, among: u32) -> u32
     ensures { λ r. ⌜ r ≡ maskOf slots (λ p. bit among p && bit set (getD (now (entry .entry)) p 0)) ⌝ }
 {
-    known_among(entry, set, entries_below(among, ENTRIES as u8, entry))
+    let mut out: u32 = 0;
+    let mut left = among;
+    while left != 0 {
+        let p = u32::trailing_zeros(left);
+        out = add_if_there(out, p, set, entry_at(entry, p));
+        left = left & (left - 1);
+    }
+    out
 }
 
 // The set of their entries: a row meets it where it has one of them.

@@ -14,9 +14,13 @@ use Rattle.encoding.specs.Buffers.{shortFault}
 use Rattle.encoding.proofs.Room.{enough-at}
 use Rattle.plans.specs.declared.Entry.{Entry}
 use Rattle.plans.specs.declared.Plan.{Plan}
-use Rattle.plans.specs.Entries.{slots, mostResources, mostEntries, isRead, isWrite, headSize, entrySize, planSize}
+use Rattle.plans.specs.Entries.{slots, mostResources, mostEntries, isRead, isWrite}
+use Rattle.plans.specs.Entries.{headSize, entrySize, entrySizeOf, largestEntry, sectionSize, countedEntries}
 use Rattle.plans.specs.Acceptance.{within, processorsFault, resourcesFault, countFault, countsFault, kindFault, setFault, lengthFault, entryFault}
 use Rattle.plans.specs.Reading.{entryIn, entriesIn, sectionFault, readFault, blankPlan, planIn, readSays, planRead}
+use Rattle.plans.proofs.Sizes.{entry-size-least, entry-size-most, entry-size-due}
+use Rattle.plans.proofs.EntryBytes.{first-there, later-there}
+use Rattle.plans.proofs.PlanBytes.{counted-planIn}
 use Rattle.plans.proofs.Faults.{counts-at-most, read-fault, read-length}
 use Rattle.plans.proofs.Accepted.{taken}
 use Rattle.log_input.specs.Stages.{isShort}
@@ -55,23 +59,25 @@ due-same k s t b c h decided = go (leb k (length s)) refl decided
 -- ---- entries
 
 -- An entry that is whole in s is read from s, whatever follows.
-entry-in-front : (s t : List ℕ) → 11 ≤ length s → entryIn (s ++ t) ≡ entryIn s
+entry-in-front : (s t : List ℕ) → entrySize ≤ length s → entryIn (s ++ t) ≡ entryIn s
 unfolding entryIn
 entry-in-front s t h =
     let h0 : 0 < length s = omega arith in
     let nine : 9 ≤ length s = omega arith in
     let set : slice 1 9 (s ++ t) ≡ slice 1 9 s = ap (drop 1) (take-append-le 9 s t nine) in
-    let len : slice 9 11 (s ++ t) ≡ slice 9 11 s = ap (drop 9) (take-append-le 11 s t h) in
+    let len : slice 9 entrySize (s ++ t) ≡ slice 9 entrySize s = ap (drop 9) (take-append-le entrySize s t h) in
     rw (List·getD-append s t 0 0 h0, set, len)
 
 -- The same for the entries of a section.
-entries-in-front : (n : ℕ) (s t : List ℕ) → 11 * n ≤ length s → entriesIn n (s ++ t) ≡ entriesIn n s
+entries-in-front : (n : ℕ) (s t : List ℕ) → sectionSize (entriesIn n s) ≤ length s
+    → entriesIn n (s ++ t) ≡ entriesIn n s
 unfolding entriesIn
 entries-in-front zero s t h = refl
 entries-in-front (suc n) s t h =
-    let one : 11 ≤ length s = omega arith in
-    let later : 11 * n ≤ length (drop 11 s) = simp length-drop (omega arith) in
-    rw (entry-in-front s t one, drop-append-le 11 s t one, entries-in-front n (drop 11 s) t later)
+    let k = entrySizeOf (entryIn s) in
+    let whole : k ≤ length s = first-there n s h in
+    let one : entrySize ≤ length s = omega (arith, entry-size-least (entryIn s)) in
+    rw (entry-in-front s t one, drop-append-le k s t whole, entries-in-front n (drop k s) t (later-there n s h))
 
 -- The same for their first fault, unless it is that they are short.
 section-decided : (r n : ℕ) (s t : List ℕ) → NotShort (sectionFault r n s) → sectionFault r n s ≡ sectionFault r n (s ++ t)
@@ -79,8 +85,11 @@ unfolding sectionFault
 section-decided r zero s t decided = refl
 section-decided r (suc n) s t decided =
     due-same entrySize s t _ _
-    (λ one rest. rw (entry-in-front s t one, drop-append-le 11 s t one)
-    (look-same (entryFault r (entryIn s)) _ _ (λ e later. section-decided r n (drop 11 s) t later) rest))
+    (λ one rest.
+    let k = entrySizeOf (entryIn s) in
+    let whole : k ≤ length s = omega (arith, entry-size-due (entryIn s)) in
+    rw (entry-in-front s t one, drop-append-le k s t whole)
+    (look-same (entryFault r (entryIn s)) _ _ (λ e later. section-decided r n (drop k s) t later) rest))
     decided
 
 entry-not-short : (r : ℕ) (e : Entry) → NotShort (entryFault r e)
@@ -90,13 +99,15 @@ entry-not-short r e =
     (λ z. first-not-short (setFault r e) _ (due-not-short (not (eqb (e .set) 0) && ltb (e .set) (2 ^ r)) 7 (omega arith))
     (λ z′. due-not-short (ltb 0 (e .length)) 8 (omega arith)))
 
-section-not-short : (r n : ℕ) (s : List ℕ) → entrySize * n ≤ length s → NotShort (sectionFault r n s)
+section-not-short : (r n : ℕ) (s : List ℕ) → largestEntry * n ≤ length s → NotShort (sectionFault r n s)
 unfolding sectionFault
 section-not-short r zero s h = λ e. omega arith
 section-not-short r (suc n) s h =
-    let later : 11 * n ≤ length (drop 11 s) = simp length-drop (omega arith) in
+    let k = entrySizeOf (entryIn s) in
+    let later : largestEntry * n ≤ length (drop k s) = simp length-drop (omega (arith, entry-size-most (entryIn s))) in
     rw (enough-at entrySize s (omega arith))
-    (first-not-short (entryFault r (entryIn s)) _ (entry-not-short r (entryIn s)) (λ z. section-not-short r n (drop 11 s) later))
+    (first-not-short (entryFault r (entryIn s)) _ (entry-not-short r (entryIn s))
+    (λ z. section-not-short r n (drop k s) later))
 
 -- ---- a whole plan
 
@@ -141,28 +152,31 @@ module _ (s t : List ℕ) (decided : not (isShort s) ≡ true) where
     three : headSize ≤ length s
     three = read-length s e
 
-    third : getD (s ++ t) 2 0 ≡ getD s 2 0
-    third = List·getD-append s t 0 2 three
-
-    pub size-decided : readSays (s ++ t) .value ≡ readSays s .value
-    size-decided = rw (sym fault-decided ∙ e, e, third)
-
-    pub plan-inside : readSays s .value ≤ length s
-    plan-inside = omega (arith, taken s e .inside, size)
-      where
-        size : readSays s .value ≡ planSize (getD s 2 0)
-        size = rw e
-
-    pub plan-decided : planRead (s ++ t) ≡ planRead s
-    unfolding planRead planIn
-    plan-decided =
-        let inside : 11 * getD s 2 0 ≤ length (drop 3 s) = omega (arith, length-drop 3 s, taken s e .inside) in
+    -- The plan in the bytes is the same.
+    held : planIn (s ++ t) ≡ planIn s
+    unfolding planIn
+    held =
+        let there = taken s e .inside in
+        let size : sectionSize (countedEntries (planIn s)) ≡ sectionSize (entriesIn (getD s 2 0) (drop headSize s)) =
+        ap sectionSize (counted-planIn s)
+        in
+        let inside : sectionSize (entriesIn (getD s 2 0) (drop headSize s)) ≤ length (drop headSize s) =
+        omega (arith, length-drop headSize s)
+        in
         rw (
-          sym fault-decided ∙ e,
-          e,
-          third,
+          List·getD-append s t 0 2 three,
           List·getD-append s t 0 0 (omega (arith, three)),
           List·getD-append s t 0 1 (omega (arith, three)),
-          drop-append-le 3 s t three,
-          entries-in-front (getD s 2 0) (drop 3 s) t inside,
+          drop-append-le headSize s t three,
+          entries-in-front (getD s 2 0) (drop headSize s) t inside,
         )
+
+    pub size-decided : readSays (s ++ t) .value ≡ readSays s .value
+    size-decided = rw (sym fault-decided ∙ e, e, held)
+
+    pub plan-inside : readSays s .value ≤ length s
+    plan-inside = rw e (taken s e .inside)
+
+    pub plan-decided : planRead (s ++ t) ≡ planRead s
+    unfolding planRead
+    plan-decided = rw (sym fault-decided ∙ e, e, held)

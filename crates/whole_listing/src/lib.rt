@@ -1,10 +1,11 @@
 // The sizes of the buffers that `lockreplay` uses, and the theorem over these buffers: what the program writes is the
 // listing of the whole log (proofs/Program.antt). `lockreplay` and `demands` use it.
+use plans::MAX_PLAN_BYTES;
 ghost use mathlib.Core.Path.{_≡_};
 ghost use Rattle.whole_listing.specs.Rooms.{planRoom, blockRoom, linesRoom};
 
 // The program's buffers: for the plan, for a block of the input, and for a block's lines.
-pub const PLAN_ROOM: usize = 707;
+pub const PLAN_ROOM: usize = MAX_PLAN_BYTES;
 
 pub const BLOCK_ROOM: usize = 4096;
 

@@ -15,7 +15,7 @@ use Rattle.plans.specs.Entries.{mostEntries, headSize}
 use Rattle.plans.specs.Acceptance.{processorsFault, resourcesFault, countFault}
 use Rattle.plans.specs.Reading.{readFault}
 use Rattle.plans.proofs.Faults.{within-most}
-use Rattle.plan_bytes.specs.Head.{firstCount, secondCount, thirdCount, headFault}
+use Rattle.plan_bytes.specs.inner.Head.{firstCount, secondCount, thirdCount, headFault}
 use Rattle.plan_bytes.specs.inner.Body.{bodyFault, CountsThere}
 
 module _ (s : List ℕ) where

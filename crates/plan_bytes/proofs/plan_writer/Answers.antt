@@ -7,32 +7,40 @@ use lib.ListN.{length}
 use Rattle.refusals.specs.declared.Refusal.{Refusal}
 use Rattle.refusals.specs.declared.Verdict.{Verdict}
 use Rattle.refusals.specs.Number.{numberOf, verdictNumber}
-use Rattle.refusals.specs.Due.{Said, said}
+use Rattle.refusals.specs.Due.{Said, firstOf, said}
 use Rattle.refusals.proofs.Numbers.{number-not-zero}
-use Rattle.encoding.specs.Buffers.{overwritten}
+use Rattle.encoding.specs.Buffers.{roomFault, overwritten}
 use Rattle.plans.specs.declared.Plan.{Plan}
 use Rattle.plans.specs.Entries.{mostEntries, planSize}
+use Rattle.plans.specs.Acceptance.{planFault}
 use Rattle.plans.specs.Writing.{planBytes, writeFault, writeSays, writtenBuffer}
 use Rattle.plans.proofs.Accepted.{accepted-count, accepted-fits, accepted-says, accepted-buffer}
 
-module _ (p : Plan) (buffer : List ℕ) (at : ℕ) (v : Verdict) (is : verdictNumber v ≡ writeFault p (length buffer) at) where
-  none-due : v ≡ Verdict.Accepted → writeFault p (length buffer) at ≡ 0
-  none-due e = sym is ∙ ap verdictNumber e
+module _
+    (p : Plan) (buffer : List ℕ) (at n : ℕ) (size : n ≡ planSize p)
+    (v : Verdict) (checked : verdictNumber v ≡ firstOf (planFault p) (roomFault n (length buffer) at))
+  where
+    is : verdictNumber v ≡ writeFault p (length buffer) at
+    unfolding writeFault
+    is = checked ∙ rw size
 
-  pub plan-fits : v ≡ Verdict.Accepted → (p .count ≤ mostEntries) × (at + planSize (p .count) ≤ length buffer)
-  plan-fits e =
-      let fits = accepted-fits p buffer at (none-due e) in
-      (accepted-count p (fits .0), fits .1)
+    none-due : v ≡ Verdict.Accepted → writeFault p (length buffer) at ≡ 0
+    none-due e = sym is ∙ ap verdictNumber e
 
-  pub written-answer : v ≡ Verdict.Accepted → (n : ℕ) → n ≡ planSize (p .count)
-      → (after : List ℕ) → after ≡ overwritten buffer at (planBytes p)
-      → (said 0 n ≡ writeSays p buffer at) × (after ≡ writtenBuffer p buffer at)
-  written-answer e n size after stored = (
-    ap (said 0) size ∙ sym (accepted-says p buffer at (none-due e)),
-    stored ∙ sym (accepted-buffer p buffer at (none-due e)),
-  )
+    pub plan-fits : v ≡ Verdict.Accepted → (p .count ≤ mostEntries) × (at + planSize p ≤ length buffer)
+    plan-fits e =
+        let fits = accepted-fits p buffer at (none-due e) in
+        (accepted-count p (fits .0), fits .1)
 
-  pub refused-answer : (r : Refusal) → v ≡ Verdict.Refused r
-      → (_≡_ {A = Said} (record { number = numberOf r; value = 0 }) (writeSays p buffer at)) × (buffer ≡ writtenBuffer p buffer at)
-  unfolding writtenBuffer
-  refused-answer r e = rw (← is, e, number-not-zero r) (refl, refl)
+    pub written-answer : v ≡ Verdict.Accepted → (after : List ℕ) → after ≡ overwritten buffer at (planBytes p)
+        → (said 0 n ≡ writeSays p buffer at) × (after ≡ writtenBuffer p buffer at)
+    written-answer e after stored = (
+      ap (said 0) size ∙ sym (accepted-says p buffer at (none-due e)),
+      stored ∙ sym (accepted-buffer p buffer at (none-due e)),
+    )
+
+    pub refused-answer : (r : Refusal) → v ≡ Verdict.Refused r
+        → (_≡_ {A = Said} (record { number = numberOf r; value = 0 }) (writeSays p buffer at))
+        × (buffer ≡ writtenBuffer p buffer at)
+    unfolding writtenBuffer
+    refused-answer r e = rw (← is, e, number-not-zero r) (refl, refl)

@@ -1,5 +1,5 @@
 -- Runs of stores: of a section's bytes, and into the rest of a list. Assumes nothing.
-use Prim.Native.Nat.{ℕ, suc, _+_, _-_, _*_, _≤_, _<_}
+use Prim.Native.Nat.{ℕ, suc, _+_, _-_, _≤_, _<_}
 use mathlib.Core.Path.{_≡_, refl, sym, _∙_}
 use mathlib.Core.List.{List, append-assoc}
 use native.Mathlib.Omega.{arith}
@@ -11,28 +11,29 @@ use Rattle.encoding.proofs.Room.{stored-where-fits}
 use Rattle.encoding.proofs.Stores.{sets-append, sets-overwritten}
 use Rattle.plans.specs.declared.Entry.{Entry}
 use Rattle.plans.specs.declared.Plan.{Plan}
-use Rattle.plans.specs.Entries.{headSize, entrySize, planSize, countedEntries}
+use Rattle.plans.specs.Entries.{headSize, entrySizeOf, sectionSize, planSize, countedEntries}
 use Rattle.plans.specs.Writing.{entryBytes, sectionBytes, planBytes}
 use Rattle.plans.proofs.Counted.{none-left, next-left}
+use Rattle.plans.proofs.Sizes.{size-left}
 use Rattle.plans.proofs.EntryBytes.{length-entryBytes, length-sectionBytes}
 
 -- A turn stores the next entry, where all n have room.
-pub section-turn : (l next : List ℕ) (es : List Entry) (n i : ℕ) (d : Entry) → i < n → n ≤ length es → entrySize * n ≤ length l
-    → next ≡ bufferAfter (roomFault entrySize (length l) (entrySize * i)) (entryBytes (getD es i d)) l (entrySize * i)
-    → sets next (entrySize * (i + 1)) (sectionBytes (drop (i + 1) (take n es)))
-    ≡ sets l (entrySize * i) (sectionBytes (drop i (take n es)))
+pub section-turn : (l next : List ℕ) (es : List Entry) (n i at size : ℕ) (d : Entry) → i < n → n ≤ length es
+    → size ≡ entrySizeOf (getD es i d) → at + sectionSize (drop i (take n es)) ≤ length l
+    → next ≡ bufferAfter (roomFault (entrySizeOf (getD es i d)) (length l) at) (entryBytes (getD es i d)) l at
+    → sets next (at + size) (sectionBytes (drop (i + 1) (take n es))) ≡ sets l at (sectionBytes (drop i (take n es)))
 unfolding sectionBytes
-section-turn l next es n i d h k room written =
+section-turn l next es n i at size d h k sized room written =
     let e = getD es i d in
-    let fits : entrySize * i + entrySize ≤ length l = omega arith in
-    let stored = written ∙ stored-where-fits l (entrySize * i) (entryBytes e) entrySize (length-entryBytes e) fits in
-    let place : entrySize * (i + 1) ≡ entrySize * i + entrySize = omega arith in
-    rw (stored, next-left n i es d k h, sets-append, length-entryBytes, place)
+    let fits : at + entrySizeOf e ≤ length l = omega (arith, size-left n i es d k h) in
+    let stored = written ∙ stored-where-fits l at (entryBytes e) (entrySizeOf e) (length-entryBytes e) fits in
+    rw (stored, next-left n i es d k h, sets-append, length-entryBytes, sized)
 
 -- All entries are stored when none is left.
-pub section-end : (l : List ℕ) (es : List Entry) (n i : ℕ) → n ≤ i → sets l (entrySize * i) (sectionBytes (drop i (take n es))) ≡ l
+pub section-end : (l : List ℕ) (es : List Entry) (n i at : ℕ) → n ≤ i
+    → sets l at (sectionBytes (drop i (take n es))) ≡ l
 unfolding sectionBytes
-section-end l es n i h = rw (none-left n i es h)
+section-end l es n i at h = rw (none-left n i es h)
 
 -- Stores from the start of a part that is then put back are stores into the whole.
 pub part-stores : (a k : ℕ) (l vs : List ℕ) → length vs ≤ k → a + k ≤ length l → putMid a k l (sets (midOf a k l) 0 vs) ≡ sets l a vs
@@ -60,12 +61,14 @@ abbrev pub afterCounts : List ℕ → ℕ → Plan → ℕ
 afterCounts l at p = length (countsStored l at p) - (at + headSize)
 
 -- The stores of a plan: the counts, then the section into the rest of the buffer.
-pub plan-stores : (l : List ℕ) (at : ℕ) (p : Plan) → at + planSize (p .count) ≤ length l
+pub plan-stores : (l : List ℕ) (at : ℕ) (p : Plan) → at + planSize p ≤ length l
     → putMid (at + headSize) (afterCounts l at p) (countsStored l at p) (sets (midOf (at + headSize) (afterCounts l at p) (countsStored l at p)) 0 (sectionBytes (countedEntries p)))
     ≡ overwritten l at (planBytes p)
 unfolding planBytes
 plan-stores l at p h =
-    let n : length (sectionBytes (countedEntries p)) ≤ entrySize * p .count = simp (length-sectionBytes, length-take) (omega arith) in
+    let n : length (sectionBytes (countedEntries p)) ≡ sectionSize (countedEntries p) =
+    length-sectionBytes (countedEntries p)
+    in
     let fits : length (sectionBytes (countedEntries p)) ≤ afterCounts l at p = simp length-set (omega arith) in
     let room : at + headSize + afterCounts l at p ≤ length (countsStored l at p) = simp length-set (omega arith) in
     let whole : at + length (planBytes p) ≤ length l = omega arith in

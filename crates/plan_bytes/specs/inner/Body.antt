@@ -5,7 +5,7 @@ use lib.ListN.{length, getD, drop}
 use Rattle.encoding.specs.declared.Outcome.{Outcome}
 use Rattle.plans.specs.declared.Entry.{Entry}
 use Rattle.plans.specs.declared.Read.{Read}
-use Rattle.plans.specs.Entries.{mostEntries, headSize, planSize}
+use Rattle.plans.specs.Entries.{mostEntries, headSize}
 use Rattle.plans.specs.Reading.{sectionFault}
 
 -- The first fault of the counted entries.
@@ -17,10 +17,10 @@ pub record CountsThere (s : List ℕ) : Type 0 where
   pub there : headSize ≤ length s
   pub held : getD s 2 0 ≤ mostEntries
 
--- Clause 2.8: the counts in the bytes s with these entries, and how many bytes that plan takes.
-abbrev pub wholeRead : List ℕ → List Entry → Read
-wholeRead s entries =
+-- Clause 2.8: the counts in the bytes s with these entries, which took so many bytes.
+abbrev pub wholeRead : List ℕ → List Entry → ℕ → Read
+wholeRead s entries taken =
     record {
-      outcome = Outcome.Bytes (planSize (getD s 2 0));
+      outcome = Outcome.Bytes taken;
       plan = record { processors = getD s 0 0; resources = getD s 1 0; count = getD s 2 0; entries = entries };
     }

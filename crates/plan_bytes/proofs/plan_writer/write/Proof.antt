@@ -7,24 +7,25 @@ use Rattle.plan_bytes.proofs.plan_writer.write.Tie as tie
 
 write-plan-requires : tie.Need-write-plan-requires
 write-plan-requires c κs =
-    let checked = c .before .before .before .before in
-    let start = checked .before .before in
-    plan-fits (start .args .plan) (start .args .buffer .now) _ _ (checked .check-writing .ensures) (c .before .enum-told .given .1)
+    let checked = c .before .before .before in
+    let a = checked .before .before .before .args in
+    plan-fits (a .plan) (a .buffer .now) _ _ (checked .before .plan-size .ensures) _ (checked .check-writing .ensures)
+    (c .before .enum-told .given .1)
 
 returns : tie.Need-returns
 returns c =
-    let sized = c .before .before .before .before .before .before in
-    let start = sized .before .before .before in
-    written-answer (start .args .plan) (start .args .buffer .now) (start .args .at) _ (sized .before .check-writing .ensures)
-    (c .before .before .before .before .enum-told .given .1)
-    _ (sized .plan-size .ensures) _ (c .before .before .write-plan .ensures)
+    let checked = c .before .before .before .before .before .before in
+    let a = checked .before .before .before .args in
+    written-answer (a .plan) (a .buffer .now) (a .at) _ (checked .before .plan-size .ensures)
+    _ (checked .check-writing .ensures) (c .before .before .before .before .enum-told .given .1)
+    _ (c .before .before .write-plan .ensures)
 
 returns-2 : tie.Need-returns-2
 returns-2 c =
-    let checked = c .before .before .before .before in
-    let start = checked .before .before in
-    refused-answer (start .args .plan) (start .args .buffer .now) (start .args .at) _ (checked .check-writing .ensures)
-    _ (c .before .verdict .given .1)
+    let checked = c .before .before .before in
+    let a = checked .before .before .before .args in
+    refused-answer (a .plan) (a .buffer .now) (a .at) _ (checked .before .plan-size .ensures)
+    _ (checked .check-writing .ensures) _ (c .before .verdict .given .1)
 
 pub write-spec : {M : Type 1} → statement M
 write-spec =

@@ -1,52 +1,54 @@
 -- `write_section` meets its contract. The invariant: storing the entries that are left from here on gives the whole
 -- section. Assumes nothing.
-use Prim.Native.Nat.{_*_, _-_, _≤_}
+use Prim.Native.Nat.{_+_, _-_, _≤_}
 use native.Mathlib.Omega.{arith}
 use mathlib.Core.Path.{_≡_, refl, sym, _∙_}
 use lib.ListN.{length, take, drop}
 use lib.Seq.{sets}
-use Rattle.plans.specs.Entries.{entrySize}
+use Rattle.plans.specs.Entries.{mostEntries, sectionSize}
 use Rattle.plans.specs.Writing.{sectionBytes}
+use Rattle.plans.proofs.Sizes.{sized-most, size-added}
 use Rattle.plan_bytes.proofs.plan_writer.Stores.{section-turn, section-end}
 use borrow.Author.Needs.{needs}
 use Rattle.plan_bytes.proofs.plan_writer.write_section.Statement.{statement}
 use Rattle.plan_bytes.proofs.plan_writer.write_section.Tie as tie
 
 abbrev Inv-loop : tie.InvT-loop
-Inv-loop count section₀ entries i₀ section i =
+Inv-loop count section₀ entries i₀ at₀ section i at =
     (i ≤ count)
     × ((length section ≡ length section₀)
-    × (sets section (entrySize * i) (sectionBytes (drop i (take count entries))) ≡ sets section₀ 0 (sectionBytes (take count entries))))
+    × ((at + sectionSize (drop i (take count entries)) ≡ sectionSize (take count entries))
+    × (sets section at (sectionBytes (drop i (take count entries)))
+    ≡ sets section₀ 0 (sectionBytes (take count entries)))))
 
 abbrev μ-loop : tie.MeasureT-loop
-μ-loop count section₀ entries i₀ section i = count - i
+μ-loop count section₀ entries i₀ at₀ section i at = count - i
 
 loop-holds : tie.Need-loop-holds Inv-loop μ-loop
-loop-holds c = (omega arith, (refl, refl))
+loop-holds c = (omega arith, (refl, (omega arith, refl)))
 
-mul-entry : tie.Need-mul-entry Inv-loop μ-loop
-mul-entry c = omega arith
-
-array-copy-out-entry : tie.Need-array-copy-out-entry Inv-loop μ-loop
-array-copy-out-entry c = omega arith
-
-mul-write-entry : tie.Need-mul-write-entry Inv-loop μ-loop
-mul-write-entry c = omega arith
-
-add-i : tie.Need-add-i Inv-loop μ-loop
-add-i c = omega arith
-
-loop-less : tie.Need-loop-less Inv-loop μ-loop
-loop-less c = omega arith
+add-at : tie.Need-add-at Inv-loop μ-loop
+add-at c =
+    let inv = c .before .before .before .before .before .before .before .loop .inv in
+    let turn = c .before .before .before .before .before .before .loop-test .taken in
+    omega (arith, inv .1 .1 .0, turn, sized-most _ _ (c .entry-size .ensures))
 
 loop-again : tie.Need-loop-again Inv-loop μ-loop
 loop-again c =
-    let turn = c .before .before .before .before .before in
-    let inv = turn .before .loop .inv in (
+    let written = c .before .before .before in
+    let turn = written .before .before .before in
+    let inv = turn .before .loop .inv in
+    let full : length (turn .before .before .before .args .t1) ≡ mostEntries = search needs in (
       omega arith,
       (
-        c .before .before .write-entry .kept .1 .0 ∙ inv .1 .0,
-        section-turn _ _ _ _ _ _ (turn .loop-test .taken) (omega arith) (omega arith) (c .before .before .write-entry .ensures) ∙ inv .1 .1,
+        written .write-entry .kept .1 .0 ∙ inv .1 .0,
+        (
+          size-added _ _ _ _ _ _ _ (c .entry-size .ensures) (omega arith) (turn .loop-test .taken) (inv .1 .1 .0),
+          section-turn _ _ _ _ _ _ _ _ (turn .loop-test .taken) (omega arith) (c .entry-size .ensures)
+              (omega (arith, inv .1 .1 .0))
+              (written .write-entry .ensures)
+              ∙ inv .1 .1 .1,
+        ),
       ),
     )
 
@@ -54,7 +56,7 @@ same-length : tie.Need-same-length Inv-loop μ-loop
 same-length c = c .before .loop .inv .1 .0
 
 returns : tie.Need-returns Inv-loop μ-loop
-returns c = sym (section-end _ _ _ _ (c .loop-test .left)) ∙ c .before .loop .inv .1 .1
+returns c = sym (section-end _ _ _ _ _ (c .loop-test .left)) ∙ c .before .loop .inv .1 .1 .1
 
 pub write-section-spec : {M : Type 1} → statement M
 write-section-spec =
@@ -63,12 +65,13 @@ write-section-spec =
     Inv-loop
     μ-loop
     loop-holds
-    mul-entry
-    array-copy-out-entry
-    mul-write-entry
+    (λ c. omega arith)
+    (λ c. omega arith)
     (λ c κs. search needs)
-    add-i
-    loop-less
+    (λ c κs. search needs)
+    add-at
+    (λ c. omega arith)
+    (λ c. omega arith)
     loop-again
     same-length
     returns)
