@@ -17,6 +17,7 @@ UNFOLDED = {
     "encoding.specs.Numbers": "number",
     "plans.specs.Acceptance": "countsFault entryFault entriesFault planFault",
     "plans.specs.Figures": "longest",
+    "plans.specs.Entries": "entrySizeOf sectionSize",
     "plans.specs.Reading": "entryIn entriesIn sectionFault readFault planIn planRead",
     "conflicts.specs.Widening": "widen widenedSet",
     "masks.specs.Tabulation": "tabulate",

@@ -1,7 +1,7 @@
 // Any call with the state by value: the caller passes the state and gets it back with the answer. The board is lent or
 // passed by value.
 use calls_in_place::answer_in_place;
-use plans::ENTRIES;
+use plans::MAX_ENTRIES;
 use rules::Board;
 use rules::Call;
 use rules::Moment;
@@ -23,8 +23,8 @@ pub struct Answered {
 // board.
 pub fn answer_on(
     terms: Terms,
-    rows: &[u64; ENTRIES],
-    lengths: &[u16; ENTRIES],
+    rows: &[u64; MAX_ENTRIES],
+    lengths: &[u16; MAX_ENTRIES],
     state: State,
     call: Call,
 ) -> Answered
@@ -35,7 +35,7 @@ pub fn answer_on(
         last: state.last,
         phases: phases,
     };
-    let mut entries = state.entry;
+    let mut requested = state.requested;
     let mut since = state.since;
     let mut earlier = state.earlier;
     let changed = answer_in_place(
@@ -43,7 +43,7 @@ pub fn answer_on(
         rows,
         lengths,
         given,
-        &mut entries,
+        &mut requested,
         &mut since,
         &mut earlier,
         call,
@@ -58,7 +58,7 @@ pub fn answer_on(
             phases: after,
             since: since,
             earlier: earlier,
-            entry: entries,
+            requested: requested,
         },
     }
 }

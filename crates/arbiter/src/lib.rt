@@ -21,9 +21,9 @@ pub fn phases_of(board: Board, state: State) -> Phases
     ensures { λ r. ⌜ r ≡ phasesOf board state ⌝ }
 {
     let terms = board.terms;
-    let entry = state.entry;
+    let requested = state.requested;
     let given = state.phases;
-    clean(terms, entry, given)
+    clean(terms, requested, given)
 }
 
 // The processor issues a request for an entry at a tick. Refused with 10, 11, 12 or 13, checked in this order.

@@ -1,6 +1,6 @@
 // The plan of the benchmarks: 64 resources and 64 entries, a third of them writes.
-use plans::ENTRIES;
 use plans::Entry;
+use plans::MAX_ENTRIES;
 use plans::Plan;
 ghost use Prim.Native.Nat.{_<_};
 
@@ -23,7 +23,7 @@ pub fn plan(processors: u8) -> Plan {
         kind: 0,
         set: 0,
         length: 0,
-    }; ENTRIES];
+    }; MAX_ENTRIES];
     let mut i: u64 = 0;
     while i < 64 {
         entries[i as usize] = entry(i);

@@ -73,7 +73,7 @@ fn sum_from(board: Board, full: State, processors: u8, turns: u64) -> u64
     let terms = board.terms;
     let rows = board.rows;
     let lengths = board.lengths;
-    let mut entries = full.entry;
+    let mut requested = full.requested;
     let mut since = full.since;
     let mut earlier = full.earlier;
     let mut moment = Moment {
@@ -93,7 +93,7 @@ fn sum_from(board: Board, full: State, processors: u8, turns: u64) -> u64
             &rows,
             &lengths,
             moment,
-            &entries,
+            &requested,
             &mut since,
             &earlier,
             p,
@@ -105,7 +105,7 @@ fn sum_from(board: Board, full: State, processors: u8, turns: u64) -> u64
             &rows,
             &lengths,
             left,
-            &mut entries,
+            &mut requested,
             &mut since,
             &mut earlier,
             p,

@@ -8,7 +8,7 @@ use lib.Seq.{sets}
 use Rattle.refusals.specs.declared.Refusal.{Refusal}
 use Rattle.refusals.specs.declared.Verdict.{Verdict}
 use Rattle.refusals.specs.Number.{numberOf, verdictNumber}
-use Rattle.refusals.specs.Due.{Said, said}
+use Rattle.refusals.specs.Due.{AsNumbers, asNumbers}
 use Rattle.refusals.proofs.Numbers.{number-not-zero}
 use Rattle.encoding.specs.Buffers.{roomFault, overwritten, bufferAfter}
 use Rattle.encoding.proofs.Room.{room-fits}
@@ -38,7 +38,7 @@ module _ (k : ℕ) (f : ℕ → List ℕ) (size : (p : ℕ) → length (f p) ≡
     due-here n e = sym checked ∙ e
 
     pub list-written : verdict ≡ Verdict.Accepted → (after : List ℕ) → after ≡ sets (set l 0 m) 1 (inTurn m f)
-        → (_≡_ {A = Said} (record { number = 0; value = listSize k m }) (said (listFault k m l) (listSize k m)))
+        → (_≡_ {A = AsNumbers} (record { number = 0; value = listSize k m }) (asNumbers (listFault k m l) (listSize k m)))
         × (after ≡ listBuffer k m f l)
     unfolding listBuffer
     list-written e after stored =
@@ -46,7 +46,7 @@ module _ (k : ℕ) (f : ℕ → List ℕ) (size : (p : ℕ) → length (f p) ≡
         rw none (refl, stored ∙ list-stores m (room-for-list k m (length l) verdict checked e))
 
     pub list-refused : (r : Refusal) → verdict ≡ Verdict.Refused r
-        → (_≡_ {A = Said} (record { number = numberOf r; value = 0 }) (said (listFault k m l) (listSize k m)))
+        → (_≡_ {A = AsNumbers} (record { number = numberOf r; value = 0 }) (asNumbers (listFault k m l) (listSize k m)))
         × (l ≡ listBuffer k m f l)
     unfolding listBuffer
     list-refused r e =

@@ -5,7 +5,7 @@ use mathlib.Core.Bool.{cond}
 use mathlib.Core.List.{List}
 use lib.ListN.{getD}
 use Rattle.masks.specs.Sets.{bit}
-use Rattle.rules.specs.declared.settling.Phases.{Phases}
+use Rattle.rules.specs.declared.states.Phases.{Phases}
 use Rattle.rules.specs.Requests.{unsatisfied, active}
 
 -- Clause 7.1: the state of processor p as a number: 0 idle, 1 waiting, 2 entitled, 3 holding.

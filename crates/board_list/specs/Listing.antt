@@ -6,7 +6,7 @@ use lib.ListN.{length, getD}
 use Rattle.encoding.specs.Buffers.{roomFault, bufferAfter}
 use Rattle.encoding.specs.InTurn.{inTurn}
 use Rattle.board_list.specs.Sizes.{listSize}
-use Rattle.rules.specs.declared.settling.Phases.{Phases}
+use Rattle.rules.specs.declared.states.Phases.{Phases}
 use Rattle.board_list.specs.Fields.{stateIn, entryShown, waitedIn}
 use Rattle.board_list.specs.Parts.{partBytes}
 

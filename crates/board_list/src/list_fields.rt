@@ -9,7 +9,7 @@ ghost use Rattle.rules.specs.Requests.{unsatisfied, active};
 ghost use Rattle.board_list.specs.Fields.{stateIn};
 
 // The most ticks that four bytes can show.
-const MOST_TICKS: u64 = 4294967295;
+const MAX_TICKS: u64 = 4294967295;
 
 // The entry that is shown for an idle processor.
 const NO_ENTRY: u8 = 255;
@@ -46,8 +46,8 @@ fn ticks_shown(from: u64, to: u64) -> u64
     if to < from {
         return 0;
     }
-    if MOST_TICKS < to - from {
-        MOST_TICKS
+    if MAX_TICKS < to - from {
+        MAX_TICKS
     } else {
         to - from
     }

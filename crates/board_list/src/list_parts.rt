@@ -1,6 +1,6 @@
 // A processor's part of the list, stored in a lent buffer. The module `list_writer` writes the parts of all processors.
 // Specification, clause 7.7.
-use crate::list_sizes::HEAD_BYTES;
+use crate::list_sizes::PART_FIXED_BYTES;
 use encoding::has_room;
 use encoding::write_number;
 ghost use mathlib.Core.Path.{_≡_};
@@ -40,10 +40,10 @@ pub fn store_part(
         (roomFault (partSize size) (length (now (buffer .entry))) at)
         (partBytes size state entry waited waits) (now (buffer .entry)) at ⌝ }
 {
-    if has_room(HEAD_BYTES + size as usize, buffer.len(), at) {
+    if has_room(PART_FIXED_BYTES + size as usize, buffer.len(), at) {
         buffer[at] = state;
         buffer[at + 1] = entry;
         write_number(waited, 4, buffer, at + 2);
-        store_mask(size as usize, waits, buffer, at + HEAD_BYTES);
+        store_mask(size as usize, waits, buffer, at + PART_FIXED_BYTES);
     }
 }

@@ -11,7 +11,7 @@ use Rattle.masks.specs.Sets.{added, maskOf}
 use Rattle.masks.proofs.Masks.{mask-next}
 use Rattle.plans.specs.declared.Entry.{Entry}
 use Rattle.plans.specs.declared.Plan.{Plan}
-use Rattle.plans.specs.Entries.{mostEntries, isWrite, countedEntries, blankEntry, entryAt}
+use Rattle.plans.specs.Entries.{maxEntries, isWrite, countedEntries, blankEntry, entryAt}
 use Rattle.conflicts.specs.declared.Conflicts.{Conflicts}
 use Rattle.conflicts.specs.Conflict.{conflictsOf}
 use Rattle.conflicts.proofs.WidenedSets.{entry-at}
@@ -29,17 +29,17 @@ write-at-entry p i = go (ltb i (p .count)) refl
     go true e = ap isWrite (sym (entry-at p i (ltb-true i (p .count) e)))
     go false e = refl
 
-pub writes-more : (p : Plan) (i out place next : ℕ) → i < mostEntries → out ≡ maskOf i (writesIn p)
-    → place ≡ cond (ltb i (p .count) && isWrite (getD (p .entries) i blankEntry)) i mostEntries
-    → next ≡ cond (ltb place mostEntries) (added out place) out → next ≡ maskOf (i + 1) (writesIn p)
+pub writes-more : (p : Plan) (i out place next : ℕ) → i < maxEntries → out ≡ maskOf i (writesIn p)
+    → place ≡ cond (ltb i (p .count) && isWrite (getD (p .entries) i blankEntry)) i maxEntries
+    → next ≡ cond (ltb place maxEntries) (added out place) out → next ≡ maskOf (i + 1) (writesIn p)
 writes-more p i out place next l eo ep en =
-    mask-next i (writesIn p) out next here (en ∙ ap (λ (x : ℕ). cond (ltb x mostEntries) (added out x) out) ep ∙ placed here) eo (write-at-entry p i)
+    mask-next i (writesIn p) out next here (en ∙ ap (λ (x : ℕ). cond (ltb x maxEntries) (added out x) out) ep ∙ placed here) eo (write-at-entry p i)
   where
     here : Bool
     here = ltb i (p .count) && isWrite (getD (p .entries) i blankEntry)
 
-    placed : (t : Bool) → cond (ltb (cond t i mostEntries) mostEntries) (added out (cond t i mostEntries)) out ≡ cond t (added out i) out
-    placed true = ap (λ t. cond t (added out i) out) (lt-ltb i mostEntries l)
+    placed : (t : Bool) → cond (ltb (cond t i maxEntries) maxEntries) (added out (cond t i maxEntries)) out ≡ cond t (added out i) out
+    placed true = ap (λ t. cond t (added out i) out) (lt-ltb i maxEntries l)
     placed false = refl
 
 pub board-made : (p : Plan) (writes : ℕ) (lengths : List ℕ) (worked : Conflicts) → lengths ≡ boardOf p .lengths → worked ≡ conflictsOf p

@@ -5,7 +5,7 @@ use lib.Dec.{eqb, ltb}
 use lib.ListN.{replicate}
 use Rattle.masks.specs.Sets.{maskOf}
 use Rattle.plans.specs.declared.Plan.{Plan}
-use Rattle.plans.specs.Entries.{slots, mostEntries, isWrite, entryAt}
+use Rattle.plans.specs.Entries.{maxProcessors, maxEntries, isWrite, entryAt}
 use Rattle.plans.specs.Acceptance.{planFault}
 use Rattle.conflicts.specs.Conflict.{conflictsOf}
 use Rattle.masks.specs.Tabulation.{tabulate}
@@ -18,9 +18,9 @@ freshState =
     record {
       last = 0;
       phases = record { waiting = 0; entitled = 0; holding = 0 };
-      since = replicate slots 0;
-      earlier = replicate slots 0;
-      entry = replicate slots 0;
+      since = replicate maxProcessors 0;
+      earlier = replicate maxProcessors 0;
+      requested = replicate maxProcessors 0;
     }
 
 -- Clause 3.3: the board of a plan: its counts, which entries are writes, their lengths, and the conflicts, computed
@@ -32,9 +32,9 @@ boardOf p =
           record {
             processors = p .processors;
             count = p .count;
-            writes = maskOf mostEntries (λ i. ltb i (p .count) && isWrite (entryAt p i));
+            writes = maskOf maxEntries (λ i. ltb i (p .count) && isWrite (entryAt p i));
           };
-      lengths = tabulate mostEntries (λ i. entryAt p i .length);
+      lengths = tabulate maxEntries (λ i. entryAt p i .length);
       names = conflictsOf p .names;
       widened = conflictsOf p .widened;
       rows = conflictsOf p .rows;
@@ -45,10 +45,10 @@ abbrev pub blankBoard : Board
 blankBoard =
     record {
       terms = record { processors = 0; count = 0; writes = 0 };
-      lengths = replicate mostEntries 0;
-      names = replicate mostEntries 0;
-      widened = replicate mostEntries 0;
-      rows = replicate mostEntries 0;
+      lengths = replicate maxEntries 0;
+      names = replicate maxEntries 0;
+      widened = replicate maxEntries 0;
+      rows = replicate maxEntries 0;
     }
 
 -- Clauses 4.3 and 2.10: for a plan value that is not accepted, the board is blank.

@@ -4,10 +4,10 @@
 use conflicts::conflicts_of;
 use masks::add64;
 use plan_checks::check;
-use plans::ENTRIES;
 use plans::Entry;
+use plans::MAX_ENTRIES;
+use plans::MAX_PROCESSORS;
 use plans::Plan;
-use plans::SLOTS;
 use plans::is_write;
 use refusals::Verdict;
 use rules::Board;
@@ -18,7 +18,7 @@ ghost use mathlib.Core.Path.{_≡_};
 ghost use mathlib.Core.Bool.{cond, _&&_};
 ghost use lib.Dec.{ltb};
 ghost use Rattle.refusals.specs.Number.{verdictNumber};
-ghost use Rattle.plans.specs.Entries.{mostEntries, isWrite};
+ghost use Rattle.plans.specs.Entries.{maxEntries, isWrite};
 ghost use Rattle.plans.specs.Acceptance.{planFault};
 ghost use Rattle.boards.specs.Fresh.{freshState, boardOf, blankBoard, freshBoard};
 
@@ -31,12 +31,12 @@ pub struct Fresh {
 
 // The place of entry i in the set of writes, or a place past all others if the entry is not a write or is not counted.
 fn write_place(entry: Entry, i: u8, count: u8) -> u32
-    ensures { λ r. ⌜ r ≡ cond (ltb i count && isWrite entry) i mostEntries ⌝ }
+    ensures { λ r. ⌜ r ≡ cond (ltb i count && isWrite entry) i maxEntries ⌝ }
 {
     if (i < count) & is_write(entry) {
         i as u32
     } else {
-        ENTRIES as u32
+        MAX_ENTRIES as u32
     }
 }
 
@@ -46,7 +46,7 @@ fn writes_of(plan: Plan) -> u64
 {
     let mut out: u64 = 0;
     let mut i: u8 = 0;
-    while i < ENTRIES as u8 {
+    while i < MAX_ENTRIES as u8 {
         let entry = plan.entries[i as usize];
         out = add64(out, write_place(entry, i, plan.count));
         i += 1;
@@ -61,12 +61,12 @@ fn counted_length(entry: Entry, i: u8, count: u8) -> u16
     if i < count { entry.length } else { 0 }
 }
 
-fn lengths_of(plan: Plan) -> [u16; ENTRIES]
+fn lengths_of(plan: Plan) -> [u16; MAX_ENTRIES]
     ensures { λ r. ⌜ r ≡ boardOf plan .lengths ⌝ }
 {
-    let mut out = [0; ENTRIES];
+    let mut out = [0; MAX_ENTRIES];
     let mut i: u8 = 0;
-    while i < ENTRIES as u8 {
+    while i < MAX_ENTRIES as u8 {
         let entry = plan.entries[i as usize];
         out[i as usize] = counted_length(entry, i, plan.count);
         i += 1;
@@ -100,10 +100,10 @@ fn board_of(plan: Plan) -> Board
 fn blank_board() -> Board
     ensures { λ r. ⌜ r ≡ blankBoard ⌝ }
 {
-    let lengths = [0; ENTRIES];
-    let names = [0; ENTRIES];
-    let widened = [0; ENTRIES];
-    let rows = [0; ENTRIES];
+    let lengths = [0; MAX_ENTRIES];
+    let names = [0; MAX_ENTRIES];
+    let widened = [0; MAX_ENTRIES];
+    let rows = [0; MAX_ENTRIES];
     Board {
         terms: Terms {
             processors: 0,
@@ -121,9 +121,9 @@ fn blank_board() -> Board
 fn fresh_state() -> State
     ensures { λ r. ⌜ r ≡ freshState ⌝ }
 {
-    let since = [0; SLOTS];
-    let earlier = [0; SLOTS];
-    let entry = [0; SLOTS];
+    let since = [0; MAX_PROCESSORS];
+    let earlier = [0; MAX_PROCESSORS];
+    let requested = [0; MAX_PROCESSORS];
     State {
         last: 0,
         phases: Phases {
@@ -133,7 +133,7 @@ fn fresh_state() -> State
         },
         since: since,
         earlier: earlier,
-        entry: entry,
+        requested: requested,
     }
 }
 

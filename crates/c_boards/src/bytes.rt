@@ -1,20 +1,20 @@
 // How many bytes were read or written, as numbers for the caller.
-use crate::Told;
+use crate::CAnswer;
 use encoding::Outcome;
 ghost use mathlib.Core.Path.{_≡_};
-ghost use Rattle.encoding.specs.Buffers.{outcomeSays};
-ghost use Rattle.c_boards.specs.Answers.{toldSays};
+ghost use Rattle.encoding.specs.Buffers.{outcomeAsNumbers};
+ghost use Rattle.c_boards.specs.Answers.{cAnswerAsNumbers};
 
 // How many bytes a plan or a list took, or the refusal.
-pub fn told_bytes(outcome: Outcome) -> Told
-    ensures { λ r. ⌜ toldSays r ≡ outcomeSays outcome ⌝ }
+pub fn bytes_for_c(outcome: Outcome) -> CAnswer
+    ensures { λ r. ⌜ cAnswerAsNumbers r ≡ outcomeAsNumbers outcome ⌝ }
 {
     match outcome {
-        Outcome::Bytes(count) => Told {
+        Outcome::Bytes(count) => CAnswer {
             refusal: 0,
             value: count as u64,
         },
-        Outcome::Refused(refusal) => Told {
+        Outcome::Refused(refusal) => CAnswer {
             refusal: refusals::number(refusal) as u32,
             value: 0,
         },

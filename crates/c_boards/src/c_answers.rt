@@ -1,47 +1,47 @@
 // What a program in C or Rust gets back when it reads a plan or makes a query, in numbers. Specification, section 11,
 // clauses 11.2 and 11.4.
-use crate::Told;
+use crate::CAnswer;
 use queries::MaskAnswer;
 use queries::PhaseAnswer;
 use queries::phase_number;
 use refusals::Refusal;
 ghost use mathlib.Core.Path.{_≡_};
 ghost use Rattle.refusals.specs.Number.{numberOf};
-ghost use Rattle.queries.specs.Answers.{phaseSays, maskSays};
-ghost use Rattle.c_boards.specs.Answers.{toldSays};
+ghost use Rattle.queries.specs.Answers.{phaseAsNumbers, maskAsNumbers};
+ghost use Rattle.c_boards.specs.Answers.{cAnswerAsNumbers};
 
 // A refusal: its number, and 0 as the value.
-fn told_refusal(refusal: Refusal) -> Told
-    ensures { λ r. ⌜ toldSays r ≡ record { number = numberOf refusal; value = 0 } ⌝ }
+fn refusal_for_c(refusal: Refusal) -> CAnswer
+    ensures { λ r. ⌜ cAnswerAsNumbers r ≡ record { number = numberOf refusal; value = 0 } ⌝ }
 {
-    Told {
+    CAnswer {
         refusal: refusals::number(refusal) as u32,
         value: 0,
     }
 }
 
 // The number of a processor's state, or the refusal.
-pub fn told_phase(answer: PhaseAnswer) -> Told
-    ensures { λ r. ⌜ toldSays r ≡ phaseSays answer ⌝ }
+pub fn phase_for_c(answer: PhaseAnswer) -> CAnswer
+    ensures { λ r. ⌜ cAnswerAsNumbers r ≡ phaseAsNumbers answer ⌝ }
 {
     match answer {
-        PhaseAnswer::Is(phase) => Told {
+        PhaseAnswer::Is(phase) => CAnswer {
             refusal: 0,
             value: phase_number(phase) as u64,
         },
-        PhaseAnswer::Refused(refusal) => told_refusal(refusal),
+        PhaseAnswer::Refused(refusal) => refusal_for_c(refusal),
     }
 }
 
 // A mask of processors, or the refusal.
-pub fn told_mask(answer: MaskAnswer) -> Told
-    ensures { λ r. ⌜ toldSays r ≡ maskSays answer ⌝ }
+pub fn mask_for_c(answer: MaskAnswer) -> CAnswer
+    ensures { λ r. ⌜ cAnswerAsNumbers r ≡ maskAsNumbers answer ⌝ }
 {
     match answer {
-        MaskAnswer::Mask(mask) => Told {
+        MaskAnswer::Mask(mask) => CAnswer {
             refusal: 0,
             value: mask as u64,
         },
-        MaskAnswer::Refused(refusal) => told_refusal(refusal),
+        MaskAnswer::Refused(refusal) => refusal_for_c(refusal),
     }
 }

@@ -5,15 +5,15 @@ mod bytes;
 mod c_answers;
 mod parts;
 
-pub use bytes::told_bytes;
-pub use c_answers::told_mask;
-pub use c_answers::told_phase;
+pub use bytes::bytes_for_c;
+pub use c_answers::mask_for_c;
+pub use c_answers::phase_for_c;
 pub use parts::moment_of;
 pub use parts::phases_of;
 pub use parts::store_moment;
 // An answer in numbers: the number of the refusal, 0 if there is none, and a value, which is 0 with a refusal.
 #[repr(C)]
-pub struct Told {
+pub struct CAnswer {
     pub refusal: u32,
     pub value: u64,
 }

@@ -6,14 +6,14 @@ use rules::Changed;
 use rules::Reply;
 ghost use mathlib.Core.Path.{_≡_};
 ghost use Rattle.refusals.specs.Number.{numberOf};
-ghost use Rattle.rules.specs.Replies.{replySays, refusedWith};
+ghost use Rattle.rules.specs.Replies.{replyAsNumbers, refusedWith};
 ghost use Rattle.c_boards.specs.Parts.{momentBy};
 ghost use Rattle.c_calls.specs.Replies.{response, momentLeft};
 
 // A reply in numbers: the number of the refusal, 0 if the call is accepted; the granted and the entitled mask; late.
 // With a refusal the other three are 0.
 #[repr(C)]
-pub struct Replied {
+pub struct CReply {
     pub refusal: u32,
     pub granted: u32,
     pub entitled: u32,
@@ -21,10 +21,10 @@ pub struct Replied {
 }
 
 // What a call that was carried out returns.
-fn done(granted: u32, entitled: u32, late: u8) -> Replied
+fn done(granted: u32, entitled: u32, late: u8) -> CReply
     ensures { λ r. ⌜ response r ≡ record { number = 0; granted = granted; entitled = entitled; late = late } ⌝ }
 {
-    Replied {
+    CReply {
         refusal: 0,
         granted: granted,
         entitled: entitled,
@@ -33,10 +33,10 @@ fn done(granted: u32, entitled: u32, late: u8) -> Replied
 }
 
 // What a refused call returns.
-fn refused(refusal: Refusal) -> Replied
+fn refused(refusal: Refusal) -> CReply
     ensures { λ r. ⌜ response r ≡ refusedWith (numberOf refusal) ⌝ }
 {
-    Replied {
+    CReply {
         refusal: refusals::number(refusal) as u32,
         granted: 0,
         entitled: 0,
@@ -46,8 +46,8 @@ fn refused(refusal: Refusal) -> Replied
 
 // Clause 11.3: returns the reply to a call in place in numbers, and stores its moment in the caller's memory. A refused
 // call writes nothing.
-pub fn finish(changed: Changed, last: &mut u64, phases: &mut [u32; 3]) -> Replied
-    ensures told { λ r. ⌜ response r ≡ replySays (changed .reply) ⌝ }
+pub fn store_and_reply(changed: Changed, last: &mut u64, phases: &mut [u32; 3]) -> CReply
+    ensures told { λ r. ⌜ response r ≡ replyAsNumbers (changed .reply) ⌝ }
     ensures moment { λ _. ⌜ momentBy (now (last .exit)) (now (phases .exit))
         ≡ momentLeft (changed .reply) (changed .moment) (momentBy (now (last .entry)) (now (phases .entry))) ⌝ }
 {

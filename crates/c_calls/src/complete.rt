@@ -1,10 +1,10 @@
 // A completion on memory that the caller owns. Specification, section 4.
-use crate::c_replies::Replied;
-use crate::c_replies::finish;
+use crate::c_replies::CReply;
+use crate::c_replies::store_and_reply;
 use c_boards::moment_of;
 use calls_in_place::complete_in_place;
-use plans::ENTRIES;
-use plans::SLOTS;
+use plans::MAX_ENTRIES;
+use plans::MAX_PROCESSORS;
 use rules::Terms;
 ghost use mathlib.Core.Path.{_≡_};
 ghost use Rattle.rules.specs.Calls.{completed};
@@ -18,21 +18,21 @@ pub extern "C" fn bittmelon_complete_parts(
     processors: u8,
     entries: u8,
     writes: u64,
-    rows: &[u64; ENTRIES],
-    lengths: &[u16; ENTRIES],
+    rows: &[u64; MAX_ENTRIES],
+    lengths: &[u16; MAX_ENTRIES],
     last: &mut u64,
     phases: &mut [u32; 3],
-    entry: &[u8; SLOTS],
-    since: &mut [u64; SLOTS],
-    earlier: &[u32; SLOTS],
+    requested: &[u8; MAX_PROCESSORS],
+    since: &mut [u64; MAX_PROCESSORS],
+    earlier: &[u32; MAX_PROCESSORS],
     processor: u8,
     tick: u64,
-) -> Replied
+) -> CReply
     ensures { λ r. ⌜ answerIn r
-        (now (last .exit)) (now (phases .exit)) (now (entry .entry)) (now (since .exit)) (now (earlier .entry))
+        (now (last .exit)) (now (phases .exit)) (now (requested .entry)) (now (since .exit)) (now (earlier .entry))
         ≡ completed (boardBy (termsBy processors entries writes) (now (rows .entry)) (now (lengths .entry)))
         (stateBy (momentBy (now (last .entry)) (now (phases .entry)))
-        (now (entry .entry)) (now (since .entry)) (now (earlier .entry))) processor tick ⌝ }
+        (now (requested .entry)) (now (since .entry)) (now (earlier .entry))) processor tick ⌝ }
 {
     let terms = Terms {
         processors: processors,
@@ -45,11 +45,11 @@ pub extern "C" fn bittmelon_complete_parts(
         rows,
         lengths,
         moment,
-        entry,
+        requested,
         since,
         earlier,
         processor,
         tick,
     );
-    finish(changed, last, phases)
+    store_and_reply(changed, last, phases)
 }

@@ -1,10 +1,10 @@
 // An issue on memory that the caller owns. Specification, section 4.
-use crate::c_replies::Replied;
-use crate::c_replies::finish;
+use crate::c_replies::CReply;
+use crate::c_replies::store_and_reply;
 use c_boards::moment_of;
 use calls_in_place::issue_in_place;
-use plans::ENTRIES;
-use plans::SLOTS;
+use plans::MAX_ENTRIES;
+use plans::MAX_PROCESSORS;
 use rules::Terms;
 ghost use mathlib.Core.Path.{_≡_};
 ghost use Rattle.rules.specs.Calls.{issued};
@@ -18,22 +18,22 @@ pub extern "C" fn bittmelon_issue_parts(
     processors: u8,
     entries: u8,
     writes: u64,
-    rows: &[u64; ENTRIES],
-    lengths: &[u16; ENTRIES],
+    rows: &[u64; MAX_ENTRIES],
+    lengths: &[u16; MAX_ENTRIES],
     last: &mut u64,
     phases: &mut [u32; 3],
-    entry: &mut [u8; SLOTS],
-    since: &mut [u64; SLOTS],
-    earlier: &mut [u32; SLOTS],
+    requested: &mut [u8; MAX_PROCESSORS],
+    since: &mut [u64; MAX_PROCESSORS],
+    earlier: &mut [u32; MAX_PROCESSORS],
     processor: u8,
-    requested: u8,
+    entry: u8,
     tick: u64,
-) -> Replied
+) -> CReply
     ensures { λ r. ⌜ answerIn r
-        (now (last .exit)) (now (phases .exit)) (now (entry .exit)) (now (since .exit)) (now (earlier .exit))
+        (now (last .exit)) (now (phases .exit)) (now (requested .exit)) (now (since .exit)) (now (earlier .exit))
         ≡ issued (boardBy (termsBy processors entries writes) (now (rows .entry)) (now (lengths .entry)))
         (stateBy (momentBy (now (last .entry)) (now (phases .entry)))
-        (now (entry .entry)) (now (since .entry)) (now (earlier .entry))) processor requested tick ⌝ }
+        (now (requested .entry)) (now (since .entry)) (now (earlier .entry))) processor entry tick ⌝ }
 {
     let terms = Terms {
         processors: processors,
@@ -46,12 +46,12 @@ pub extern "C" fn bittmelon_issue_parts(
         rows,
         lengths,
         moment,
-        entry,
+        requested,
         since,
         earlier,
         processor,
-        requested,
+        entry,
         tick,
     );
-    finish(changed, last, phases)
+    store_and_reply(changed, last, phases)
 }

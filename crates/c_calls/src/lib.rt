@@ -8,7 +8,7 @@ mod issue;
 mod withdraw;
 
 pub use c_handing_over::bittmelon_handover_parts;
-pub use c_replies::Replied;
+pub use c_replies::CReply;
 pub use complete::bittmelon_complete_parts;
 pub use issue::bittmelon_issue_parts;
 pub use withdraw::bittmelon_withdraw_parts;

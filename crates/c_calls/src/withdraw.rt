@@ -1,10 +1,10 @@
 // A withdrawal on memory that the caller owns. Specification, section 4.
-use crate::c_replies::Replied;
-use crate::c_replies::finish;
+use crate::c_replies::CReply;
+use crate::c_replies::store_and_reply;
 use c_boards::moment_of;
 use calls_in_place::withdraw_in_place;
-use plans::ENTRIES;
-use plans::SLOTS;
+use plans::MAX_ENTRIES;
+use plans::MAX_PROCESSORS;
 use rules::Terms;
 ghost use mathlib.Core.Path.{_≡_};
 ghost use Rattle.rules.specs.Calls.{withdrawn};
@@ -19,21 +19,21 @@ pub extern "C" fn bittmelon_withdraw_parts(
     processors: u8,
     entries: u8,
     writes: u64,
-    rows: &[u64; ENTRIES],
-    lengths: &[u16; ENTRIES],
+    rows: &[u64; MAX_ENTRIES],
+    lengths: &[u16; MAX_ENTRIES],
     last: &mut u64,
     phases: &mut [u32; 3],
-    entry: &[u8; SLOTS],
-    since: &mut [u64; SLOTS],
-    earlier: &[u32; SLOTS],
+    requested: &[u8; MAX_PROCESSORS],
+    since: &mut [u64; MAX_PROCESSORS],
+    earlier: &[u32; MAX_PROCESSORS],
     processor: u8,
     tick: u64,
-) -> Replied
+) -> CReply
     ensures { λ r. ⌜ answerIn r
-        (now (last .exit)) (now (phases .exit)) (now (entry .entry)) (now (since .exit)) (now (earlier .entry))
+        (now (last .exit)) (now (phases .exit)) (now (requested .entry)) (now (since .exit)) (now (earlier .entry))
         ≡ withdrawn (boardBy (termsBy processors entries writes) (now (rows .entry)) (now (lengths .entry)))
         (stateBy (momentBy (now (last .entry)) (now (phases .entry)))
-        (now (entry .entry)) (now (since .entry)) (now (earlier .entry))) processor tick ⌝ }
+        (now (requested .entry)) (now (since .entry)) (now (earlier .entry))) processor tick ⌝ }
 {
     let terms = Terms {
         processors: processors,
@@ -41,6 +41,16 @@ pub extern "C" fn bittmelon_withdraw_parts(
         writes: writes,
     };
     let moment = moment_of(*last, *phases);
-    let changed = withdraw_in_place(terms, rows, lengths, moment, entry, since, earlier, processor, tick);
-    finish(changed, last, phases)
+    let changed = withdraw_in_place(
+        terms,
+        rows,
+        lengths,
+        moment,
+        requested,
+        since,
+        earlier,
+        processor,
+        tick,
+    );
+    store_and_reply(changed, last, phases)
 }

@@ -1,7 +1,7 @@
 // Stores the board of a plan in the caller's memory.
 use boards::fresh_of;
 use encoding::Outcome;
-use plans::ENTRIES;
+use plans::MAX_ENTRIES;
 use plans::Plan;
 ghost use mathlib.Core.Path.{_≡_};
 ghost use Rattle.c_boards.specs.Parts.{termsBy, boardIn};
@@ -14,10 +14,10 @@ pub fn store_board(
     processors: &mut u8,
     entries: &mut u8,
     writes: &mut u64,
-    lengths: &mut [u16; ENTRIES],
-    names: &mut [u64; ENTRIES],
-    widened: &mut [u64; ENTRIES],
-    rows: &mut [u64; ENTRIES],
+    lengths: &mut [u16; MAX_ENTRIES],
+    names: &mut [u64; MAX_ENTRIES],
+    widened: &mut [u64; MAX_ENTRIES],
+    rows: &mut [u64; MAX_ENTRIES],
 )
     ensures { λ _. ⌜ boardIn (termsBy (now (processors .exit)) (now (entries .exit)) (now (writes .exit)))
         (now (lengths .exit)) (now (names .exit)) (now (widened .exit)) (now (rows .exit))

@@ -1,6 +1,6 @@
 // Stores the fresh state in the caller's memory.
 use encoding::Outcome;
-use plans::SLOTS;
+use plans::MAX_PROCESSORS;
 ghost use mathlib.Core.Path.{_≡_};
 ghost use Rattle.rules.specs.InPlace.{stateBy};
 ghost use Rattle.c_boards.specs.Parts.{momentBy};
@@ -11,23 +11,23 @@ pub fn store_state(
     outcome: Outcome,
     last: &mut u64,
     phases: &mut [u32; 3],
-    entry: &mut [u8; SLOTS],
-    since: &mut [u64; SLOTS],
-    earlier: &mut [u32; SLOTS],
+    requested: &mut [u8; MAX_PROCESSORS],
+    since: &mut [u64; MAX_PROCESSORS],
+    earlier: &mut [u32; MAX_PROCESSORS],
 )
     ensures { λ _. ⌜ stateBy (momentBy (now (last .exit)) (now (phases .exit)))
-        (now (entry .exit)) (now (since .exit)) (now (earlier .exit))
+        (now (requested .exit)) (now (since .exit)) (now (earlier .exit))
         ≡ stateLeft outcome
         (stateBy (momentBy (now (last .entry)) (now (phases .entry)))
-        (now (entry .entry)) (now (since .entry)) (now (earlier .entry))) ⌝ }
+        (now (requested .entry)) (now (since .entry)) (now (earlier .entry))) ⌝ }
 {
     match outcome {
         Outcome::Bytes(_) => {
             *last = 0;
             *phases = [0, 0, 0];
-            *entry = [0; SLOTS];
-            *since = [0; SLOTS];
-            *earlier = [0; SLOTS];
+            *requested = [0; MAX_PROCESSORS];
+            *since = [0; MAX_PROCESSORS];
+            *earlier = [0; MAX_PROCESSORS];
         }
         Outcome::Refused(_) => {}
     }

@@ -1,7 +1,7 @@
 // The conditions that the refusals of a call depend on: is the tick in time, is the processor on the board, is its
 // request unsatisfied or active. The phases are those of the requests that count. Specification, clause 4.5.
 use masks::has32;
-use plans::SLOTS;
+use plans::MAX_PROCESSORS;
 use rules::Phases;
 use rules::Terms;
 ghost use mathlib.Core.Path.{_≡_};
@@ -25,7 +25,7 @@ pub fn is_in_time(last: u64, tick: u64) -> bool
 pub fn is_counted(terms: Terms, processor: u8) -> bool
     ensures { λ r. ⌜ r ≡ hasProcessor terms processor ⌝ }
 {
-    ((processor as usize) < SLOTS) & (processor < terms.processors)
+    ((processor as usize) < MAX_PROCESSORS) & (processor < terms.processors)
 }
 
 // Clause 4.1: the request waits or is entitled.

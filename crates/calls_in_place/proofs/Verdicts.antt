@@ -13,10 +13,10 @@ use Rattle.refusals.specs.Number.{numberOf, verdictNumber}
 use Rattle.refusals.specs.Due.{firstOf}
 use Rattle.refusals.proofs.Numbers.{number-not-zero, first-accepted, due-accepted}
 use Rattle.masks.proofs.Truth.{and-left}
-use Rattle.plans.specs.Entries.{slots}
+use Rattle.plans.specs.Entries.{maxProcessors}
 use Rattle.rules.specs.Replies.{refusedWith}
 use Rattle.rules.specs.declared.calls.Call.{Call}
-use Rattle.rules.specs.declared.settling.Phases.{Phases}
+use Rattle.rules.specs.declared.states.Phases.{Phases}
 use Rattle.rules.specs.Requests.{factsBy}
 use Rattle.rules.specs.Settling.{settled}
 use Rattle.rules.specs.declared.states.Terms.{Terms}
@@ -44,18 +44,18 @@ ruled-refuses n v r s a says w =
     ap (λ t. cond t a (Unchanged r s)) (sym (number-not-zero r)) ∙ ap (λ (n : ℕ). ruled n s a) (ap verdictNumber (sym w) ∙ says)
 
 -- If a call is not refused with 10 or 11, its processor has a place in a state.
-counted-below : (terms : Terms) (last p t later : ℕ) → firstOf (tickFault last t) (firstOf (processorFault terms p) later) ≡ 0 → p < slots
+counted-below : (terms : Terms) (last p t later : ℕ) → firstOf (tickFault last t) (firstOf (processorFault terms p) later) ≡ 0 → p < maxProcessors
 counted-below terms last p t later e =
-    ltb-true p slots
-    (and-left (ltb p slots) (ltb p (terms .processors))
+    ltb-true p maxProcessors
+    (and-left (ltb p maxProcessors) (ltb p (terms .processors))
     (due-accepted (hasProcessor terms p) 11 (omega arith) (first-accepted (processorFault terms p) later (first-accepted (tickFault last t) _ e .later) .first)))
 
 module _ (v : Verdict) (terms : Terms) (last : ℕ) (ph : Phases) (p t : ℕ) (w : v ≡ Verdict.Accepted) where
-  pub complete-counted : verdictNumber v ≡ completeFault terms last ph p t → p < slots
+  pub complete-counted : verdictNumber v ≡ completeFault terms last ph p t → p < maxProcessors
   unfolding completeFault
   complete-counted says = counted-below terms last p t _ (sym says ∙ ap verdictNumber w)
 
-  pub handover-counted : (e : ℕ) → verdictNumber v ≡ handoverFault terms last ph p e t → p < slots
+  pub handover-counted : (e : ℕ) → verdictNumber v ≡ handoverFault terms last ph p e t → p < maxProcessors
   unfolding handoverFault
   handover-counted e says = counted-below terms last p t _ (sym says ∙ ap verdictNumber w)
 
@@ -66,15 +66,15 @@ module _ (v : Verdict) (terms : Terms) (last : ℕ) (ph : Phases) (p t : ℕ) (w
 abbrev pub Entered : Board → State → Phases → List ℕ → Answer → ℕ → ℕ → ℕ → Type 0
 Entered b s ph line a p e t =
     a
-    ≡ done (stateBy (record { last = t; phases = putIn ph p }) (set (s .entry) p e) (set (s .since) p t) line)
-    (settled (factsBy (b .rows) (b .terms .writes) (set (s .entry) p e) line) (putIn ph p)) 0
+    ≡ done (stateBy (record { last = t; phases = putIn ph p }) (set (s .requested) p e) (set (s .since) p t) line)
+    (settled (factsBy (b .rows) (b .terms .writes) (set (s .requested) p e) line) (putIn ph p)) 0
 
 -- The answer that `leave` gives when it removes a request from those in the phases ph.
 abbrev pub Gone : Board → State → Phases → Answer → ℕ → ℕ → ℕ → Type 0
 Gone b s ph a p t late =
     a
-    ≡ done (stateBy (record { last = t; phases = takenOut ph p }) (s .entry) (s .since) (s .earlier))
-    (settled (factsBy (b .rows) (b .terms .writes) (s .entry) (s .earlier)) (takenOut ph p)) late
+    ≡ done (stateBy (record { last = t; phases = takenOut ph p }) (s .requested) (s .since) (s .earlier))
+    (settled (factsBy (b .rows) (b .terms .writes) (s .requested) (s .earlier)) (takenOut ph p)) late
 
 module _ (b : Board) (s : State) (before : Phases) (cleans : before ≡ phasesOf b s) (a : Answer) where
   entered-is : (line : List ℕ) (p e t : ℕ) → line ≡ putLast (s .earlier) before p → Entered b s before line a p e t
@@ -84,15 +84,15 @@ module _ (b : Board) (s : State) (before : Phases) (cleans : before ≡ phasesOf
       eq ∙ ap₂ (λ ph line. settledDone b (put ph line) 0) cleans (el ∙ ap (λ ph. putLast (s .earlier) ph p) cleans)
     where
       put : Phases → List ℕ → State
-      put ph line = stateBy (record { last = t; phases = putIn ph p }) (set (s .entry) p e) (set (s .since) p t) line
+      put ph line = stateBy (record { last = t; phases = putIn ph p }) (set (s .requested) p e) (set (s .since) p t) line
 
   gone-is : (p t late : ℕ) → Gone b s before a p t late → a ≡ settledDone b (takenState b s p t) late
   unfolding takenState settledDone
   gone-is p t late eq =
-      eq ∙ ap (λ ph. settledDone b (stateBy (record { last = t; phases = takenOut ph p }) (s .entry) (s .since) (s .earlier)) late) cleans
+      eq ∙ ap (λ ph. settledDone b (stateBy (record { last = t; phases = takenOut ph p }) (s .requested) (s .since) (s .earlier)) late) cleans
 
 -- The late mark as the code computes it.
-late-is : (b : Board) (s : State) (p t length late : ℕ) → length ≡ getD (b .lengths) (getD (s .entry) p 0) 0
+late-is : (b : Board) (s : State) (p t length late : ℕ) → length ≡ getD (b .lengths) (getD (s .requested) p 0) 0
     → late ≡ cond (ltb length (t - getD (s .since) p 0)) 1 0 → late ≡ lateMark b s p t
 late-is b s p t length late eh el = el ∙ ap (λ (x : ℕ). cond (ltb x (t - getD (s .since) p 0)) 1 0) eh
 
@@ -131,7 +131,7 @@ module _ (b : Board) (s : State) (before : Phases) (cleans : before ≡ phasesOf
     complete-refused = leave-refused p t (lateMark b s p t) (λ ph. completeFault (b .terms) (s .last) ph p t) says
 
     pub complete-done : v ≡ Verdict.Accepted → (length late : ℕ) (a : Answer)
-        → length ≡ getD (b .lengths) (getD (s .entry) p 0) 0 → late ≡ cond (ltb length (t - getD (s .since) p 0)) 1 0
+        → length ≡ getD (b .lengths) (getD (s .requested) p 0) 0 → late ≡ cond (ltb length (t - getD (s .since) p 0)) 1 0
         → Gone b s before a p t late → a ≡ completed b s p t
     unfolding completed
     complete-done w length late a eh el eq =
@@ -155,7 +155,7 @@ module _ (b : Board) (s : State) (before : Phases) (cleans : before ≡ phasesOf
     unfolding handedOver
     handover-refused r w = ruled-refuses _ v r s _ hands w
 
-    module _ (w : v ≡ Verdict.Accepted) (length late : ℕ) (eh : length ≡ getD (b .lengths) (getD (s .entry) p 0) 0)
+    module _ (w : v ≡ Verdict.Accepted) (length late : ℕ) (eh : length ≡ getD (b .lengths) (getD (s .requested) p 0) 0)
         (el : late ≡ cond (ltb length (t - getD (s .since) p 0)) 1 0) (a : Answer) (gone : Gone b s before a p t late) where
       ok : handoverFault (b .terms) (s .last) (phasesOf b s) p e t ≡ 0
       ok = sym hands ∙ ap verdictNumber w

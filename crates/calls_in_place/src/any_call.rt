@@ -3,8 +3,8 @@ use crate::completing::complete_in_place;
 use crate::handing_over::handover_in_place;
 use crate::issuing::issue_in_place;
 use crate::withdrawing::withdraw_in_place;
-use plans::ENTRIES;
-use plans::SLOTS;
+use plans::MAX_ENTRIES;
+use plans::MAX_PROCESSORS;
 use rules::Call;
 use rules::Changed;
 use rules::Moment;
@@ -17,17 +17,17 @@ ghost use Rattle.rules.specs.InPlace.{boardBy, stateBy, answerBy};
 // moment is the rest of the state. The result and the changed arrays are the answer that `arbiter::answer` gives.
 pub fn answer_in_place(
     terms: Terms,
-    rows: &[u64; ENTRIES],
-    lengths: &[u16; ENTRIES],
+    rows: &[u64; MAX_ENTRIES],
+    lengths: &[u16; MAX_ENTRIES],
     moment: Moment,
-    entries: &mut [u8; SLOTS],
-    since: &mut [u64; SLOTS],
-    earlier: &mut [u32; SLOTS],
+    requested: &mut [u8; MAX_PROCESSORS],
+    since: &mut [u64; MAX_PROCESSORS],
+    earlier: &mut [u32; MAX_PROCESSORS],
     call: Call,
 ) -> Changed
-    ensures { λ r. ⌜ answerBy r (now (entries .exit)) (now (since .exit)) (now (earlier .exit))
+    ensures { λ r. ⌜ answerBy r (now (requested .exit)) (now (since .exit)) (now (earlier .exit))
         ≡ answered (boardBy terms (now (rows .entry)) (now (lengths .entry)))
-        (stateBy moment (now (entries .entry)) (now (since .entry)) (now (earlier .entry))) call ⌝ }
+        (stateBy moment (now (requested .entry)) (now (since .entry)) (now (earlier .entry))) call ⌝ }
 {
     match call {
         Call::Issue {
@@ -40,7 +40,7 @@ pub fn answer_in_place(
                 rows,
                 lengths,
                 moment,
-                entries,
+                requested,
                 since,
                 earlier,
                 processor,
@@ -54,7 +54,7 @@ pub fn answer_in_place(
                 rows,
                 lengths,
                 moment,
-                entries,
+                requested,
                 since,
                 earlier,
                 processor,
@@ -67,7 +67,7 @@ pub fn answer_in_place(
                 rows,
                 lengths,
                 moment,
-                entries,
+                requested,
                 since,
                 earlier,
                 processor,
@@ -84,7 +84,7 @@ pub fn answer_in_place(
                 rows,
                 lengths,
                 moment,
-                entries,
+                requested,
                 since,
                 earlier,
                 processor,

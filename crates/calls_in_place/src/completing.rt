@@ -4,8 +4,8 @@
 use crate::answers::accepted;
 use crate::answers::refused;
 use call_checks::check_complete;
-use plans::ENTRIES;
-use plans::SLOTS;
+use plans::MAX_ENTRIES;
+use plans::MAX_PROCESSORS;
 use refusals::Verdict;
 use requests::late_mark;
 use requests::leave;
@@ -21,21 +21,21 @@ ghost use Rattle.rules.specs.InPlace.{boardBy, stateBy, answerBy};
 // The processor completes its request at a tick. Refused with 10, 11, 14 or 15, checked in this order.
 pub fn complete_in_place(
     terms: Terms,
-    rows: &[u64; ENTRIES],
-    lengths: &[u16; ENTRIES],
+    rows: &[u64; MAX_ENTRIES],
+    lengths: &[u16; MAX_ENTRIES],
     moment: Moment,
-    entries: &[u8; SLOTS],
-    since: &mut [u64; SLOTS],
-    earlier: &[u32; SLOTS],
+    requested: &[u8; MAX_PROCESSORS],
+    since: &mut [u64; MAX_PROCESSORS],
+    earlier: &[u32; MAX_PROCESSORS],
     processor: u8,
     tick: u64,
 ) -> Changed
-    ensures { λ r. ⌜ answerBy r (now (entries .entry)) (now (since .exit)) (now (earlier .entry))
+    ensures { λ r. ⌜ answerBy r (now (requested .entry)) (now (since .exit)) (now (earlier .entry))
         ≡ completed (boardBy terms (now (rows .entry)) (now (lengths .entry)))
-        (stateBy moment (now (entries .entry)) (now (since .entry)) (now (earlier .entry))) processor tick ⌝ }
+        (stateBy moment (now (requested .entry)) (now (since .entry)) (now (earlier .entry))) processor tick ⌝ }
 {
     let given = moment.phases;
-    let before = clean(terms, *entries, given);
+    let before = clean(terms, *requested, given);
     let verdict = check_complete(terms, moment.last, before, processor, tick);
     match verdict {
         Verdict::Accepted => {}
@@ -43,13 +43,13 @@ pub fn complete_in_place(
             return refused(refusal, moment);
         }
     }
-    let length = length_at(lengths, entries[processor as usize]);
+    let length = length_at(lengths, requested[processor as usize]);
     let late = late_mark(length, since[processor as usize], tick);
     let writes = terms.writes;
     let carried = leave(
         rows,
         writes,
-        entries,
+        requested,
         since,
         earlier,
         before,

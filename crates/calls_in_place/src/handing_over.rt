@@ -3,8 +3,8 @@
 use crate::answers::accepted;
 use crate::answers::refused;
 use call_checks::check_handover;
-use plans::ENTRIES;
-use plans::SLOTS;
+use plans::MAX_ENTRIES;
+use plans::MAX_PROCESSORS;
 use refusals::Verdict;
 use requests::enter;
 use requests::late_mark;
@@ -25,22 +25,22 @@ ghost use Rattle.rules.specs.InPlace.{boardBy, stateBy, answerBy};
 // never refused.
 pub fn handover_in_place(
     terms: Terms,
-    rows: &[u64; ENTRIES],
-    lengths: &[u16; ENTRIES],
+    rows: &[u64; MAX_ENTRIES],
+    lengths: &[u16; MAX_ENTRIES],
     moment: Moment,
-    entries: &mut [u8; SLOTS],
-    since: &mut [u64; SLOTS],
-    earlier: &mut [u32; SLOTS],
+    requested: &mut [u8; MAX_PROCESSORS],
+    since: &mut [u64; MAX_PROCESSORS],
+    earlier: &mut [u32; MAX_PROCESSORS],
     processor: u8,
     entry: u8,
     tick: u64,
 ) -> Changed
-    ensures { λ r. ⌜ answerBy r (now (entries .exit)) (now (since .exit)) (now (earlier .exit))
+    ensures { λ r. ⌜ answerBy r (now (requested .exit)) (now (since .exit)) (now (earlier .exit))
         ≡ handedOver (boardBy terms (now (rows .entry)) (now (lengths .entry)))
-        (stateBy moment (now (entries .entry)) (now (since .entry)) (now (earlier .entry))) processor entry tick ⌝ }
+        (stateBy moment (now (requested .entry)) (now (since .entry)) (now (earlier .entry))) processor entry tick ⌝ }
 {
     let given = moment.phases;
-    let before = clean(terms, *entries, given);
+    let before = clean(terms, *requested, given);
     let verdict = check_handover(terms, moment.last, before, processor, entry, tick);
     match verdict {
         Verdict::Accepted => {}
@@ -48,13 +48,13 @@ pub fn handover_in_place(
             return refused(refusal, moment);
         }
     }
-    let length = length_at(lengths, entries[processor as usize]);
+    let length = length_at(lengths, requested[processor as usize]);
     let late = late_mark(length, since[processor as usize], tick);
     let writes = terms.writes;
     let first = leave(
         rows,
         writes,
-        entries,
+        requested,
         since,
         earlier,
         before,
@@ -63,12 +63,12 @@ pub fn handover_in_place(
         late,
     );
     let left = first.phases;
-    let ready = clean(terms, *entries, left);
+    let ready = clean(terms, *requested, left);
     put_last(earlier, ready, processor);
     let second = enter(
         rows,
         writes,
-        entries,
+        requested,
         since,
         earlier,
         ready,

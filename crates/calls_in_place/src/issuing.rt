@@ -4,8 +4,8 @@
 use crate::answers::accepted;
 use crate::answers::refused;
 use call_checks::check_issue;
-use plans::ENTRIES;
-use plans::SLOTS;
+use plans::MAX_ENTRIES;
+use plans::MAX_PROCESSORS;
 use refusals::Verdict;
 use requests::enter;
 use requests::put_last;
@@ -20,22 +20,22 @@ ghost use Rattle.rules.specs.InPlace.{boardBy, stateBy, answerBy};
 // The processor issues a request for an entry at a tick. Refused with 10, 11, 12 or 13, checked in this order.
 pub fn issue_in_place(
     terms: Terms,
-    rows: &[u64; ENTRIES],
-    lengths: &[u16; ENTRIES],
+    rows: &[u64; MAX_ENTRIES],
+    lengths: &[u16; MAX_ENTRIES],
     moment: Moment,
-    entries: &mut [u8; SLOTS],
-    since: &mut [u64; SLOTS],
-    earlier: &mut [u32; SLOTS],
+    requested: &mut [u8; MAX_PROCESSORS],
+    since: &mut [u64; MAX_PROCESSORS],
+    earlier: &mut [u32; MAX_PROCESSORS],
     processor: u8,
     entry: u8,
     tick: u64,
 ) -> Changed
-    ensures { λ r. ⌜ answerBy r (now (entries .exit)) (now (since .exit)) (now (earlier .exit))
+    ensures { λ r. ⌜ answerBy r (now (requested .exit)) (now (since .exit)) (now (earlier .exit))
         ≡ issued (boardBy terms (now (rows .entry)) (now (lengths .entry)))
-        (stateBy moment (now (entries .entry)) (now (since .entry)) (now (earlier .entry))) processor entry tick ⌝ }
+        (stateBy moment (now (requested .entry)) (now (since .entry)) (now (earlier .entry))) processor entry tick ⌝ }
 {
     let given = moment.phases;
-    let before = clean(terms, *entries, given);
+    let before = clean(terms, *requested, given);
     let verdict = check_issue(terms, moment.last, before, processor, entry, tick);
     match verdict {
         Verdict::Accepted => {}
@@ -48,7 +48,7 @@ pub fn issue_in_place(
     let carried = enter(
         rows,
         writes,
-        entries,
+        requested,
         since,
         earlier,
         before,

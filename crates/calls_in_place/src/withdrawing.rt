@@ -4,8 +4,8 @@
 use crate::answers::accepted;
 use crate::answers::refused;
 use call_checks::check_withdraw;
-use plans::ENTRIES;
-use plans::SLOTS;
+use plans::MAX_ENTRIES;
+use plans::MAX_PROCESSORS;
 use refusals::Verdict;
 use requests::leave;
 use rules::Changed;
@@ -20,21 +20,21 @@ ghost use Rattle.rules.specs.InPlace.{boardBy, stateBy, answerBy};
 // order.
 pub fn withdraw_in_place(
     terms: Terms,
-    rows: &[u64; ENTRIES],
-    lengths: &[u16; ENTRIES],
+    rows: &[u64; MAX_ENTRIES],
+    lengths: &[u16; MAX_ENTRIES],
     moment: Moment,
-    entries: &[u8; SLOTS],
-    since: &mut [u64; SLOTS],
-    earlier: &[u32; SLOTS],
+    requested: &[u8; MAX_PROCESSORS],
+    since: &mut [u64; MAX_PROCESSORS],
+    earlier: &[u32; MAX_PROCESSORS],
     processor: u8,
     tick: u64,
 ) -> Changed
-    ensures { λ r. ⌜ answerBy r (now (entries .entry)) (now (since .exit)) (now (earlier .entry))
+    ensures { λ r. ⌜ answerBy r (now (requested .entry)) (now (since .exit)) (now (earlier .entry))
         ≡ withdrawn (boardBy terms (now (rows .entry)) (now (lengths .entry)))
-        (stateBy moment (now (entries .entry)) (now (since .entry)) (now (earlier .entry))) processor tick ⌝ }
+        (stateBy moment (now (requested .entry)) (now (since .entry)) (now (earlier .entry))) processor tick ⌝ }
 {
     let given = moment.phases;
-    let before = clean(terms, *entries, given);
+    let before = clean(terms, *requested, given);
     let verdict = check_withdraw(terms, moment.last, before, processor, tick);
     match verdict {
         Verdict::Accepted => {}
@@ -46,7 +46,7 @@ pub fn withdraw_in_place(
     let carried = leave(
         rows,
         writes,
-        entries,
+        requested,
         since,
         earlier,
         before,

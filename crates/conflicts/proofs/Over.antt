@@ -8,27 +8,27 @@ use lib.Dec.{eqb}
 use borrow.Author.Tests.{ne-eqb}
 use Rattle.masks.specs.Sets.{bit}
 use Rattle.masks.proofs.Counts.{lowest-is, ones-are}
-use Rattle.plans.specs.Entries.{mostResources}
+use Rattle.plans.specs.Entries.{maxResources}
 use Rattle.conflicts.specs.declared.sharing.Conflict.{Conflict}
-use Rattle.conflicts.specs.Sharing.{sharedBy, Over, conflictSays, over}
+use Rattle.conflicts.specs.Sharing.{sharedBy, Over, conflictAsNumbers, over}
 
-pub over-none : (set : ℕ) → set ≡ 0 → conflictSays Conflict.None ≡ over set
+pub over-none : (set : ℕ) → set ≡ 0 → conflictAsNumbers Conflict.None ≡ over set
 unfolding over
 over-none set e = rw e
 
 -- Entries that are not both writes: two reads do not conflict, and a read and a write conflict over their names.
 module _ (writes reads : Bool) (names widened : ℕ) (w : writes ≡ false) where
-  pub reads-none : reads ≡ true → conflictSays Conflict.None ≡ over (sharedBy writes reads names widened)
+  pub reads-none : reads ≡ true → conflictAsNumbers Conflict.None ≡ over (sharedBy writes reads names widened)
   reads-none r = over-none _ (rw (w, r))
 
   pub by-names : {o : Over} → reads ≡ false → o ≡ over names → o ≡ over (sharedBy writes reads names widened)
   by-names r e = rw (w, r) e
 
-pub over-some : (set : ℕ) → 0 < set → set < 2 ^ mostResources
-    → conflictSays (Conflict.Over (trailingZeros mostResources set) (ones set)) ≡ over set
+pub over-some : (set : ℕ) → 0 < set → set < 2 ^ maxResources
+    → conflictAsNumbers (Conflict.Over (trailingZeros maxResources set) (ones set)) ≡ over set
 unfolding over
 over-some set some small =
-    rw (ne-eqb set 0 (λ e. omega (arith, e)), lowest-is mostResources set some small, ones-are mostResources set small)
+    rw (ne-eqb set 0 (λ e. omega (arith, e)), lowest-is maxResources set some small, ones-are maxResources set small)
 
 -- The number shows which of the two it is: no conflict, or a conflict.
 which : (t : Bool) (none one : Over) → none .number ≡ 0 → one .number ≡ 1 → eqb (cond t none one .number) 1 ≡ not t

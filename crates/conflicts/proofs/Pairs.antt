@@ -12,7 +12,7 @@ use Rattle.masks.specs.Sets.{added, maskOf}
 use Rattle.masks.proofs.Masks.{mask-next}
 use Rattle.plans.specs.declared.Entry.{Entry}
 use Rattle.plans.specs.declared.Plan.{Plan}
-use Rattle.plans.specs.Entries.{mostEntries, isRead, isWrite, countedEntries, blankEntry, entryAt}
+use Rattle.plans.specs.Entries.{maxEntries, isRead, isWrite, countedEntries, blankEntry, entryAt}
 use Rattle.conflicts.specs.Sharing.{sharedBy, Over, over}
 use Rattle.conflicts.specs.Widening.{widenedSet}
 use Rattle.conflicts.specs.Conflict.{shared, conflict, inConflict, conflictsOf}
@@ -27,10 +27,10 @@ abbrev pair : Entry → ℕ → Entry → ℕ → Bool
 pair e a f b = not (eqb (pairShares e a f b) 0)
 
 module _ (p : Plan) (sets : List ℕ) (made : sets ≡ conflictsOf p .widened) where
-  set-read : (i : ℕ) → i < mostEntries → i < p .count → getD sets i 0 ≡ widenedSet (countedEntries p) (getD (p .entries) i blankEntry)
+  set-read : (i : ℕ) → i < maxEntries → i < p .count → getD sets i 0 ≡ widenedSet (countedEntries p) (getD (p .entries) i blankEntry)
   set-read i l h = ap (λ s. getD s i 0) made ∙ widened-at p i l ∙ widened-counted p i h
 
-  pair-in-conflict : (i j : ℕ) → i < mostEntries → j < mostEntries
+  pair-in-conflict : (i j : ℕ) → i < maxEntries → j < maxEntries
       → ((ltb i (p .count) && ltb j (p .count))
       && pair (getD (p .entries) i blankEntry) (getD sets i 0) (getD (p .entries) j blankEntry) (getD sets j 0))
       ≡ inConflict p i j
@@ -48,7 +48,7 @@ module _ (p : Plan) (sets : List ℕ) (made : sets ≡ conflictsOf p .widened) w
       go false u hi hj = refl
 
   -- The row of entry i with column j added, whether or not the pair conflicts.
-  pub row-next : (i j row next : ℕ) (found : Over) → i < mostEntries → j < mostEntries → row ≡ maskOf j (inConflict p i)
+  pub row-next : (i j row next : ℕ) (found : Over) → i < maxEntries → j < maxEntries → row ≡ maskOf j (inConflict p i)
       → found ≡ over (pairShares (getD (p .entries) i blankEntry) (getD sets i 0) (getD (p .entries) j blankEntry) (getD sets j 0))
       → next ≡ cond ((ltb i (p .count) && ltb j (p .count)) && eqb (found .number) 1) (added row j) row
       → next ≡ maskOf (j + 1) (inConflict p i)

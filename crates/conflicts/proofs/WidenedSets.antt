@@ -9,7 +9,7 @@ use lib.Seq.{getD-take}
 use borrow.Author.Tests.{lt-ltb, ltb-true, ltb-false}
 use Rattle.plans.specs.declared.Entry.{Entry}
 use Rattle.plans.specs.declared.Plan.{Plan}
-use Rattle.plans.specs.Entries.{mostEntries, countedEntries, blankEntry, entryAt}
+use Rattle.plans.specs.Entries.{maxEntries, countedEntries, blankEntry, entryAt}
 use Rattle.conflicts.specs.Widening.{widenedSet}
 use Rattle.conflicts.specs.Conflict.{conflictsOf}
 use Rattle.masks.proofs.Tabulate.{getD-tabulate}
@@ -41,6 +41,6 @@ counted-field p i f none = go (ltb i (p .count)) refl
     go false e = sym (ap f (past-count p i e) ∙ none)
 
 -- The elements of the array of all widened sets.
-pub widened-at : (p : Plan) (i : ℕ) → i < mostEntries → getD (conflictsOf p .widened) i 0 ≡ widenedAt p i
+pub widened-at : (p : Plan) (i : ℕ) → i < maxEntries → getD (conflictsOf p .widened) i 0 ≡ widenedAt p i
 unfolding conflictsOf
-widened-at p i l = getD-tabulate mostEntries (widenedAt p) i 0 l
+widened-at p i l = getD-tabulate maxEntries (widenedAt p) i 0 l

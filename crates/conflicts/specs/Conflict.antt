@@ -8,7 +8,7 @@ use Rattle.masks.specs.Sets.{maskOf}
 use Rattle.masks.specs.Tabulation.{tabulate}
 use Rattle.plans.specs.declared.Entry.{Entry}
 use Rattle.plans.specs.declared.Plan.{Plan}
-use Rattle.plans.specs.Entries.{mostEntries, isRead, isWrite, countedEntries, entryAt}
+use Rattle.plans.specs.Entries.{maxEntries, isRead, isWrite, countedEntries, entryAt}
 use Rattle.conflicts.specs.Sharing.{sharedBy}
 use Rattle.conflicts.specs.Widening.{widenedSet}
 use Rattle.conflicts.specs.declared.Conflicts.{Conflicts}
@@ -33,7 +33,7 @@ inConflict p i j =
 unfoldable pub conflictsOf : Plan → Conflicts
 conflictsOf p =
     record {
-      names = tabulate mostEntries (λ i. entryAt p i .set);
-      widened = tabulate mostEntries (λ i. cond (ltb i (p .count)) (widenedSet (countedEntries p) (entryAt p i)) 0);
-      rows = tabulate mostEntries (λ i. maskOf mostEntries (inConflict p i));
+      names = tabulate maxEntries (λ i. entryAt p i .set);
+      widened = tabulate maxEntries (λ i. cond (ltb i (p .count)) (widenedSet (countedEntries p) (entryAt p i)) 0);
+      rows = tabulate maxEntries (λ i. maskOf maxEntries (inConflict p i));
     }

@@ -3,7 +3,7 @@ use Prim.Native.Nat.{ℕ}
 use mathlib.Core.Bool.{Bool, cond}
 use lib.Dec.{eqb}
 use Rattle.masks.specs.Sets.{bit, countOf, lowestOf}
-use Rattle.plans.specs.Entries.{mostResources}
+use Rattle.plans.specs.Entries.{maxResources}
 use Rattle.conflicts.specs.declared.sharing.Conflict.{Conflict}
 
 -- Clauses 3.2 and 5.8: the resources that two entries conflict over: for two writes what their widened sets share, for
@@ -21,12 +21,12 @@ pub record Over : Type 0 where
 abbrev pub noConflict : Over
 noConflict = record { number = 0; lowest = 0; count = 0 }
 
-abbrev pub conflictSays : Conflict → Over
-conflictSays Conflict.None = noConflict
-conflictSays (Conflict.Over lowest count) = record { number = 1; lowest = lowest; count = count }
+abbrev pub conflictAsNumbers : Conflict → Over
+conflictAsNumbers Conflict.None = noConflict
+conflictAsNumbers (Conflict.Over lowest count) = record { number = 1; lowest = lowest; count = count }
 
 -- Clause 3.4: the conflict over a set of shared resources.
 unfoldable pub over : ℕ → Over
 over set =
     cond (eqb set 0) noConflict
-    (record { number = 1; lowest = lowestOf mostResources (bit set); count = countOf mostResources (bit set) })
+    (record { number = 1; lowest = lowestOf maxResources (bit set); count = countOf maxResources (bit set) })

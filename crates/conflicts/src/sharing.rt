@@ -9,7 +9,7 @@ ghost use mathlib.Core.Bool.{_&&_};
 ghost use lib.Bits.{bitAnd};
 ghost use lib.Dec.{eqb};
 ghost use Rattle.plans.specs.Entries.{isRead, isWrite};
-ghost use Rattle.conflicts.specs.Sharing.{sharedBy, conflictSays, over};
+ghost use Rattle.conflicts.specs.Sharing.{sharedBy, conflictAsNumbers, over};
 
 // No conflict, or a conflict over shared resources: the lowest-numbered of them, and how many there are.
 pub enum Conflict {
@@ -19,7 +19,7 @@ pub enum Conflict {
 
 // The conflict over a set of shared resources.
 pub fn conflict_over(set: u64) -> Conflict
-    ensures { λ r. ⌜ conflictSays r ≡ over set ⌝ }
+    ensures { λ r. ⌜ conflictAsNumbers r ≡ over set ⌝ }
 {
     if set == 0 {
         return Conflict::None;
@@ -33,7 +33,7 @@ pub fn conflict_over(set: u64) -> Conflict
 // Clause 3.2: the conflict of two entries, given whether both are writes, whether both are reads, the names that they
 // share, and what their widened sets share.
 pub fn conflict_by(writes: bool, reads: bool, names: u64, widened: u64) -> Conflict
-    ensures { λ r. ⌜ conflictSays r ≡ over (sharedBy writes reads names widened) ⌝ }
+    ensures { λ r. ⌜ conflictAsNumbers r ≡ over (sharedBy writes reads names widened) ⌝ }
 {
     if writes {
         return conflict_over(widened);
@@ -47,7 +47,7 @@ pub fn conflict_by(writes: bool, reads: bool, names: u64, widened: u64) -> Confl
 // Clause 3.2: two writes conflict over their widened sets, a read and a write over their names, two reads never.
 pub fn pair_conflict(e: Entry, e_widened: u64, f: Entry, f_widened: u64) -> Conflict
     ensures { λ r. ⌜
-        conflictSays r
+        conflictAsNumbers r
         ≡ over (sharedBy (isWrite e && isWrite f) (isRead e && isRead f) (bitAnd (e .set) (f .set))
         (bitAnd «e_widened» «f_widened»))
         ⌝ }
@@ -61,7 +61,7 @@ pub fn pair_conflict(e: Entry, e_widened: u64, f: Entry, f_widened: u64) -> Conf
 
 // Whether there is a conflict.
 pub fn is_conflict(conflict: Conflict) -> bool
-    ensures { λ r. ⌜ r ≡ eqb (conflictSays conflict .number) 1 ⌝ }
+    ensures { λ r. ⌜ r ≡ eqb (conflictAsNumbers conflict .number) 1 ⌝ }
 {
     match conflict {
         Conflict::None => false,

@@ -11,7 +11,7 @@ use lib.ListN.{getD}
 use borrow.Author.Tests.{lt-ltb}
 use Rattle.masks.specs.Sets.{bit}
 use Rattle.plans.specs.declared.Plan.{Plan}
-use Rattle.plans.specs.Entries.{mostEntries, isRead, isWrite, countedEntries, entryAt}
+use Rattle.plans.specs.Entries.{maxEntries, isRead, isWrite, countedEntries, entryAt}
 use Rattle.plans.specs.Acceptance.{planFault}
 use Rattle.plans.proofs.Accepted.{accepted-count}
 use Rattle.conflicts.specs.Sharing.{sharedBy, Over, over}
@@ -30,12 +30,12 @@ unfolding boardOf
 counted-on-board p k l = lt-ltb k (p .count) l
 
 module _ (p : Plan) (taken : planFault p ≡ 0) (i j : ℕ) (li : i < p .count) (lj : j < p .count) where
-  abbrev few : p .count ≤ mostEntries
+  abbrev few : p .count ≤ maxEntries
   few = accepted-count p taken
 
   names-on-board : (k : ℕ) → k < p .count → getD (boardOf p .names) k 0 ≡ entryAt p k .set
   unfolding boardOf conflictsOf
-  names-on-board k l = getD-tabulate mostEntries (λ i. entryAt p i .set) k 0 (le-trans l few)
+  names-on-board k l = getD-tabulate maxEntries (λ i. entryAt p i .set) k 0 (le-trans l few)
 
   widened-on-board : (k : ℕ) → k < p .count → getD (boardOf p .widened) k 0 ≡ widenedSet (countedEntries p) (entryAt p k)
   unfolding boardOf

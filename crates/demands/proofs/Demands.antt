@@ -13,13 +13,13 @@ use Prim.Native.Nat.{ℕ, _<_}
 use mathlib.Core.Path.{_≡_, refl, _∙_}
 use mathlib.Core.List.{List}
 use lib.ListN.{length}
-use Rattle.refusals.specs.Due.{said}
+use Rattle.refusals.specs.Due.{asNumbers}
 use Rattle.refusals.proofs.Numbers.{positive-not-zero, said-refusal}
 use Rattle.encoding.specs.Buffers.{overwritten}
 use Rattle.plans.specs.declared.Plan.{Plan}
 use Rattle.plans.specs.Acceptance.{planFault}
-use Rattle.plans.specs.Reading.{readFault, readSays, planIn, planRead, blankPlan}
-use Rattle.plans.specs.Writing.{planBytes, writeFault, writeSays, writtenBuffer}
+use Rattle.plans.specs.Reading.{readFault, readAsNumbers, planIn, planRead, blankPlan}
+use Rattle.plans.specs.Writing.{planBytes, writeFault, writeAsNumbers, writtenBuffer}
 use Rattle.rules.specs.declared.calls.Call.{Call}
 use Rattle.rules.specs.Replies.{refusedWith}
 use Rattle.rules.specs.declared.states.Board.{Board}
@@ -40,8 +40,8 @@ use Rattle.logs.specs.Records.{fieldsIn, recordFault, readRecord}
 -- These definitions give the number that is due, or 0 if none is: readFault, writeFault, planFault, issueFault,
 -- completeFault, withdrawFault, handoverFault, processorFault, reachFault, listFault, pairFault, recordFault and
 -- tailFault. The functions promise, for every value:
---   plan_bytes::read          `outcomeSays` (r .outcome) ≡ `readSays` bytes, and r .plan ≡ planRead bytes
---   plan_bytes::write         `outcomeSays` r ≡ `writeSays` plan buffer at,
+--   plan_bytes::read          `outcomeAsNumbers` (r .outcome) ≡ `readAsNumbers` bytes, and r .plan ≡ planRead bytes
+--   plan_bytes::write         `outcomeAsNumbers` r ≡ `writeAsNumbers` plan buffer at,
 --                             and the buffer after it ≡ writtenBuffer plan buffer at
 --   plan_checks::check        verdictNumber r ≡ planFault plan
 --   boards::fresh_of          verdictNumber (r .verdict) ≡ planFault plan, r .board ≡ freshBoard plan,
@@ -58,27 +58,27 @@ use Rattle.logs.specs.Records.{fieldsIn, recordFault, readRecord}
 --   calls_in_place::complete_in_place  the same with completed
 --   calls_in_place::withdraw_in_place  the same with withdrawn
 --   calls_in_place::handover_in_place  the same with handedOver
---   queries::phase_of         `phaseSays` r ≡ phaseQuery board state processor
---   queries::direct_waits     `maskSays` r ≡ waitsQuery board state processor
---   reach::reach              `maskSays` r ≡ reachQuery board state processor scratch,
+--   queries::phase_of         `phaseAsNumbers` r ≡ phaseQuery board state processor
+--   queries::direct_waits     `maskAsNumbers` r ≡ waitsQuery board state processor
+--   reach::reach              `maskAsNumbers` r ≡ reachQuery board state processor scratch,
 --                             and the scratch after it ≡ reachScratch ..
---   queries::list_board       `outcomeSays` r ≡ boardQuery board buffer, and the buffer after it ≡ boardBuffer ..
+--   queries::list_board       `outcomeAsNumbers` r ≡ boardQuery board buffer, and the buffer after it ≡ boardBuffer ..
 --   queries::list_board_in_place       the same, for the board and the state that it is lent
---   queries::shared_by        `sharedSays` r ≡ sharedQuery board first second;
+--   queries::shared_by        `sharedAsNumbers` r ≡ sharedQuery board first second;
 --                             Contention.antt says what that is on a plan's board
---   registers::read           `registerSays` r ≡ registerRead block offset
+--   registers::read           `registerAsNumbers` r ≡ registerRead block offset
 --                             (register_block::read_register: the same, for the block that it is lent)
---   register_block::write     `changeSays` r ≡ registerWrite board state block offset value,
+--   register_block::write     `changeAsNumbers` r ≡ registerWrite board state block offset value,
 --                             in which a refused command changes offset 3 alone
---                             (register_block::write_register: `writtenSays` r and the block after it
+--                             (register_block::write_register: `writtenAsNumbers` r and the block after it
 --                             ≡ registerWrite ..)
---   logs::read_count          `countSays` r ≡ readCount bytes
---   logs::read_record         `recordSays` r ≡ readRecord bytes
+--   logs::read_count          `countAsNumbers` r ≡ readCount bytes
+--   logs::read_record         `recordAsNumbers` r ≡ readRecord bytes
 --   logs::check_tail          verdictNumber r ≡ tailFault bytes
--- and for the lines of listings and replay: `lineSays` and lineBuffer of firstLine, callLine and refusalLine.
+-- and for the lines of listings and replay: `lineAsNumbers` and lineBuffer of firstLine, callLine and refusalLine.
 
 pub refused-reading-gives-number-only : (s : List ℕ) → 0 < readFault s
-    → (readSays s ≡ record { number = readFault s; value = 0 }) × (planRead s ≡ blankPlan)
+    → (readAsNumbers s ≡ record { number = readFault s; value = 0 }) × (planRead s ≡ blankPlan)
 unfolding planRead
 refused-reading-gives-number-only s due = (said-refusal (readFault s) _ due, rw (positive-not-zero (readFault s) due))
 
@@ -88,7 +88,7 @@ accepted-reading-gives-plan s ok = rw ok
 
 module _ (p : Plan) (buffer : List ℕ) (at : ℕ) where
   pub refused-writing-changes-nothing : 0 < writeFault p (length buffer) at
-      → (writeSays p buffer at ≡ record { number = writeFault p (length buffer) at; value = 0 })
+      → (writeAsNumbers p buffer at ≡ record { number = writeFault p (length buffer) at; value = 0 })
       × (writtenBuffer p buffer at ≡ buffer)
   unfolding writtenBuffer
   refused-writing-changes-nothing due =
@@ -138,7 +138,7 @@ module _ (b : Board) (s : State) where
   -- A call in place on the lent parts of a board and a state answers what the call by value answers.
   pub in-place-is-by-value : (c : Call)
       → answered (boardBy (b .terms) (b .rows) (b .lengths))
-      (stateBy (record { last = s .last; phases = s .phases }) (s .entry) (s .since) (s .earlier)) c
+      (stateBy (record { last = s .last; phases = s .phases }) (s .requested) (s .since) (s .earlier)) c
       ≡ answered b s c
   unfolding putState takenState settledDone issued left completed withdrawn both handedOver
   in-place-is-by-value (Call.Issue p e t) = refl
@@ -149,7 +149,7 @@ module _ (b : Board) (s : State) where
   -- This also covers the state of a processor and its direct waits: each answer is made of the number that is due and
   -- the value.
   pub refused-query-gives-number-only : (p value : ℕ) → 0 < processorFault (b .terms) p
-      → said (processorFault (b .terms) p) value ≡ record { number = processorFault (b .terms) p; value = 0 }
+      → asNumbers (processorFault (b .terms) p) value ≡ record { number = processorFault (b .terms) p; value = 0 }
   refused-query-gives-number-only p value due = said-refusal (processorFault (b .terms) p) value due
 
   pub refused-reach-changes-nothing : (p : ℕ) (scratch : List ℕ) → 0 < reachFault b p scratch

@@ -7,10 +7,10 @@ use mathlib.Core.List.{List}
 use lib.Dec.{eqb}
 use Rattle.masks.specs.Sets.{bit}
 use Rattle.plans.specs.declared.Plan.{Plan}
-use Rattle.plans.specs.Entries.{slots}
+use Rattle.plans.specs.Entries.{maxProcessors}
 use Rattle.plans.specs.Acceptance.{planFault}
 use Rattle.rules.specs.declared.calls.Call.{Call}
-use Rattle.rules.specs.declared.settling.Phases.{Phases}
+use Rattle.rules.specs.declared.states.Phases.{Phases}
 use Rattle.rules.specs.Faults.{handoverFault}
 use Rattle.rules.specs.Calls.{Answer, phasesOf, answered}
 use Rattle.boards.specs.Fresh.{boardOf}
@@ -32,7 +32,7 @@ dueFor plan calls p e t =
     (phasesOf (boardOf plan) (reachedBy plan calls)) p e t
 
 module _ (plan : Plan) (taken : planFault plan ≡ 0) (calls : List Call) (p e t : ℕ)
-    (ok : dueFor plan calls p e t ≡ 0) (q : ℕ) (l : q < slots) where
+    (ok : dueFor plan calls p e t ≡ 0) (q : ℕ) (l : q < maxProcessors) where
   -- The granted mask contains the processors that hold after it and did not before, and the caller if its new request
   -- holds.
   pub handover-grants : bit (handover plan calls p e t .reply .granted) q

@@ -7,6 +7,7 @@ use Rattle.masks.specs.Sets.{bit, some, maskOf}
 use Rattle.encoding.specs.Numbers.{number}
 use Rattle.plans.specs.Acceptance.{countsFault, entryFault, entriesFault, planFault}
 use Rattle.plans.specs.Figures.{longest}
+use Rattle.plans.specs.Entries.{entrySizeOf, sectionSize}
 use Rattle.plans.specs.Reading.{entryIn, entriesIn, sectionFault, readFault, planIn, planRead}
 use Rattle.conflicts.specs.Widening.{widen, widenedSet}
 use Rattle.masks.specs.Tabulation.{tabulate}
@@ -137,5 +138,5 @@ pub table : List Worked
 table = plan-f ∷ empty ∷ refused-02-tail ∷ refused-07-not-counted ∷ refused-09-verb ∷ refused-15-entitled ∷ order-10-before-11 ∷ read-of-a-widened-resource ∷ two-issues-at-one-tick ∷ one-processor ∷ hold-of-20-and-21 ∷ readers-share ∷ repeated-tick ∷ withdrawn-write-leaves-reads ∷ handover-settles-twice ∷ []
 
 pub listings-are-as-printed : map (λ w. listingOf (w .log)) table ≡ map (λ w. w .listing) table
-unfolding table bit some maskOf number countsFault entryFault entriesFault planFault longest entryIn entriesIn sectionFault readFault planIn planRead widen widenedSet tabulate shared conflict inConflict conflictsOf test1 step1 test2 step2 test3 step3 test4 step4 settled isHolding isEntitled isWaiting cleaned issueFault completeFault withdrawFault handoverFault putIn putLast takenOut stamped putState takenState done settledDone issued left completed withdrawn both handedOver boardOf fieldsIn recordFault digits maskIn furtherFields refusalLine firstLine callLine callsListing listingOf
+unfolding table bit some maskOf number countsFault entryFault entriesFault planFault longest entrySizeOf sectionSize entryIn entriesIn sectionFault readFault planIn planRead widen widenedSet tabulate shared conflict inConflict conflictsOf test1 step1 test2 step2 test3 step3 test4 step4 settled isHolding isEntitled isWaiting cleaned issueFault completeFault withdrawFault handoverFault putIn putLast takenOut stamped putState takenState done settledDone issued left completed withdrawn both handedOver boardOf fieldsIn recordFault digits maskIn furtherFields refusalLine firstLine callLine callsListing listingOf
 listings-are-as-printed = refl

@@ -3,14 +3,14 @@ use Prim.Native.Nat.{ℕ}
 use mathlib.Core.Path.{_≡_, sym, ap, _∙_}
 use Rattle.refusals.specs.declared.Refusal.{Refusal}
 use Rattle.refusals.specs.Number.{numberOf}
-use Rattle.refusals.specs.Due.{said}
+use Rattle.refusals.specs.Due.{asNumbers}
 use Rattle.refusals.proofs.Numbers.{said-accepted}
 use Rattle.encoding.specs.declared.Outcome.{Outcome}
-use Rattle.encoding.specs.Buffers.{outcomeSays}
+use Rattle.encoding.specs.Buffers.{outcomeAsNumbers}
 
-module _ (o : Outcome) (number value : ℕ) (says : outcomeSays o ≡ said number value) where
+module _ (o : Outcome) (number value : ℕ) (says : outcomeAsNumbers o ≡ asNumbers number value) where
   pub bytes-said : (n : ℕ) → o ≡ Outcome.Bytes n → (number ≡ 0) × (value ≡ n)
-  bytes-said n e = said-accepted number value n (sym says ∙ ap outcomeSays e)
+  bytes-said n e = said-accepted number value n (sym says ∙ ap outcomeAsNumbers e)
 
   pub refusal-said : (r : Refusal) → o ≡ Outcome.Refused r → number ≡ numberOf r
-  refusal-said r e = ap (λ a. a .number) (sym says ∙ ap outcomeSays e)
+  refusal-said r e = ap (λ a. a .number) (sym says ∙ ap outcomeAsNumbers e)

@@ -11,7 +11,7 @@ use lib.Seq.{sets}
 use borrow.Author.Tests.{leb-true, le-leb}
 use Rattle.masks.proofs.Truth.{and-left, and-right}
 use Rattle.refusals.proofs.Numbers.{due-accepted}
-use Rattle.refusals.specs.Due.{said}
+use Rattle.refusals.specs.Due.{asNumbers}
 use Rattle.encoding.specs.Buffers.{shortFault, hasRoom, roomFault, bufferAfter}
 use Rattle.encoding.proofs.Stores.{sets-overwritten}
 
@@ -51,13 +51,13 @@ stored-where-fits l at new n size h =
 -- With room and without: the answer, and the content of the buffer.
 module _ (needed at : ℕ) (l new : List ℕ) where
   pub with-room : length new ≡ needed → hasRoom needed (length l) at ≡ true → (after : List ℕ) → after ≡ sets l at new
-      → (said 0 needed ≡ said (roomFault needed (length l) at) needed)
+      → (asNumbers 0 needed ≡ asNumbers (roomFault needed (length l) at) needed)
       × (after ≡ bufferAfter (roomFault needed (length l) at) new l at)
   with-room h e after stored =
       let fits : at + length new ≤ length l = omega (arith, there-is-room needed (length l) at e) in
       rw e (refl, stored ∙ sets-overwritten l at new fits)
 
   pub without-room : hasRoom needed (length l) at ≡ false
-      → (said 16 needed ≡ said (roomFault needed (length l) at) needed)
+      → (asNumbers 16 needed ≡ asNumbers (roomFault needed (length l) at) needed)
       × (l ≡ bufferAfter (roomFault needed (length l) at) new l at)
   without-room e = rw e (refl, refl)

@@ -5,7 +5,7 @@ use mathlib.Core.List.{List, _++_}
 use lib.Dec.{eqb, leb}
 use lib.ListN.{length, take, drop}
 use Rattle.refusals.specs.Number.{numberOf}
-use Rattle.refusals.specs.Due.{Said, due}
+use Rattle.refusals.specs.Due.{AsNumbers, due}
 use Rattle.encoding.specs.declared.Outcome.{Outcome}
 
 -- Clauses 2.9 and 8.1: 1 if the bytes s end before the n bytes that are due.
@@ -30,6 +30,6 @@ abbrev pub bufferAfter : ℕ → List ℕ → List ℕ → ℕ → List ℕ
 bufferAfter number new buffer at = cond (eqb number 0) (overwritten buffer at new) buffer
 
 -- How many bytes were read or written, or the refusal, as numbers.
-abbrev pub outcomeSays : Outcome → Said
-outcomeSays (Outcome.Bytes n) = record { number = 0; value = n }
-outcomeSays (Outcome.Refused r) = record { number = numberOf r; value = 0 }
+abbrev pub outcomeAsNumbers : Outcome → AsNumbers
+outcomeAsNumbers (Outcome.Bytes n) = record { number = 0; value = n }
+outcomeAsNumbers (Outcome.Refused r) = record { number = numberOf r; value = 0 }

@@ -7,9 +7,9 @@ ghost use mathlib.Core.Path.{_≡_};
 ghost use Prim.Native.Nat.{_+_, _≤_};
 ghost use lib.ListN.{length};
 ghost use lib.Seq.{sets};
-ghost use Rattle.refusals.specs.Due.{said};
+ghost use Rattle.refusals.specs.Due.{asNumbers};
 ghost use Rattle.encoding.specs.Numbers.{bytesOf};
-ghost use Rattle.encoding.specs.Buffers.{roomFault, bufferAfter, outcomeSays};
+ghost use Rattle.encoding.specs.Buffers.{roomFault, bufferAfter, outcomeAsNumbers};
 
 // Stores a number as size bytes, from position at.
 fn store_number(value: u64, size: usize, buffer: &mut [u8], at: usize)
@@ -27,7 +27,7 @@ fn store_number(value: u64, size: usize, buffer: &mut [u8], at: usize)
 
 // Writes a number into the buffer as size bytes, from position at. Other bytes stay. Without room it writes nothing.
 pub fn write_number(value: u64, size: usize, buffer: &mut [u8], at: usize) -> Outcome
-    ensures outcome { λ r. ⌜ outcomeSays r ≡ said (roomFault size (length (now (buffer .entry))) at) size ⌝ }
+    ensures outcome { λ r. ⌜ outcomeAsNumbers r ≡ asNumbers (roomFault size (length (now (buffer .entry))) at) size ⌝ }
     ensures bytes { λ _. ⌜
         now (buffer .exit)
         ≡ bufferAfter (roomFault size (length (now (buffer .entry))) at) (bytesOf size value) (now (buffer .entry)) at

@@ -1,8 +1,8 @@
 // The two figures of a plan: the longest time that a read waits, and the longest that a write waits. `listings` writes
 // them in the first line of a listing, and `viewer` gives them to C.
-use plans::ENTRIES;
 use plans::Entry;
 use plans::Figures;
+use plans::MAX_ENTRIES;
 use plans::Plan;
 use plans::counted_of;
 use plans::is_read;
@@ -11,7 +11,7 @@ ghost use mathlib.Core.Path.{_≡_};
 ghost use mathlib.Core.Bool.{cond};
 ghost use Prim.Native.Nat.{_-_, _<_, _≤_, max};
 ghost use lib.ListN.{take};
-ghost use Rattle.plans.specs.Entries.{mostEntries, isRead, isWrite};
+ghost use Rattle.plans.specs.Entries.{maxEntries, isRead, isWrite};
 ghost use Rattle.plans.specs.Figures.{longest, figuresOf};
 
 // The longer of two lengths.
@@ -41,8 +41,8 @@ fn length_if(asked: bool, entry: Entry) -> u32
 }
 
 // The longest length of the counted writes or of the counted reads, or 0 if there are none.
-fn longest_of(entries: [Entry; ENTRIES], count: u8, writes: bool) -> u32
-    requires { ⌜ count ≤ mostEntries ⌝ }
+fn longest_of(entries: [Entry; MAX_ENTRIES], count: u8, writes: bool) -> u32
+    requires { ⌜ count ≤ maxEntries ⌝ }
     ensures is { λ r. ⌜ r ≡ longest (cond writes isWrite isRead) (take count entries) ⌝ }
     ensures small { λ r. ⌜ r < 65536 ⌝ }
 {

@@ -57,7 +57,7 @@ pub fn put_labelled(word: &[u8], n: u64, buffer: &mut [u8], at: usize) -> usize
 }
 
 // The same with a line feed: the end of a line.
-pub fn put_last(word: &[u8], n: u64, buffer: &mut [u8], at: usize) -> usize
+pub fn put_line_end(word: &[u8], n: u64, buffer: &mut [u8], at: usize) -> usize
     ensures size { λ r. ⌜ r ≡ fieldSize (lastField (now (word .entry)) n) (length (now (buffer .entry))) at ⌝ }
     ensures bytes { λ _. ⌜ now (buffer .exit)
         ≡ fieldBuffer (lastField (now (word .entry)) n) (now (buffer .entry)) at ⌝ }

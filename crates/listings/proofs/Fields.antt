@@ -7,7 +7,7 @@ use Rattle.refusals.specs.Number.{numberOf}
 use Rattle.refusals.proofs.Numbers.{number-not-zero}
 use Rattle.rules.specs.declared.calls.Reply.{Reply}
 use Rattle.rules.specs.declared.calls.Call.{Call}
-use Rattle.rules.specs.Replies.{Response, replySays}
+use Rattle.rules.specs.Replies.{Response, replyAsNumbers}
 use Rattle.plans.specs.Entries.{maskSizeFor}
 use Rattle.digits.specs.Digits.{hexPairs}
 use Rattle.digits.proofs.Table.{mask-digits}
@@ -17,10 +17,10 @@ use Rattle.listings.specs.Lines.{replyFields, callLine, callLineBy}
 -- The fields of a reply, after the processor.
 module _ (mask : ℕ → List ℕ) (reply : Reply) where
   pub done-fields : (granted entitled late : ℕ) → reply ≡ Reply.Done granted entitled late
-      → replyFields mask (replySays reply) ≡ doneFields mask granted entitled late
+      → replyFields mask (replyAsNumbers reply) ≡ doneFields mask granted entitled late
   done-fields granted entitled late e = rw e refl
 
-  pub refused-fields : (r : Refusal) → reply ≡ Reply.Refused r → replyFields mask (replySays reply) ≡ refusedFields (numberOf r)
+  pub refused-fields : (r : Refusal) → reply ≡ Reply.Refused r → replyFields mask (replyAsNumbers reply) ≡ refusedFields (numberOf r)
   refused-fields r e = rw (e, number-not-zero r)
 
 -- With the table of all bytes, `callLineBy` is `callLine`.

@@ -11,7 +11,7 @@ use lib.Dec.{eqb}
 use lib.ListN.{length}
 use Rattle.plans.specs.Entries.{maskSizeFor}
 use Rattle.rules.specs.declared.calls.Call.{Call}
-use Rattle.rules.specs.CallNumbers.{callSays}
+use Rattle.rules.specs.CallNumbers.{callAsNumbers}
 use Rattle.rules.specs.Replies.{Response}
 use Rattle.digits.specs.Digits.{decimal, hexMask}
 use Rattle.listings.specs.PlainLines.{refusedWord, furtherFields, refusalLine}
@@ -34,10 +34,10 @@ reply-most n two reply k number late = go (eqb (reply .number) 0)
 
 call-length : (m : ℕ) (c : Call) (reply : Response)
     → length (callLine m c reply)
-    ≡ length (decimal (callSays c .tick)) + 3 + length (decimal (callSays c .processor)) + length (furtherFields (replyFields (hexMask (maskSizeFor m)) reply))
+    ≡ length (decimal (callAsNumbers c .tick)) + 3 + length (decimal (callAsNumbers c .processor)) + length (furtherFields (replyFields (hexMask (maskSizeFor m)) reply))
 unfolding callLine
 call-length m c reply =
-    length-fields (letterOf c) (callSays c .processor) (callSays c .tick) (replyFields (hexMask (maskSizeFor m)) reply)
+    length-fields (letterOf c) (callAsNumbers c .processor) (callAsNumbers c .tick) (replyFields (hexMask (maskSizeFor m)) reply)
 
 pub any-call : (m : ℕ) (c : Call) (reply : Response) → length (callLine m c reply) ≤ 67 + 4 * maskSizeFor m
 any-call m c reply =
@@ -45,8 +45,8 @@ any-call m c reply =
     omega (
       arith,
       call-length m c reply,
-      few-digits (callSays c .tick),
-      few-digits (callSays c .processor),
+      few-digits (callAsNumbers c .tick),
+      few-digits (callAsNumbers c .processor),
       reply-most (maskSizeFor m) (least-bytes m) reply 20 number (few-digits (reply .late)),
     )
 
@@ -60,27 +60,27 @@ any-refusal n = omega (arith, length-refusal n, few-digits n)
 pub longest-refusal : (n : ℕ) → n < 10 ^ 2 → length (refusalLine n) ≤ 11
 longest-refusal n h = omega (arith, length-refusal n, most-digits 1 n h)
 
-module _ (m : ℕ) (c : Call) (reply : Response) (processor : callSays c .processor < 2 ^ 8) (number : reply .number < 10 ^ 2) where
-  call-most : (j k : ℕ) → callSays c .tick < 10 ^ suc j → reply .late < 10 ^ suc k → length (callLine m c reply) ≤ suc j + (suc k + 10) + 4 * maskSizeFor m
+module _ (m : ℕ) (c : Call) (reply : Response) (processor : callAsNumbers c .processor < 2 ^ 8) (number : reply .number < 10 ^ 2) where
+  call-most : (j k : ℕ) → callAsNumbers c .tick < 10 ^ suc j → reply .late < 10 ^ suc k → length (callLine m c reply) ≤ suc j + (suc k + 10) + 4 * maskSizeFor m
   call-most j k tick late =
-      let small : callSays c .processor < 10 ^ 3 = omega arith in
+      let small : callAsNumbers c .processor < 10 ^ 3 = omega arith in
       let two : length (decimal (reply .number)) ≤ 2 + suc k = omega (arith, most-digits 1 (reply .number) number) in
       omega (
         arith,
         call-length m c reply,
-        most-digits j (callSays c .tick) tick,
-        most-digits 2 (callSays c .processor) small,
+        most-digits j (callAsNumbers c .tick) tick,
+        most-digits 2 (callAsNumbers c .processor) small,
         reply-most (maskSizeFor m) (least-bytes m) reply (suc k) two (most-digits k (reply .late) late),
       )
 
-  pub longest-call : callSays c .tick < 2 ^ 64 → reply .late < 2 ^ 8 → length (callLine m c reply) ≤ 33 + 4 * maskSizeFor m
+  pub longest-call : callAsNumbers c .tick < 2 ^ 64 → reply .late < 2 ^ 8 → length (callLine m c reply) ≤ 33 + 4 * maskSizeFor m
   longest-call tick late =
-      let t : callSays c .tick < 10 ^ 20 = omega arith in
+      let t : callAsNumbers c .tick < 10 ^ 20 = omega arith in
       let l : reply .late < 10 ^ 3 = omega arith in
       omega (arith, call-most 19 2 t l)
 
-  pub longest-replayed : callSays c .tick < 2 ^ 40 → reply .late ≤ 1 → length (callLine m c reply) ≤ 24 + 4 * maskSizeFor m
+  pub longest-replayed : callAsNumbers c .tick < 2 ^ 40 → reply .late ≤ 1 → length (callLine m c reply) ≤ 24 + 4 * maskSizeFor m
   longest-replayed tick late =
-      let t : callSays c .tick < 10 ^ 13 = omega arith in
+      let t : callAsNumbers c .tick < 10 ^ 13 = omega arith in
       let l : reply .late < 10 ^ 1 = omega arith in
       omega (arith, call-most 12 0 t l)

@@ -12,7 +12,7 @@ use lib.Seq.{getD-take}
 use Rattle.refusals.proofs.Numbers.{first-accepted}
 use Rattle.plans.specs.declared.Entry.{Entry}
 use Rattle.plans.specs.declared.Plan.{Plan}
-use Rattle.plans.specs.Entries.{slots, mostResources, mostEntries, isRead, isWrite, countedEntries, blankEntry}
+use Rattle.plans.specs.Entries.{maxProcessors, maxResources, maxEntries, isRead, isWrite, countedEntries, blankEntry}
 use Rattle.plans.specs.Acceptance.{processorsFault, resourcesFault, countsFault, entryFault, entriesFault, planFault}
 use Rattle.plans.specs.Figures.{longest, readFigure, writeFigure}
 use Rattle.plans.proofs.Fits.{Fits-plan, Fit-entries}
@@ -71,9 +71,9 @@ longest-first p f =
     omega (arith, first-length p, most-digits 2 _ fp, most-digits 2 _ fr, most-digits 2 _ fc, most-digits 5 _ read, most-digits 7 _ write)
 
 record Counts (p : Plan) : Type 0 where
-  processors : p .processors ≤ slots
-  resources : p .resources ≤ mostResources
-  count : p .count ≤ mostEntries
+  processors : p .processors ≤ maxProcessors
+  resources : p .resources ≤ maxResources
+  count : p .count ≤ maxEntries
 
 accepted-counts : (p : Plan) → planFault p ≡ 0 → Counts p
 unfolding planFault countsFault
@@ -82,9 +82,9 @@ accepted-counts p e =
     let one = first-accepted (processorsFault (p .processors)) _ counts in
     let two = first-accepted (resourcesFault (p .resources)) _ (one .later) in
     record {
-      processors = within-most 1 slots (p .processors) 2 (one .first);
-      resources = within-most 1 mostResources (p .resources) 3 (two .first);
-      count = within-most 1 mostEntries (p .count) 4 (two .later);
+      processors = within-most 1 maxProcessors (p .processors) 2 (one .first);
+      resources = within-most 1 maxResources (p .resources) 3 (two .first);
+      count = within-most 1 maxEntries (p .count) 4 (two .later);
     }
 
 pub longest-accepted : (p : Plan) → Fits-plan p → planFault p ≡ 0 → length (firstLine p) ≤ 64

@@ -7,7 +7,7 @@ use Rattle.plans.specs.declared.Plan.{Plan}
 use Rattle.plans.specs.Entries.{maskSizeFor}
 use Rattle.plans.specs.Figures.{readFigure, writeFigure}
 use Rattle.rules.specs.declared.calls.Call.{Call}
-use Rattle.rules.specs.CallNumbers.{callSays}
+use Rattle.rules.specs.CallNumbers.{callAsNumbers}
 use Rattle.rules.specs.Replies.{Response}
 use Rattle.digits.specs.Digits.{hexMask, maskBy}
 use Rattle.listings.specs.PlainLines.{numbersLine, doneFields, refusedFields, fieldsLine}
@@ -33,9 +33,9 @@ letterOf (Call.Handover p e t) = 104
 -- digits depends on m.
 unfoldable pub callLine : ℕ → Call → Response → List ℕ
 callLine m c reply =
-    fieldsLine (letterOf c) (callSays c .processor) (callSays c .tick) (replyFields (hexMask (maskSizeFor m)) reply)
+    fieldsLine (letterOf c) (callAsNumbers c .processor) (callAsNumbers c .tick) (replyFields (hexMask (maskSizeFor m)) reply)
 
 -- The same, with the digits of masks from a table of pairs.
 unfoldable pub callLineBy : List ℕ → ℕ → Call → Response → List ℕ
 callLineBy pairs m c reply =
-    fieldsLine (letterOf c) (callSays c .processor) (callSays c .tick) (replyFields (maskBy pairs (maskSizeFor m)) reply)
+    fieldsLine (letterOf c) (callAsNumbers c .processor) (callAsNumbers c .tick) (replyFields (maskBy pairs (maskSizeFor m)) reply)

@@ -3,7 +3,7 @@
 use Prim.Native.Nat.{ℕ}
 use mathlib.Core.List.{List, [], _∷_, _++_}
 use lib.ListN.{length}
-use Rattle.refusals.specs.Due.{Said, said}
+use Rattle.refusals.specs.Due.{AsNumbers, asNumbers}
 use Rattle.encoding.specs.Buffers.{roomFault, bufferAfter}
 use Rattle.digits.specs.Digits.{decimal}
 
@@ -70,8 +70,8 @@ abbrev pub lineFault : List ℕ → ℕ → ℕ → ℕ
 lineFault bytes size at = roomFault (length bytes) size at
 
 -- How many bytes were written into a buffer of size bytes, or the refusal.
-abbrev pub lineSays : List ℕ → ℕ → ℕ → Said
-lineSays bytes size at = said (lineFault bytes size at) (length bytes)
+abbrev pub lineAsNumbers : List ℕ → ℕ → ℕ → AsNumbers
+lineAsNumbers bytes size at = asNumbers (lineFault bytes size at) (length bytes)
 
 -- Clause 2.12: the buffer after the line. Other bytes stay, and a refusal writes nothing.
 abbrev pub lineBuffer : List ℕ → List ℕ → ℕ → List ℕ

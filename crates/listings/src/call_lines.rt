@@ -7,11 +7,11 @@ use rules::Call;
 use rules::Reply;
 ghost use mathlib.Core.Path.{_≡_};
 ghost use lib.ListN.{length};
-ghost use Rattle.encoding.specs.Buffers.{outcomeSays};
-ghost use Rattle.rules.specs.Replies.{replySays};
+ghost use Rattle.encoding.specs.Buffers.{outcomeAsNumbers};
+ghost use Rattle.rules.specs.Replies.{replyAsNumbers};
 ghost use Rattle.plans.specs.Entries.{maskSizeFor};
 ghost use Rattle.digits.specs.Digits.{maskBy};
-ghost use Rattle.listings.specs.PlainLines.{fieldsLine, lineSays, lineBuffer};
+ghost use Rattle.listings.specs.PlainLines.{fieldsLine, lineAsNumbers, lineBuffer};
 ghost use Rattle.listings.specs.Lines.{replyFields, callLineBy};
 
 // A call's line from its letter, its numbers and the reply.
@@ -26,17 +26,17 @@ fn reply_line(
     at: usize,
 ) -> Outcome
     ensures outcome { λ r. ⌜
-        outcomeSays r
-        ≡ lineSays
+        outcomeAsNumbers r
+        ≡ lineAsNumbers
         (fieldsLine letter processor tick
-        (replyFields (maskBy (now (pairs .entry)) (maskSizeFor processors)) (replySays reply)))
+        (replyFields (maskBy (now (pairs .entry)) (maskSizeFor processors)) (replyAsNumbers reply)))
         (length (now (buffer .entry))) at
         ⌝ }
     ensures bytes { λ _. ⌜
         now (buffer .exit)
         ≡ lineBuffer
         (fieldsLine letter processor tick
-        (replyFields (maskBy (now (pairs .entry)) (maskSizeFor processors)) (replySays reply)))
+        (replyFields (maskBy (now (pairs .entry)) (maskSizeFor processors)) (replyAsNumbers reply)))
         (now (buffer .entry)) at
         ⌝ }
 {
@@ -74,12 +74,12 @@ pub fn call_line_by(
     at: usize,
 ) -> Outcome
     ensures outcome { λ r. ⌜
-        outcomeSays r
-        ≡ lineSays (callLineBy (now (pairs .entry)) processors call (replySays reply)) (length (now (buffer .entry))) at
+        outcomeAsNumbers r
+        ≡ lineAsNumbers (callLineBy (now (pairs .entry)) processors call (replyAsNumbers reply)) (length (now (buffer .entry))) at
         ⌝ }
     ensures bytes { λ _. ⌜
         now (buffer .exit)
-        ≡ lineBuffer (callLineBy (now (pairs .entry)) processors call (replySays reply)) (now (buffer .entry)) at
+        ≡ lineBuffer (callLineBy (now (pairs .entry)) processors call (replyAsNumbers reply)) (now (buffer .entry)) at
         ⌝ }
 {
     match call {

@@ -2,17 +2,17 @@
 // begun only if all of it fits. The module `lines` writes the lines of refusals.
 use digits::byte_digits;
 use encoding::Outcome;
-use line_fields::put_last;
 use line_fields::put_lead;
+use line_fields::put_line_end;
 use line_fields::put_masks;
 use plans::mask_size;
 use refusals::Refusal;
 ghost use mathlib.Core.Path.{_≡_};
 ghost use lib.ListN.{length};
-ghost use Rattle.encoding.specs.Buffers.{outcomeSays};
+ghost use Rattle.encoding.specs.Buffers.{outcomeAsNumbers};
 ghost use Rattle.plans.specs.Entries.{maskSizeFor};
 ghost use Rattle.digits.specs.Digits.{maskBy};
-ghost use Rattle.listings.specs.PlainLines.{fieldsLine, doneFields, lineSays, lineBuffer};
+ghost use Rattle.listings.specs.PlainLines.{fieldsLine, doneFields, lineAsNumbers, lineBuffer};
 
 // Clauses 9.7 and 9.9: the line of an accepted call, for a plan with this number of processors. The digits of masks
 // come from a lent table.
@@ -29,8 +29,8 @@ pub fn done_line(
     at: usize,
 ) -> Outcome
     ensures outcome { λ r. ⌜
-        outcomeSays r
-        ≡ lineSays
+        outcomeAsNumbers r
+        ≡ lineAsNumbers
         (fieldsLine letter processor tick
         (doneFields (maskBy (now (pairs .entry)) (maskSizeFor processors)) granted entitled late))
         (length (now (buffer .entry))) at
@@ -50,6 +50,6 @@ pub fn done_line(
     }
     let second = at + led;
     let third = second + put_masks(pairs, processors, granted, entitled, buffer, second);
-    put_last(b" ", late as u64, buffer, third);
+    put_line_end(b" ", late as u64, buffer, third);
     Outcome::Bytes(led + more)
 }

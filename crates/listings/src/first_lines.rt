@@ -4,16 +4,16 @@ use digits::digit_count;
 use encoding::Outcome;
 use encoding::has_room;
 use line_fields::put_labelled;
-use line_fields::put_last;
+use line_fields::put_line_end;
 use refusals::Refusal;
 ghost use mathlib.Core.Path.{_≡_};
 ghost use mathlib.Core.List.{[], _∷_};
 ghost use Prim.Native.Nat.{_+_, _≤_};
 ghost use lib.ListN.{length};
 ghost use lib.Seq.{sets};
-ghost use Rattle.encoding.specs.Buffers.{outcomeSays};
+ghost use Rattle.encoding.specs.Buffers.{outcomeAsNumbers};
 ghost use Rattle.digits.specs.Digits.{decimal};
-ghost use Rattle.listings.specs.PlainLines.{entriesWord, readWord, writeWord, furtherFields, numbersLine, lineSays, lineBuffer};
+ghost use Rattle.listings.specs.PlainLines.{entriesWord, readWord, writeWord, furtherFields, numbersLine, lineAsNumbers, lineBuffer};
 
 // The second half of the first line: the words `entries`, `read` and `write`, and their numbers.
 fn write_figures(count: u8, read: u32, write: u32, buffer: &mut [u8], at: usize)
@@ -28,7 +28,7 @@ fn write_figures(count: u8, read: u32, write: u32, buffer: &mut [u8], at: usize)
 {
     let second = at + put_labelled(b" entries ", count as u64, buffer, at);
     let third = second + put_labelled(b" read ", read as u64, buffer, second);
-    put_last(b" write ", write as u64, buffer, third);
+    put_line_end(b" write ", write as u64, buffer, third);
 }
 
 // The first line from its numbers.
@@ -83,8 +83,8 @@ pub fn numbers_line(
     at: usize,
 ) -> Outcome
     ensures outcome { λ r. ⌜
-        outcomeSays r
-        ≡ lineSays (numbersLine processors resources count read write) (length (now (buffer .entry))) at
+        outcomeAsNumbers r
+        ≡ lineAsNumbers (numbersLine processors resources count read write) (length (now (buffer .entry))) at
         ⌝ }
     ensures bytes { λ _. ⌜
         now (buffer .exit) ≡ lineBuffer (numbersLine processors resources count read write) (now (buffer .entry)) at

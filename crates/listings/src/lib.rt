@@ -17,13 +17,13 @@ use refusals::number;
 ghost use mathlib.Core.Path.{_≡_};
 ghost use lib.ListN.{length};
 ghost use Rattle.refusals.specs.Number.{numberOf};
-ghost use Rattle.encoding.specs.Buffers.{outcomeSays};
-ghost use Rattle.listings.specs.PlainLines.{refusalLine, lineSays, lineBuffer};
+ghost use Rattle.encoding.specs.Buffers.{outcomeAsNumbers};
+ghost use Rattle.listings.specs.PlainLines.{refusalLine, lineAsNumbers, lineBuffer};
 ghost use Rattle.listings.specs.Lines.{firstLine};
 
 // Clause 9.6: the first line, for any plan value.
 pub fn first_line(plan: Plan, buffer: &mut [u8], at: usize) -> Outcome
-    ensures outcome { λ r. ⌜ outcomeSays r ≡ lineSays (firstLine plan) (length (now (buffer .entry))) at ⌝ }
+    ensures outcome { λ r. ⌜ outcomeAsNumbers r ≡ lineAsNumbers (firstLine plan) (length (now (buffer .entry))) at ⌝ }
     ensures bytes { λ _. ⌜ now (buffer .exit) ≡ lineBuffer (firstLine plan) (now (buffer .entry)) at ⌝ }
 {
     let figures = figures_of(plan);
@@ -41,7 +41,7 @@ pub fn first_line(plan: Plan, buffer: &mut [u8], at: usize) -> Outcome
 // Clause 9.8: the line of a fault in the bytes.
 pub fn refusal_line(refusal: Refusal, buffer: &mut [u8], at: usize) -> Outcome
     ensures outcome { λ r. ⌜
-        outcomeSays r ≡ lineSays (refusalLine (numberOf refusal)) (length (now (buffer .entry))) at
+        outcomeAsNumbers r ≡ lineAsNumbers (refusalLine (numberOf refusal)) (length (now (buffer .entry))) at
         ⌝ }
     ensures bytes { λ _. ⌜
         now (buffer .exit) ≡ lineBuffer (refusalLine (numberOf refusal)) (now (buffer .entry)) at

@@ -3,13 +3,13 @@
 // accepted call, and `first_lines` the first line of a listing.
 use digits::byte_digits;
 use encoding::Outcome;
-use line_fields::put_last;
 use line_fields::put_lead;
+use line_fields::put_line_end;
 use refusals::Refusal;
 ghost use mathlib.Core.Path.{_≡_};
 ghost use lib.ListN.{length};
-ghost use Rattle.encoding.specs.Buffers.{outcomeSays};
-ghost use Rattle.listings.specs.PlainLines.{refusalLine, fieldsLine, refusedFields, lineSays, lineBuffer};
+ghost use Rattle.encoding.specs.Buffers.{outcomeAsNumbers};
+ghost use Rattle.listings.specs.PlainLines.{refusalLine, fieldsLine, refusedFields, lineAsNumbers, lineBuffer};
 
 // Clause 9.7: the line of a call that is refused with this number.
 pub fn refused_line(
@@ -21,8 +21,8 @@ pub fn refused_line(
     at: usize,
 ) -> Outcome
     ensures outcome { λ r. ⌜
-        outcomeSays r
-        ≡ lineSays (fieldsLine letter processor tick (refusedFields number)) (length (now (buffer .entry))) at
+        outcomeAsNumbers r
+        ≡ lineAsNumbers (fieldsLine letter processor tick (refusedFields number)) (length (now (buffer .entry))) at
         ⌝ }
     ensures bytes { λ _. ⌜
         now (buffer .exit)
@@ -34,16 +34,16 @@ pub fn refused_line(
     if led == 0 {
         return Outcome::Refused(Refusal::Room);
     }
-    put_last(b" refused ", number as u64, buffer, at + led);
+    put_line_end(b" refused ", number as u64, buffer, at + led);
     Outcome::Bytes(led + more)
 }
 
 // Clause 9.8: the line of a fault in the bytes, given its number.
 pub fn fault_line(number: u8, buffer: &mut [u8], at: usize) -> Outcome
-    ensures outcome { λ r. ⌜ outcomeSays r ≡ lineSays (refusalLine number) (length (now (buffer .entry))) at ⌝ }
+    ensures outcome { λ r. ⌜ outcomeAsNumbers r ≡ lineAsNumbers (refusalLine number) (length (now (buffer .entry))) at ⌝ }
     ensures bytes { λ _. ⌜ now (buffer .exit) ≡ lineBuffer (refusalLine number) (now (buffer .entry)) at ⌝ }
 {
-    let size = put_last(b"refused ", number as u64, buffer, at);
+    let size = put_line_end(b"refused ", number as u64, buffer, at);
     if size == 0 {
         Outcome::Refused(Refusal::Room)
     } else {
@@ -53,7 +53,7 @@ pub fn fault_line(number: u8, buffer: &mut [u8], at: usize) -> Outcome
 
 // How many bytes a line took, or 0 if there was no room.
 pub fn line_size(line: Outcome) -> usize
-    ensures { λ r. ⌜ r ≡ outcomeSays line .value ⌝ }
+    ensures { λ r. ⌜ r ≡ outcomeAsNumbers line .value ⌝ }
 {
     match line {
         Outcome::Bytes(size) => size,

@@ -13,7 +13,7 @@ use log_input::copy_in;
 use log_input::due_size;
 use log_input::fill_plan;
 use log_input::fill_to;
-use logs::COUNT_BYTES;
+use logs::CALL_COUNT_BYTES;
 use logs::CountAnswer;
 use logs::RECORD_BYTES;
 use replay::Begun;
@@ -29,7 +29,7 @@ use whole_listing::LINES_ROOM;
 use whole_listing::PLAN_ROOM;
 ghost use Prim.Native.Nat.{_≤_};
 ghost use lib.ListN.{length};
-ghost use Rattle.encoding.specs.Buffers.{outcomeSays};
+ghost use Rattle.encoding.specs.Buffers.{outcomeAsNumbers};
 
 // What was read before the calls: how many of them there are, and whether the replay goes on.
 struct Counted {
@@ -59,7 +59,7 @@ fn put(lines: &[u8]) -> bool {
 
 // The same for the line at the start of `out`, if there is one.
 fn show(line: Outcome, out: &[u8]) -> bool
-    requires { ⌜ outcomeSays line .value ≤ length (now out) ⌝ }
+    requires { ⌜ outcomeAsNumbers line .value ≤ length (now out) ⌝ }
 {
     let size = line_size(line);
     put(&out[..size])
@@ -98,7 +98,7 @@ fn replay_calls(begun: Begun, calls: u16, block: &mut [u8], filled: usize, out: 
     let mut current = begun.state;
     let mut left = calls;
     let mut have = filled;
-    let mut used = COUNT_BYTES;
+    let mut used = CALL_COUNT_BYTES;
     loop {
         let fed = advance(block, used, have, left);
         have = fed.have;
@@ -139,7 +139,7 @@ fn take_count(block: &[u8], out: &mut [u8]) -> Counted {
 // log.
 fn replay_rest(begun: Begun, bytes: &[u8], block: &mut [u8], out: &mut [u8]) {
     let first = copy_in(bytes, block);
-    let fed = feed(block, first, COUNT_BYTES);
+    let fed = feed(block, first, CALL_COUNT_BYTES);
     if !fed.failed {
         let have = fed.have;
         let counted = take_count(&block[..have], out);

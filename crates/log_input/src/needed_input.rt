@@ -4,11 +4,11 @@ use logs::RECORD_BYTES;
 use refusals::number;
 ghost use mathlib.Core.Path.{_≡_};
 ghost use lib.Dec.{eqb};
-ghost use Rattle.encoding.specs.Buffers.{outcomeSays};
+ghost use Rattle.encoding.specs.Buffers.{outcomeAsNumbers};
 ghost use Rattle.log_input.specs.Stages.{isShort, dueSize};
 
 fn short_outcome(outcome: Outcome) -> bool
-    ensures { λ r. ⌜ r ≡ eqb (outcomeSays outcome .number) 1 ⌝ }
+    ensures { λ r. ⌜ r ≡ eqb (outcomeAsNumbers outcome .number) 1 ⌝ }
 {
     match outcome {
         Outcome::Bytes(_) => false,

@@ -9,9 +9,9 @@ use Rattle.encoding.specs.Numbers.{number}
 use Rattle.encoding.proofs.Numbers.{part-number}
 use Rattle.logs.specs.Verbs.{recorded}
 use Rattle.logs.specs.declared.CountAnswer.{CountAnswer}
-use Rattle.logs.specs.Records.{countSays, readCount, fieldsIn, recordFault, readRecord}
+use Rattle.logs.specs.Records.{countAsNumbers, readCount, fieldsIn, recordFault, readRecord}
 
-pub count-read : (s : List ℕ) (n : ℕ) → 2 ≤ length s → n ≡ number (take 8 (take 2 s)) → countSays (CountAnswer.Calls n) ≡ readCount s
+pub count-read : (s : List ℕ) (n : ℕ) → 2 ≤ length s → n ≡ number (take 8 (take 2 s)) → countAsNumbers (CountAnswer.Calls n) ≡ readCount s
 count-read s n h e = rw (le-leb 2 (length s) h, e, part-number 0 2 s (lit< tt))
 
 -- If the 8 bytes of a record are there, its answer is that of its fields.

@@ -5,7 +5,7 @@ use lib.Dec.{eqb}
 use lib.ListN.{length, getD, take}
 use lib.Seq.{slice}
 use Rattle.refusals.specs.Number.{numberOf}
-use Rattle.refusals.specs.Due.{Said, due, firstOf, said}
+use Rattle.refusals.specs.Due.{AsNumbers, due, firstOf, asNumbers}
 use Rattle.encoding.specs.Numbers.{number}
 use Rattle.encoding.specs.Buffers.{shortFault}
 use Rattle.rules.specs.CallNumbers.{Fields}
@@ -20,13 +20,13 @@ abbrev pub recordSize : ℕ
 recordSize = 8
 
 -- How many calls follow, as numbers.
-abbrev pub countSays : CountAnswer → Said
-countSays (CountAnswer.Calls n) = record { number = 0; value = n }
-countSays (CountAnswer.Refused r) = record { number = numberOf r; value = 0 }
+abbrev pub countAsNumbers : CountAnswer → AsNumbers
+countAsNumbers (CountAnswer.Calls n) = record { number = 0; value = n }
+countAsNumbers (CountAnswer.Refused r) = record { number = numberOf r; value = 0 }
 
 -- Clauses 9.1 and 9.4: the number of calls, at the start of the bytes after the plan; 1 if there are too few bytes.
-abbrev pub readCount : List ℕ → Said
-readCount s = said (shortFault countSize s) (number (take countSize s))
+abbrev pub readCount : List ℕ → AsNumbers
+readCount s = asNumbers (shortFault countSize s) (number (take countSize s))
 
 -- Clause 9.2: the fields of the record at the start of the bytes s. Its tick is in the last five bytes.
 unfoldable pub fieldsIn : List ℕ → Fields

@@ -4,7 +4,7 @@ use mathlib.Core.Bool.{cond, _&&_, _||_}
 use lib.Dec.{eqb}
 use Rattle.refusals.specs.Number.{numberOf}
 use Rattle.refusals.specs.Due.{due}
-use Rattle.rules.specs.CallNumbers.{Fields, callSays}
+use Rattle.rules.specs.CallNumbers.{Fields, callAsNumbers}
 use Rattle.logs.specs.declared.record_calls.RecordAnswer.{RecordAnswer}
 
 -- Clause 9.3: 9 for a verb above 3, or a completion or a withdrawal with an entry.
@@ -27,9 +27,9 @@ noFields = record { verb = 0; processor = 0; entry = 0; tick = 0 }
 abbrev pub recordDue : ℕ → Fields → Recorded
 recordDue n f = record { number = n; fields = cond (eqb n 0) f noFields }
 
-abbrev pub recordSays : RecordAnswer → Recorded
-recordSays (RecordAnswer.Is c) = record { number = 0; fields = callSays c }
-recordSays (RecordAnswer.Refused r) = record { number = numberOf r; fields = noFields }
+abbrev pub recordAsNumbers : RecordAnswer → Recorded
+recordAsNumbers (RecordAnswer.Is c) = record { number = 0; fields = callAsNumbers c }
+recordAsNumbers (RecordAnswer.Refused r) = record { number = numberOf r; fields = noFields }
 
 -- Clause 9.3: the record that these fields give.
 abbrev pub recorded : Fields → Recorded

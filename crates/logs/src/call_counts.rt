@@ -6,19 +6,19 @@ use refusals::Refusal;
 use refusals::Verdict;
 ghost use mathlib.Core.Path.{_≡_};
 ghost use Rattle.refusals.specs.Number.{verdictNumber};
-ghost use Rattle.logs.specs.Records.{countSays, readCount, tailFault};
+ghost use Rattle.logs.specs.Records.{countAsNumbers, readCount, tailFault};
 
 // The bytes that the call count takes.
-pub const COUNT_BYTES: usize = 2;
+pub const CALL_COUNT_BYTES: usize = 2;
 
 // Clause 9.1: how many calls the log contains. The bytes are those after the plan.
 pub fn read_count(bytes: &[u8]) -> CountAnswer
-    ensures { λ r. ⌜ countSays r ≡ readCount (now (bytes .entry)) ⌝ }
+    ensures { λ r. ⌜ countAsNumbers r ≡ readCount (now (bytes .entry)) ⌝ }
 {
-    if bytes.len() < COUNT_BYTES {
+    if bytes.len() < CALL_COUNT_BYTES {
         return CountAnswer::Refused(Refusal::Short);
     }
-    let count = read_number(&bytes[..COUNT_BYTES]);
+    let count = read_number(&bytes[..CALL_COUNT_BYTES]);
     CountAnswer::Calls(count as u16)
 }
 

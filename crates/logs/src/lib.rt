@@ -4,7 +4,7 @@
 mod call_counts;
 mod record_calls;
 
-pub use call_counts::COUNT_BYTES;
+pub use call_counts::CALL_COUNT_BYTES;
 pub use call_counts::check_tail;
 pub use call_counts::read_count;
 use encoding::read_number;
@@ -12,7 +12,7 @@ pub use record_calls::RecordAnswer;
 use record_calls::call_by;
 use refusals::Refusal;
 ghost use mathlib.Core.Path.{_≡_};
-ghost use Rattle.logs.specs.Verbs.{recordSays};
+ghost use Rattle.logs.specs.Verbs.{recordAsNumbers};
 ghost use Rattle.logs.specs.Records.{readRecord};
 
 // The bytes that a call's record takes. Its tick begins at the fourth byte.
@@ -28,7 +28,7 @@ pub enum CountAnswer {
 
 // Clause 9.4: the call at the start of the bytes. Refuses with 1, then with 9.
 pub fn read_record(bytes: &[u8]) -> RecordAnswer
-    ensures { λ r. ⌜ recordSays r ≡ readRecord (now (bytes .entry)) ⌝ }
+    ensures { λ r. ⌜ recordAsNumbers r ≡ readRecord (now (bytes .entry)) ⌝ }
 {
     if bytes.len() < RECORD_BYTES {
         return RecordAnswer::Refused(Refusal::Short);

@@ -2,7 +2,7 @@
 use refusals::Refusal;
 use rules::Call;
 ghost use mathlib.Core.Path.{_≡_};
-ghost use Rattle.logs.specs.Verbs.{recordSays, recorded};
+ghost use Rattle.logs.specs.Verbs.{recordAsNumbers, recorded};
 
 // A call, or the refusal of its record.
 pub enum RecordAnswer {
@@ -12,7 +12,7 @@ pub enum RecordAnswer {
 
 // Clause 9.3: the call of a verb. Refuses with 9.
 pub fn call_by(verb: u8, processor: u8, entry: u8, tick: u64) -> RecordAnswer
-    ensures { λ r. ⌜ recordSays r
+    ensures { λ r. ⌜ recordAsNumbers r
         ≡ recorded (record { verb = verb; processor = processor; entry = entry; tick = tick }) ⌝ }
 {
     if verb == 0 {

@@ -5,7 +5,7 @@ use encoding::check_due;
 use plan_checks::check_entry_count;
 use plan_checks::check_processors;
 use plan_checks::check_resources;
-use plans::HEAD_BYTES;
+use plans::PLAN_COUNTS_BYTES;
 use refusals::Verdict;
 use refusals::first_of;
 ghost use mathlib.Core.Path.{_≡_};
@@ -19,7 +19,7 @@ pub fn check_head(bytes: &[u8]) -> Verdict
     let processors = first_of(check_due(1, bytes), check_processors(byte_at(bytes, 0)));
     let resources = first_of(check_due(2, bytes), check_resources(byte_at(bytes, 1)));
     let count = first_of(
-        check_due(HEAD_BYTES, bytes),
+        check_due(PLAN_COUNTS_BYTES, bytes),
         check_entry_count(byte_at(bytes, 2)),
     );
     first_of(processors, first_of(resources, count))

@@ -5,10 +5,10 @@ use encoding::Outcome;
 use plan_checks::check_kind;
 use plan_checks::check_length;
 use plan_checks::check_set;
-use plans::ENTRIES;
 use plans::ENTRY_BYTES;
 use plans::Entry;
-use plans::HEAD_BYTES;
+use plans::MAX_ENTRIES;
+use plans::PLAN_COUNTS_BYTES;
 use plans::Plan;
 use plans::Read;
 use plans::entry_size;
@@ -17,10 +17,10 @@ use refusals::Verdict;
 ghost use mathlib.Core.Path.{_≡_};
 ghost use mathlib.Core.Bool.{cond};
 ghost use lib.Dec.{eqb};
-ghost use Rattle.refusals.specs.Due.{said};
-ghost use Rattle.encoding.specs.Buffers.{outcomeSays};
+ghost use Rattle.refusals.specs.Due.{asNumbers};
+ghost use Rattle.encoding.specs.Buffers.{outcomeAsNumbers};
 ghost use Rattle.plans.specs.Entries.{planSize};
-ghost use Rattle.plans.specs.Reading.{blankPlan, planIn, readSays, planRead};
+ghost use Rattle.plans.specs.Reading.{blankPlan, planIn, readAsNumbers, planRead};
 ghost use Rattle.plan_bytes.specs.inner.Body.{bodyFault, CountsThere, wholeRead};
 
 // What fills the places past the count, and a plan that was not read.
@@ -40,13 +40,13 @@ fn refused(refusal: Refusal) -> Read
             processors: 0,
             resources: 0,
             count: 0,
-            entries: [BLANK; ENTRIES],
+            entries: [BLANK; MAX_ENTRIES],
         },
     }
 }
 
 // Clause 2.8: the plan of the counts and these entries, which took so many bytes.
-fn whole(bytes: &[u8], entries: [Entry; ENTRIES], taken: usize) -> Read
+fn whole(bytes: &[u8], entries: [Entry; MAX_ENTRIES], taken: usize) -> Read
     requires { ⌜ CountsThere (now bytes) ⌝ }
     ensures { λ r. ⌜ r ≡ wholeRead (now (bytes .entry)) entries taken ⌝ }
 {
@@ -65,15 +65,15 @@ fn whole(bytes: &[u8], entries: [Entry; ENTRIES], taken: usize) -> Read
 fn read_entries(bytes: &[u8]) -> Read
     requires { ⌜ CountsThere (now bytes) ⌝ }
     ensures outcome { λ r. ⌜
-        outcomeSays (r .outcome) ≡ said (bodyFault (now (bytes .entry))) (planSize (planIn (now (bytes .entry))))
+        outcomeAsNumbers (r .outcome) ≡ asNumbers (bodyFault (now (bytes .entry))) (planSize (planIn (now (bytes .entry))))
         ⌝ }
     ensures plan { λ r. ⌜
         r .plan ≡ cond (eqb (bodyFault (now (bytes .entry))) 0) (planIn (now (bytes .entry))) blankPlan
         ⌝ }
 {
     let count = bytes[2] as usize;
-    let mut entries = [BLANK; ENTRIES];
-    let mut at: usize = HEAD_BYTES;
+    let mut entries = [BLANK; MAX_ENTRIES];
+    let mut at: usize = PLAN_COUNTS_BYTES;
     let mut i: usize = 0;
     let verdict = loop {
         if count <= i {
@@ -107,7 +107,7 @@ fn read_entries(bytes: &[u8]) -> Read
 
 // Clause 2.8: the plan and the number of bytes that it took, or the refusal. What stands behind it is left alone.
 pub fn read(bytes: &[u8]) -> Read
-    ensures outcome { λ r. ⌜ outcomeSays (r .outcome) ≡ readSays (now (bytes .entry)) ⌝ }
+    ensures outcome { λ r. ⌜ outcomeAsNumbers (r .outcome) ≡ readAsNumbers (now (bytes .entry)) ⌝ }
     ensures plan { λ r. ⌜ r .plan ≡ planRead (now (bytes .entry)) ⌝ }
 {
     let verdict = check_head(bytes);

@@ -1,20 +1,20 @@
 // Which plan values are taken, and by which number the others are refused: 3 to 8. Specification, section 2.
 use crate::plan_counts::check_counts;
 use crate::plan_entries::check_entry;
-use plans::ENTRIES;
 use plans::Entry;
+use plans::MAX_ENTRIES;
 use plans::Plan;
 use refusals::Verdict;
 ghost use mathlib.Core.Path.{_≡_};
 ghost use Prim.Native.Nat.{_≤_};
 ghost use lib.ListN.{take};
 ghost use Rattle.refusals.specs.Number.{verdictNumber};
-ghost use Rattle.plans.specs.Entries.{mostEntries};
+ghost use Rattle.plans.specs.Entries.{maxEntries};
 ghost use Rattle.plans.specs.Acceptance.{entriesFault, planFault};
 
 // The first fault of the counted entries, in their order.
-fn check_entries(entries: [Entry; ENTRIES], count: u8, resources: u8) -> Verdict
-    requires { ⌜ count ≤ mostEntries ⌝ }
+fn check_entries(entries: [Entry; MAX_ENTRIES], count: u8, resources: u8) -> Verdict
+    requires { ⌜ count ≤ maxEntries ⌝ }
     ensures { λ r. ⌜ verdictNumber r ≡ entriesFault resources (take count entries) ⌝ }
 {
     let mut i: u8 = 0;

@@ -1,8 +1,8 @@
 // The three counts of a plan: which are taken, and by which number the others are refused: 3, 4 and 5. Specification,
 // clauses 2.3 to 2.5.
-use plans::ENTRIES;
-use plans::RESOURCES;
-use plans::SLOTS;
+use plans::MAX_ENTRIES;
+use plans::MAX_PROCESSORS;
+use plans::MAX_RESOURCES;
 use refusals::Refusal;
 use refusals::Verdict;
 use refusals::first_of;
@@ -15,7 +15,10 @@ ghost use Rattle.plans.specs.Acceptance.{processorsFault, resourcesFault, count
 pub fn check_processors(count: u8) -> Verdict
     ensures { λ r. ⌜ verdictNumber r ≡ processorsFault count ⌝ }
 {
-    refuse_unless((1 <= count) & (count <= SLOTS as u8), Refusal::Processors)
+    refuse_unless(
+        (1 <= count) & (count <= MAX_PROCESSORS as u8),
+        Refusal::Processors,
+    )
 }
 
 // Clause 2.4: refuses by 4.
@@ -23,7 +26,7 @@ pub fn check_resources(count: u8) -> Verdict
     ensures { λ r. ⌜ verdictNumber r ≡ resourcesFault count ⌝ }
 {
     refuse_unless(
-        (1 <= count) & (count <= RESOURCES as u8),
+        (1 <= count) & (count <= MAX_RESOURCES as u8),
         Refusal::Resources,
     )
 }
@@ -32,7 +35,10 @@ pub fn check_resources(count: u8) -> Verdict
 pub fn check_entry_count(count: u8) -> Verdict
     ensures { λ r. ⌜ verdictNumber r ≡ countFault count ⌝ }
 {
-    refuse_unless((1 <= count) & (count <= ENTRIES as u8), Refusal::Entries)
+    refuse_unless(
+        (1 <= count) & (count <= MAX_ENTRIES as u8),
+        Refusal::Entries,
+    )
 }
 
 // The three counts in the order of their bytes.

@@ -5,21 +5,21 @@ use mathlib.Core.List.{List, _++_}
 use native.Mathlib.Omega.{arith}
 use lib.ListN.{length, getD, take, drop, length-drop}
 use lib.Seq.{length-take-le, drop-at}
-use Rattle.refusals.specs.Due.{said}
+use Rattle.refusals.specs.Due.{asNumbers}
 use Rattle.refusals.proofs.Numbers.{first-accepted}
 use Rattle.encoding.specs.Buffers.{overwritten, bufferAfter}
 use Rattle.encoding.proofs.Room.{room-fits, fits-room}
 use Rattle.plans.specs.declared.Plan.{Plan}
-use Rattle.plans.specs.Entries.{mostEntries, headSize, sectionSize, planSize}
+use Rattle.plans.specs.Entries.{maxEntries, countsSize, sectionSize, planSize}
 use Rattle.plans.specs.Acceptance.{countsFault, entriesFault, planFault}
 use Rattle.plans.specs.Reading.{entriesIn, sectionFault, readFault, planIn, planRead}
-use Rattle.plans.specs.Writing.{planBytes, writeFault, writeSays, writtenBuffer}
+use Rattle.plans.specs.Writing.{planBytes, writeFault, writeAsNumbers, writtenBuffer}
 use Rattle.plans.proofs.PlanBytes.{counted-planIn}
 use Rattle.plans.proofs.Faults.{counts-at-most, section-fault, section-length, read-fault, read-length}
 
 -- ---- a plan value
 
-pub accepted-count : (p : Plan) → planFault p ≡ 0 → p .count ≤ mostEntries
+pub accepted-count : (p : Plan) → planFault p ≡ 0 → p .count ≤ maxEntries
 unfolding planFault
 accepted-count p e =
     counts-at-most (p .processors) (p .resources) (p .count)
@@ -35,22 +35,22 @@ accepted-read s e = rw e
 pub record Taken (s : List ℕ) : Type 0 where
   pub plan : planRead s ≡ planIn s
   pub counts : countsFault (getD s 0 0) (getD s 1 0) (getD s 2 0) ≡ 0
-  pub entries : entriesFault (getD s 1 0) (entriesIn (getD s 2 0) (drop headSize s)) ≡ 0
-  pub few : getD s 2 0 ≤ mostEntries
+  pub entries : entriesFault (getD s 1 0) (entriesIn (getD s 2 0) (drop countsSize s)) ≡ 0
+  pub few : getD s 2 0 ≤ maxEntries
   pub inside : planSize (planIn s) ≤ length s
 
 pub taken : (s : List ℕ) → readFault s ≡ 0 → Taken s
 taken s e =
     let three = read-length s e in
-    let section = sectionFault (getD s 1 0) (getD s 2 0) (drop headSize s) in
+    let section = sectionFault (getD s 1 0) (getD s 2 0) (drop countsSize s) in
     let both = first-accepted (countsFault (getD s 0 0) (getD s 1 0) (getD s 2 0)) section (sym (read-fault s three) ∙ e) in
-    let long = section-length (getD s 1 0) (getD s 2 0) (drop headSize s) (both .later) in
+    let long = section-length (getD s 1 0) (getD s 2 0) (drop countsSize s) (both .later) in
     record {
       plan = accepted-read s e;
       counts = both .first;
-      entries = sym (section-fault (getD s 1 0) (getD s 2 0) (drop headSize s) long) ∙ both .later;
+      entries = sym (section-fault (getD s 1 0) (getD s 2 0) (drop countsSize s) long) ∙ both .later;
       few = counts-at-most (getD s 0 0) (getD s 1 0) (getD s 2 0) (both .first);
-      inside = omega (arith, length-drop headSize s, ap sectionSize (counted-planIn s));
+      inside = omega (arith, length-drop countsSize s, ap sectionSize (counted-planIn s));
     }
 
 -- ---- a writing
@@ -67,7 +67,7 @@ module _ (p : Plan) (buffer : List ℕ) (at : ℕ) where
         let both = first-accepted (planFault p) _ e in
         (both .first, room-fits (planSize p) (length buffer) at (both .later))
 
-    pub accepted-says : writeSays p buffer at ≡ said 0 (planSize p)
+    pub accepted-says : writeAsNumbers p buffer at ≡ asNumbers 0 (planSize p)
     accepted-says = rw e
 
     pub accepted-buffer : writtenBuffer p buffer at ≡ overwritten buffer at (planBytes p)

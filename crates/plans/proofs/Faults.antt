@@ -11,7 +11,7 @@ use Rattle.refusals.specs.Due.{due, firstOf}
 use Rattle.refusals.proofs.Numbers.{first-accepted, first-of-four, due-accepted}
 use Rattle.encoding.specs.Buffers.{shortFault}
 use Rattle.encoding.proofs.Room.{enough-at, enough-length}
-use Rattle.plans.specs.Entries.{mostEntries, headSize, entrySize, entrySizeOf, sectionSize}
+use Rattle.plans.specs.Entries.{maxEntries, countsSize, entrySize, entrySizeOf, sectionSize}
 use Rattle.plans.specs.Acceptance.{within, processorsFault, resourcesFault, countFault, countsFault, entryFault, entriesFault}
 use Rattle.plans.specs.Reading.{entryIn, entriesIn, sectionFault, readFault}
 use Rattle.plans.proofs.Sizes.{entry-size-least, entry-size-due}
@@ -23,11 +23,11 @@ pub within-most : (low high n k : ℕ) → due (within low high n) (suc k) ≡ 0
 within-most low high n k e =
     leb-true n high (and-right (leb low n) (leb n high) (due-accepted (within low high n) (suc k) (omega arith) e))
 
-pub counts-at-most : (m n k : ℕ) → countsFault m n k ≡ 0 → k ≤ mostEntries
+pub counts-at-most : (m n k : ℕ) → countsFault m n k ≡ 0 → k ≤ maxEntries
 unfolding countsFault
 counts-at-most m n k e =
     let rest = first-accepted (processorsFault m) (firstOf (resourcesFault n) (countFault k)) e .later in
-    within-most 1 mostEntries k 4 (first-accepted (resourcesFault n) (countFault k) rest .later)
+    within-most 1 maxEntries k 4 (first-accepted (resourcesFault n) (countFault k) rest .later)
 
 -- ---- the entries
 
@@ -58,19 +58,19 @@ section-length r (suc n) s e =
 
 -- ---- a whole plan
 
-pub read-fault : (s : List ℕ) → headSize ≤ length s
+pub read-fault : (s : List ℕ) → countsSize ≤ length s
     → readFault s
-    ≡ firstOf (countsFault (getD s 0 0) (getD s 1 0) (getD s 2 0)) (sectionFault (getD s 1 0) (getD s 2 0) (drop headSize s))
+    ≡ firstOf (countsFault (getD s 0 0) (getD s 1 0) (getD s 2 0)) (sectionFault (getD s 1 0) (getD s 2 0) (drop countsSize s))
 unfolding readFault countsFault
 read-fault s l =
-    rw (enough-at 1 s (omega arith), enough-at 2 s (omega arith), enough-at headSize s l)
+    rw (enough-at 1 s (omega arith), enough-at 2 s (omega arith), enough-at countsSize s l)
     (first-of-four (processorsFault (getD s 0 0)) (resourcesFault (getD s 1 0)) (countFault (getD s 2 0)) _)
 
-pub read-length : (s : List ℕ) → readFault s ≡ 0 → headSize ≤ length s
+pub read-length : (s : List ℕ) → readFault s ≡ 0 → countsSize ≤ length s
 unfolding readFault
 read-length s e =
     let first = first-accepted (shortFault 1 s) _ e .later in
     let resources = first-accepted (processorsFault (getD s 0 0)) _ first .later in
     let second = first-accepted (shortFault 2 s) _ resources .later in
     let count = first-accepted (resourcesFault (getD s 1 0)) _ second .later in
-    enough-length headSize s (first-accepted (shortFault headSize s) _ count .first)
+    enough-length countsSize s (first-accepted (shortFault countsSize s) _ count .first)

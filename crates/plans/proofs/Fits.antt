@@ -3,7 +3,7 @@ use Prim.Native.Nat.{ℕ, _^_, _<_}
 use mathlib.Core.Path.{_≡_}
 use mathlib.Core.List.{List}
 use lib.ListN.{length, getD}
-use Rattle.plans.specs.Entries.{mostEntries, blankEntry}
+use Rattle.plans.specs.Entries.{maxEntries, blankEntry}
 use Rattle.plans.specs.declared.Entry.{Entry}
 use Rattle.plans.specs.declared.Plan.{Plan}
 
@@ -20,5 +20,5 @@ pub record Fits-plan (p : Plan) : Type 0 where
   pub processors : p .processors < 2 ^ 8
   pub resources : p .resources < 2 ^ 8
   pub count : p .count < 2 ^ 8
-  pub size : length (p .entries) ≡ mostEntries
+  pub size : length (p .entries) ≡ maxEntries
   pub entries : (i : ℕ) → i < p .count → Fits-entry (getD (p .entries) i blankEntry)

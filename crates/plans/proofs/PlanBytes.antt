@@ -8,7 +8,7 @@ use lib.Seq.{getD-take, length-take-le, take-at, take-add}
 use Rattle.plans.specs.declared.Entry.{Entry}
 use Rattle.plans.specs.declared.Plan.{Plan}
 use Rattle.encoding.proofs.Bytes.{AreBytes, bytes-cons, bytes-drop}
-use Rattle.plans.specs.Entries.{mostEntries, sectionSize, planSize, countedEntries, blankEntry, Same}
+use Rattle.plans.specs.Entries.{maxEntries, sectionSize, planSize, countedEntries, blankEntry, Same}
 use Rattle.plans.specs.Reading.{entriesIn, planIn}
 use Rattle.plans.specs.Writing.{sectionBytes, planBytes}
 use Rattle.plans.proofs.Fits.{Fits-entry, Fit-entries, Fits-plan}
@@ -16,7 +16,7 @@ use Rattle.plans.proofs.EntryBytes.{length-sectionBytes, bytes-sectionB
 
 -- ---- a plan value, written
 
-pub length-counted : (p : Plan) → length (p .entries) ≡ mostEntries → p .count ≤ mostEntries → length (countedEntries p) ≡ p .count
+pub length-counted : (p : Plan) → length (p .entries) ≡ maxEntries → p .count ≤ maxEntries → length (countedEntries p) ≡ p .count
 length-counted p size h = length-take-le (p .count) (p .entries) (omega arith)
 
 pub length-planBytes : (p : Plan) → length (planBytes p) ≡ planSize p
@@ -38,7 +38,7 @@ bytes-planBytes p f =
     bytes-cons (p .processors) (p .resources ∷ p .count ∷ section) (f .processors) second
 
 -- The counted entries stand behind the three counts, whatever bytes follow.
-pub entries-written : (p : Plan) → Fits-plan p → p .count ≤ mostEntries → (rest : List ℕ)
+pub entries-written : (p : Plan) → Fits-plan p → p .count ≤ maxEntries → (rest : List ℕ)
     → entriesIn (p .count) (sectionBytes (countedEntries p) ++ rest) ≡ countedEntries p
 entries-written p f h rest =
     rw (length-counted p (f .size) h) at (entriesIn-sectionBytes (countedEntries p) (fit-counted p f) rest)
@@ -48,10 +48,10 @@ entries-written p f h rest =
 pub counted-planIn : (s : List ℕ) → countedEntries (planIn s) ≡ entriesIn (getD s 2 0) (drop 3 s)
 unfolding planIn
 counted-planIn s =
-    take-at (entriesIn (getD s 2 0) (drop 3 s)) (replicate (mostEntries - getD s 2 0) blankEntry) (getD s 2 0)
+    take-at (entriesIn (getD s 2 0) (drop 3 s)) (replicate (maxEntries - getD s 2 0) blankEntry) (getD s 2 0)
     (length-entriesIn (getD s 2 0) (drop 3 s))
 
-pub same-planIn : (p : Plan) → Fits-plan p → p .count ≤ mostEntries → (rest : List ℕ) → Same p (planIn (planBytes p ++ rest))
+pub same-planIn : (p : Plan) → Fits-plan p → p .count ≤ maxEntries → (rest : List ℕ) → Same p (planIn (planBytes p ++ rest))
 unfolding planBytes planIn
 same-planIn p f h rest =
     record {
@@ -78,15 +78,15 @@ planBytes-planIn (m ∷ n ∷ k ∷ s) h l =
     in
     ap (λ t. m ∷ n ∷ k ∷ t) section ∙ sym (take-add 3 (sectionSize held) whole)
 
-pub size-planIn : (s : List ℕ) → getD s 2 0 ≤ mostEntries → length (planIn s .entries) ≡ mostEntries
+pub size-planIn : (s : List ℕ) → getD s 2 0 ≤ maxEntries → length (planIn s .entries) ≡ maxEntries
 unfolding planIn
 size-planIn s l =
     let read = entriesIn (getD s 2 0) (drop 3 s) in
-    let blank = replicate (mostEntries - getD s 2 0) blankEntry in
-    omega (arith, length-append read blank, length-entriesIn (getD s 2 0) (drop 3 s), length-replicate (mostEntries - getD s 2 0) blankEntry)
+    let blank = replicate (maxEntries - getD s 2 0) blankEntry in
+    omega (arith, length-append read blank, length-entriesIn (getD s 2 0) (drop 3 s), length-replicate (maxEntries - getD s 2 0) blankEntry)
 
 -- What is read from bytes fits.
-pub fits-planIn : (s : List ℕ) → AreBytes s → planSize (planIn s) ≤ length s → getD s 2 0 ≤ mostEntries
+pub fits-planIn : (s : List ℕ) → AreBytes s → planSize (planIn s) ≤ length s → getD s 2 0 ≤ maxEntries
     → Fits-plan (planIn s)
 unfolding planIn
 fits-planIn s h l k =
@@ -107,6 +107,6 @@ fits-planIn s h l k =
     read-fit : (i : ℕ) → i < count → Fits-entry (getD (planIn s .entries) i blankEntry)
     read-fit i inside =
         let known : i < length read = omega (arith, length-entriesIn count (drop 3 s)) in
-        rw (List·getD-append read (replicate (mostEntries - count) blankEntry) blankEntry i known)
+        rw (List·getD-append read (replicate (maxEntries - count) blankEntry) blankEntry i known)
         (fit-entriesIn count (drop 3 s) (bytes-drop 3 s h)
         (omega (arith, length-drop 3 s, ap sectionSize (counted-planIn s))) i known)

@@ -5,15 +5,15 @@ use mathlib.Core.Path.{_≡_, sym, ap, _∙_}
 use mathlib.Core.List.{List, [], _++_, append-nil}
 use native.Mathlib.Omega.{arith}
 use lib.ListN.{length, take, drop, getD, length-append}
-use Rattle.refusals.specs.Due.{said}
+use Rattle.refusals.specs.Due.{asNumbers}
 use Rattle.refusals.proofs.Numbers.{first-same, first-refuses, said-refusal}
 use Rattle.encoding.specs.Buffers.{overwritten}
 use Rattle.encoding.proofs.Bytes.{AreBytes}
 use Rattle.plans.specs.declared.Plan.{Plan}
-use Rattle.plans.specs.Entries.{mostEntries, sectionSize, planSize, countedEntries, Same}
+use Rattle.plans.specs.Entries.{maxEntries, sectionSize, planSize, countedEntries, Same}
 use Rattle.plans.specs.Acceptance.{countsFault, entriesFault, planFault}
-use Rattle.plans.specs.Reading.{entriesIn, sectionFault, readFault, planIn, readSays, planRead}
-use Rattle.plans.specs.Writing.{sectionBytes, planBytes, writeFault, writeSays, writtenBuffer}
+use Rattle.plans.specs.Reading.{entriesIn, sectionFault, readFault, planIn, readAsNumbers, planRead}
+use Rattle.plans.specs.Writing.{sectionBytes, planBytes, writeFault, writeAsNumbers, writtenBuffer}
 use Rattle.plans.proofs.Fits.{Fits-plan}
 use Rattle.plans.proofs.EntryBytes.{length-sectionBytes}
 use Rattle.plans.proofs.Faults.{counts-at-most, section-fault, read-fault}
@@ -56,7 +56,7 @@ same-fault-alone p f = ap readFault (sym (append-nil (planBytes p))) ∙ same-fa
 
 -- Where the reader refuses, the writer says the same, at any position of any buffer.
 pub same-refusal : (p : Plan) → Fits-plan p → (rest buffer : List ℕ) (at : ℕ) → 0 < readFault (planBytes p ++ rest)
-    → writeSays p buffer at ≡ readSays (planBytes p ++ rest)
+    → writeAsNumbers p buffer at ≡ readAsNumbers (planBytes p ++ rest)
 unfolding writeFault
 same-refusal p f rest buffer at h =
     let refused : 0 < planFault p = omega (arith, same-fault p f rest) in
@@ -74,7 +74,7 @@ written-size p = length-planBytes p
 
 -- Clause 2.13: the same plan and the same number of bytes, whatever bytes follow.
 pub written-then-read : (p : Plan) (rest : List ℕ) → Fits-plan p → planFault p ≡ 0
-    → (readSays (planBytes p ++ rest) ≡ said 0 (planSize p)) × Same p (planRead (planBytes p ++ rest))
+    → (readAsNumbers (planBytes p ++ rest) ≡ asNumbers 0 (planSize p)) × Same p (planRead (planBytes p ++ rest))
 unfolding planBytes
 written-then-read p rest f e =
     let accepted = same-fault p f rest ∙ e in
@@ -83,7 +83,7 @@ written-then-read p rest f e =
 
 -- Clause 2.13: what the writer wrote is read from the position as the same plan, and as many bytes as the writer said.
 pub written-in-buffer : (p : Plan) (buffer : List ℕ) (at : ℕ) → Fits-plan p → writeFault p (length buffer) at ≡ 0
-    → (readSays (drop at (writtenBuffer p buffer at)) ≡ writeSays p buffer at)
+    → (readAsNumbers (drop at (writtenBuffer p buffer at)) ≡ writeAsNumbers p buffer at)
     × Same p (planRead (drop at (writtenBuffer p buffer at)))
 written-in-buffer p buffer at f e =
     rw (accepted-from p buffer at e, accepted-says p buffer at e)
@@ -105,7 +105,7 @@ module _ (s : List ℕ) (e : readFault s ≡ 0) where
   pub read-fits : AreBytes s → Fits-plan (planRead s)
   read-fits h = rw (taken s e .plan) (fits-planIn s h (taken s e .inside) (taken s e .few))
 
-  pub read-entries : length (planRead s .entries) ≡ mostEntries
+  pub read-entries : length (planRead s .entries) ≡ maxEntries
   read-entries = rw (taken s e .plan) (size-planIn s (taken s e .few))
 
   pub read-inside : planSize (planIn s) ≤ length s
@@ -114,11 +114,11 @@ module _ (s : List ℕ) (e : readFault s ≡ 0) where
   -- Clause 2.13: with room for it, the writer takes the plan that was read, says what the reader said, and puts back
   -- the bytes that were taken.
   pub written-back : (buffer : List ℕ) (at : ℕ) → AreBytes s → at + planSize (planRead s) ≤ length buffer
-      → (writeSays (planRead s) buffer at ≡ readSays s)
+      → (writeAsNumbers (planRead s) buffer at ≡ readAsNumbers s)
       × (writtenBuffer (planRead s) buffer at ≡ overwritten buffer at (take (planSize (planRead s)) s))
   written-back buffer at h room =
       let accepted = accepted-room (planRead s) buffer at read-is-accepted room in
-      let says : readSays s ≡ said 0 (planSize (planRead s)) = rw (e, taken s e .plan) in (
+      let says : readAsNumbers s ≡ asNumbers 0 (planSize (planRead s)) = rw (e, taken s e .plan) in (
         accepted-says (planRead s) buffer at accepted ∙ sym says,
         accepted-buffer (planRead s) buffer at accepted ∙ ap (λ new. overwritten buffer at new) (read-then-written h),
       )

@@ -8,7 +8,7 @@ use native.Mathlib.Omega.{arith}
 use lib.ListN.{length, take, drop, getD, length-take}
 use Rattle.plans.specs.declared.Entry.{Entry}
 use Rattle.plans.specs.declared.Plan.{Plan}
-use Rattle.plans.specs.Entries.{mostEntries, entrySize, entrySizeOf, largestEntry, sectionSize}
+use Rattle.plans.specs.Entries.{maxEntries, entrySize, entrySizeOf, largestEntry, sectionSize}
 use Rattle.plans.specs.Entries.{countedEntries, planSize, maxPlanSize}
 use Rattle.plans.proofs.Counted.{none-left, next-left}
 
@@ -71,6 +71,6 @@ module _ (n i : ℕ) (xs : List Entry) where
 
 -- ---- a plan
 
-pub plan-size-most : (p : Plan) → p .count ≤ mostEntries → planSize p ≤ maxPlanSize
+pub plan-size-most : (p : Plan) → p .count ≤ maxEntries → planSize p ≤ maxPlanSize
 plan-size-most p h =
     omega (arith, section-size-most (countedEntries p), length-take (p .count) (p .entries))

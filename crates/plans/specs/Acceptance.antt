@@ -4,7 +4,7 @@ use mathlib.Core.Bool.{Bool, not, _&&_, _||_}
 use mathlib.Core.List.{List, [], _∷_}
 use lib.Dec.{eqb, leb, ltb}
 use Rattle.refusals.specs.Due.{due, firstOf}
-use Rattle.plans.specs.Entries.{slots, mostResources, mostEntries, isRead, isWrite, countedEntries}
+use Rattle.plans.specs.Entries.{maxProcessors, maxResources, maxEntries, isRead, isWrite, countedEntries}
 use Rattle.plans.specs.declared.Entry.{Entry}
 use Rattle.plans.specs.declared.Plan.{Plan}
 
@@ -14,15 +14,15 @@ within low high n = leb low n && leb n high
 
 -- Clause 2.3: 3 for a count of processors that is not 1 to 32.
 abbrev pub processorsFault : ℕ → ℕ
-processorsFault m = due (within 1 slots m) 3
+processorsFault m = due (within 1 maxProcessors m) 3
 
 -- Clause 2.4: 4 for a count of resources that is not 1 to 64.
 abbrev pub resourcesFault : ℕ → ℕ
-resourcesFault n = due (within 1 mostResources n) 4
+resourcesFault n = due (within 1 maxResources n) 4
 
 -- Clause 2.5: 5 for a count of entries that is not 1 to 64.
 abbrev pub countFault : ℕ → ℕ
-countFault n = due (within 1 mostEntries n) 5
+countFault n = due (within 1 maxEntries n) 5
 
 -- Clause 2.9: the three counts in the order of their bytes.
 unfoldable pub countsFault : ℕ → ℕ → ℕ → ℕ

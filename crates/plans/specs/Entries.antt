@@ -9,8 +9,8 @@ use Rattle.plans.specs.declared.Entry.{Entry}
 use Rattle.plans.specs.declared.Plan.{Plan}
 
 -- Clauses 1.1 and 2.3: the most processors of a plan. A state has a place for each, and so has a mask.
-abbrev pub slots : ℕ
-slots = 32
+abbrev pub maxProcessors : ℕ
+maxProcessors = 32
 
 -- Clauses 7.4, 7.7 and 9.9: the bytes of a mask by the plan's processors, where it is printed or laid out: 2 for up to
 -- 16, and 4 for more.
@@ -18,12 +18,12 @@ abbrev pub maskSizeFor : ℕ → ℕ
 maskSizeFor m = cond (leb m 16) 2 4
 
 -- Clauses 1.2 and 2.4: the most resources.
-abbrev pub mostResources : ℕ
-mostResources = 64
+abbrev pub maxResources : ℕ
+maxResources = 64
 
 -- Clause 2.5: the most entries.
-abbrev pub mostEntries : ℕ
-mostEntries = 64
+abbrev pub maxEntries : ℕ
+maxEntries = 64
 
 -- Clauses 1.3 and 2.6: an entry of kind 0 reads, and one of kind 1 writes.
 abbrev pub isRead : Entry → Bool
@@ -33,8 +33,8 @@ abbrev pub isWrite : Entry → Bool
 isWrite e = eqb (e .kind) 1
 
 -- Clause 2.2: the bytes of the three counts.
-abbrev pub headSize : ℕ
-headSize = 3
+abbrev pub countsSize : ℕ
+countsSize = 3
 
 -- Clause 2.6: the bytes of a kind, of names and of a length.
 abbrev pub entrySize : ℕ
@@ -58,10 +58,10 @@ countedEntries p = take (p .count) (p .entries)
 
 -- Clause 2.6: the bytes of a plan, and the most that one has.
 abbrev pub planSize : Plan → ℕ
-planSize p = headSize + sectionSize (countedEntries p)
+planSize p = countsSize + sectionSize (countedEntries p)
 
 abbrev pub maxPlanSize : ℕ
-maxPlanSize = headSize + largestEntry * mostEntries
+maxPlanSize = countsSize + largestEntry * maxEntries
 
 -- What fills the places past the count.
 abbrev pub blankEntry : Entry

@@ -5,10 +5,10 @@ use mathlib.Core.List.{List, [], _∷_, _++_}
 use lib.Dec.{eqb}
 use lib.ListN.{getD, drop, replicate}
 use lib.Seq.{slice}
-use Rattle.refusals.specs.Due.{Said, firstOf, said}
+use Rattle.refusals.specs.Due.{AsNumbers, firstOf, asNumbers}
 use Rattle.encoding.specs.Numbers.{number}
 use Rattle.encoding.specs.Buffers.{shortFault}
-use Rattle.plans.specs.Entries.{mostEntries, headSize, entrySize, entrySizeOf, planSize, blankEntry}
+use Rattle.plans.specs.Entries.{maxEntries, countsSize, entrySize, entrySizeOf, planSize, blankEntry}
 use Rattle.plans.specs.Acceptance.{processorsFault, resourcesFault, countFault, entryFault}
 use Rattle.plans.specs.declared.Entry.{Entry}
 use Rattle.plans.specs.declared.Plan.{Plan}
@@ -36,12 +36,12 @@ readFault s =
     (firstOf (processorsFault (getD s 0 0))
     (firstOf (shortFault 2 s)
     (firstOf (resourcesFault (getD s 1 0))
-    (firstOf (shortFault headSize s)
-    (firstOf (countFault (getD s 2 0)) (sectionFault (getD s 1 0) (getD s 2 0) (drop headSize s)))))))
+    (firstOf (shortFault countsSize s)
+    (firstOf (countFault (getD s 2 0)) (sectionFault (getD s 1 0) (getD s 2 0) (drop countsSize s)))))))
 
 -- Clause 2.9: the plan beside a refusal.
 abbrev pub blankPlan : Plan
-blankPlan = record { processors = 0; resources = 0; count = 0; entries = replicate mostEntries blankEntry }
+blankPlan = record { processors = 0; resources = 0; count = 0; entries = replicate maxEntries blankEntry }
 
 -- Clauses 2.2 and 2.6: the plan that stands in the bytes s.
 unfoldable pub planIn : List ℕ → Plan
@@ -50,12 +50,12 @@ planIn s =
       processors = getD s 0 0;
       resources = getD s 1 0;
       count = getD s 2 0;
-      entries = entriesIn (getD s 2 0) (drop headSize s) ++ replicate (mostEntries - getD s 2 0) blankEntry;
+      entries = entriesIn (getD s 2 0) (drop countsSize s) ++ replicate (maxEntries - getD s 2 0) blankEntry;
     }
 
 -- Clause 2.8: how many bytes the plan took, or the refusal. Bytes behind the plan play no part.
-abbrev pub readSays : List ℕ → Said
-readSays s = said (readFault s) (planSize (planIn s))
+abbrev pub readAsNumbers : List ℕ → AsNumbers
+readAsNumbers s = asNumbers (readFault s) (planSize (planIn s))
 
 -- Clause 2.9: the plan beside it, the blank one where the bytes are refused.
 unfoldable pub planRead : List ℕ → Plan

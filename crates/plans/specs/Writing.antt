@@ -2,7 +2,7 @@
 use Prim.Native.Nat.{ℕ}
 use mathlib.Core.List.{List, [], _∷_, _++_}
 use lib.ListN.{length}
-use Rattle.refusals.specs.Due.{Said, firstOf, said}
+use Rattle.refusals.specs.Due.{AsNumbers, firstOf, asNumbers}
 use Rattle.encoding.specs.Numbers.{bytesOf}
 use Rattle.encoding.specs.Buffers.{roomFault, bufferAfter}
 use Rattle.plans.specs.Entries.{planSize, countedEntries}
@@ -29,8 +29,8 @@ unfoldable pub writeFault : Plan → ℕ → ℕ → ℕ
 writeFault p size at = firstOf (planFault p) (roomFault (planSize p) size at)
 
 -- Clause 2.12: how many bytes were written, or the refusal.
-abbrev pub writeSays : Plan → List ℕ → ℕ → Said
-writeSays p buffer at = said (writeFault p (length buffer) at) (planSize p)
+abbrev pub writeAsNumbers : Plan → List ℕ → ℕ → AsNumbers
+writeAsNumbers p buffer at = asNumbers (writeFault p (length buffer) at) (planSize p)
 
 -- Clause 2.12: the buffer after writing. Bytes beside the plan stay, and on a refusal all do.
 unfoldable pub writtenBuffer : Plan → List ℕ → ℕ → List ℕ

@@ -1,9 +1,9 @@
 // What an entry of a plan is, and how many entries count. Specification, clauses 2.5 and 2.6.
-use crate::ENTRIES;
 use crate::Entry;
+use crate::MAX_ENTRIES;
 ghost use mathlib.Core.Path.{_≡_};
 ghost use Prim.Native.Nat.{min};
-ghost use Rattle.plans.specs.Entries.{mostEntries, isRead, isWrite};
+ghost use Rattle.plans.specs.Entries.{maxEntries, isRead, isWrite};
 
 // Clause 2.6: kind 0 reads, and kind 1 writes.
 pub fn is_read(entry: Entry) -> bool
@@ -20,11 +20,11 @@ pub fn is_write(entry: Entry) -> bool
 
 // How many entries count: a plan has no more than 64.
 pub fn counted_of(count: u8) -> u8
-    ensures { λ r. ⌜ r ≡ min count mostEntries ⌝ }
+    ensures { λ r. ⌜ r ≡ min count maxEntries ⌝ }
 {
-    if count < ENTRIES as u8 {
+    if count < MAX_ENTRIES as u8 {
         count
     } else {
-        ENTRIES as u8
+        MAX_ENTRIES as u8
     }
 }

@@ -14,16 +14,16 @@ pub use plan_sizes::mask_size;
 pub use plan_sizes::plan_size;
 
 // The most processors of a plan: so many requests a state holds.
-pub const SLOTS: usize = 32;
+pub const MAX_PROCESSORS: usize = 32;
 
 // The most resources that a plan has.
-pub const RESOURCES: usize = 64;
+pub const MAX_RESOURCES: usize = 64;
 
 // The most entries that a plan has.
-pub const ENTRIES: usize = 64;
+pub const MAX_ENTRIES: usize = 64;
 
 // The bytes of the three counts.
-pub const HEAD_BYTES: usize = 3;
+pub const PLAN_COUNTS_BYTES: usize = 3;
 
 // The bytes of a kind, of names and of a length.
 pub const ENTRY_BYTES: usize = 11;
@@ -32,7 +32,7 @@ pub const ENTRY_BYTES: usize = 11;
 pub const MAX_ENTRY_BYTES: usize = ENTRY_BYTES;
 
 // The most bytes of a plan.
-pub const MAX_PLAN_BYTES: usize = HEAD_BYTES + MAX_ENTRY_BYTES * ENTRIES;
+pub const MAX_PLAN_BYTES: usize = PLAN_COUNTS_BYTES + MAX_ENTRY_BYTES * MAX_ENTRIES;
 
 // What a request asks for: kind 0 reads and kind 1 writes, bit r of the set names resource r, length is in ticks.
 pub struct Entry {
@@ -46,7 +46,7 @@ pub struct Plan {
     pub processors: u8,
     pub resources: u8,
     pub count: u8,
-    pub entries: [Entry; ENTRIES],
+    pub entries: [Entry; MAX_ENTRIES],
 }
 
 // A plan that was read. Where the outcome is a refusal, the plan is the blank one.

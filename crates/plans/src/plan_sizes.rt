@@ -1,7 +1,7 @@
 // How many bytes an entry takes, a plan, and a mask of it. Specification, clauses 2.6, 7.4, 7.7 and 9.9.
 use crate::ENTRY_BYTES;
 use crate::Entry;
-use crate::HEAD_BYTES;
+use crate::PLAN_COUNTS_BYTES;
 use crate::Plan;
 use crate::entry_kinds::counted_of;
 ghost use mathlib.Core.Path.{_≡_};
@@ -20,7 +20,7 @@ pub fn plan_size(plan: Plan) -> usize
 {
     let entries = plan.entries;
     let count = counted_of(plan.count) as usize;
-    let mut size: usize = HEAD_BYTES;
+    let mut size: usize = PLAN_COUNTS_BYTES;
     let mut i: usize = 0;
     while i < count {
         size += entry_size(entries[i]);

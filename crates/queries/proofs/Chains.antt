@@ -8,7 +8,7 @@ use native.Mathlib.Nat.{eq-or-lt-of-le, le-of-suc-le-suc, not-suc-le-zero}
 use Rattle.masks.specs.Sets.{some}
 use Rattle.masks.proofs.Some.{some-found, some-at}
 use Rattle.masks.proofs.Truth.{and-left, and-right, and-both, or-cases, or-left, or-right, never-true}
-use Rattle.plans.specs.Entries.{slots}
+use Rattle.plans.specs.Entries.{maxProcessors}
 use Rattle.rules.specs.declared.states.Board.{Board}
 use Rattle.rules.specs.declared.states.State.{State}
 use Rattle.queries.specs.Queries.{waitsFor, Chain, direct, through, chained, reaches}
@@ -27,7 +27,7 @@ module _ (b : Board) (s : State) where
   chained-through : (n p r q : ℕ) → waitsFor b s p r ≡ true → chained b s n r q ≡ true → chained b s (suc n) p q ≡ true
   unfolding chained
   chained-through n p r q e f =
-      or-right (waitsFor b s p q) _ (some-at slots (next n p q) r (waits-below b s p r e .1) (and-both (waitsFor b s p r) _ e f))
+      or-right (waitsFor b s p q) _ (some-at maxProcessors (next n p q) r (waits-below b s p r e .1) (and-both (waitsFor b s p r) _ e f))
 
   pub chained-cases : {A : Type 0} (n p q : ℕ) → chained b s (suc n) p q ≡ true → (waitsFor b s p q ≡ true → A)
       → ((r : ℕ) → waitsFor b s p r ≡ true → chained b s n r q ≡ true → A) → A
@@ -35,9 +35,9 @@ module _ (b : Board) (s : State) where
   chained-cases n p q e at-once later =
       ⊎-elim at-once
       (λ f.
-      let r = some-found slots (next n p q) f in
+      let r = some-found maxProcessors (next n p q) f in
       later (r .0) (and-left (waitsFor b s p (r .0)) _ (r .2)) (and-right (waitsFor b s p (r .0)) _ (r .2)))
-      (or-cases (waitsFor b s p q) (some slots (next n p q)) e)
+      (or-cases (waitsFor b s p q) (some maxProcessors (next n p q)) e)
 
   chained-nothing : (p q : ℕ) → chained b s zero p q ≡ true → ⊥
   unfolding chained
@@ -65,19 +65,19 @@ module _ (b : Board) (s : State) where
       (eq-or-lt-of-le l)
 
   -- If m + 1 waits lead to q from no more processors than m waits do, then m waits are enough for every chain to q.
-  enough : (m q : ℕ) → Within slots (λ p. chained b s (suc m) p q) (λ p. chained b s m p q) → (p : ℕ) → Chain b s p q → chained b s m p q ≡ true
+  enough : (m q : ℕ) → Within maxProcessors (λ p. chained b s (suc m) p q) (λ p. chained b s m p q) → (p : ℕ) → Chain b s p q → chained b s m p q ≡ true
   enough m q stable p (direct e) = stable p (waits-below b s p q e .0) (chained-direct m p q e)
   enough m q stable p (through {r = r} e c) = stable p (waits-below b s p r e .0) (chained-through m p r q e (enough m q stable r c))
 
   pub chain-reaches : (p q : ℕ) → Chain b s p q → reaches b s p q ≡ true
   unfolding reaches
   chain-reaches p q c =
-      let stop = stops slots (λ n r. chained b s n r q) (λ n r l. chained-more n r q) in
-      chained-up-to (stop .0) slots p q (stop .1) (enough (stop .0) q (stop .2) p c)
+      let stop = stops maxProcessors (λ n r. chained b s n r q) (λ n r l. chained-more n r q) in
+      chained-up-to (stop .0) maxProcessors p q (stop .1) (enough (stop .0) q (stop .2) p c)
 
   pub reaches-chain : (p q : ℕ) → reaches b s p q ≡ true → Chain b s p q
   unfolding reaches
-  reaches-chain p q = chained-chain slots p q
+  reaches-chain p q = chained-chain maxProcessors p q
 
   -- Clause 7.3: to reach is to have a chain, of any length.
   pub reaches-is-chain : (p q : ℕ) → (reaches b s p q ≡ true) ↔ Chain b s p q

@@ -10,8 +10,8 @@ use borrow.Author.Tests.{ltb-true}
 use Rattle.masks.specs.Sets.{bit, maskOf}
 use Rattle.masks.proofs.Masks.{bit-mask}
 use Rattle.masks.proofs.Truth.{and-left, and-right, and-three, and-all-three, or-cases, or-left, or-right}
-use Rattle.plans.specs.Entries.{slots}
-use Rattle.rules.specs.declared.settling.Phases.{Phases}
+use Rattle.plans.specs.Entries.{maxProcessors}
+use Rattle.rules.specs.declared.states.Phases.{Phases}
 use Rattle.rules.specs.Requests.{Facts, isWriter, isEarlier, conflicts, unsatisfied, active, holdingRead, holdingWrite, entitledRead, entitledWrite, waitingRead, waitingWrite}
 use Rattle.rules.specs.declared.states.Board.{Board}
 use Rattle.rules.specs.declared.states.State.{State}
@@ -95,22 +95,22 @@ module _ (b : Board) (s : State) where
   abbrev pub Counted : ℕ → Type 0
   Counted p = hasProcessor (b .terms) p ≡ true
 
-  in-plan-counted : (p : ℕ) (t : Bool) → (inPlan (b .terms) (s .entry) p && t) ≡ true → Counted p
+  in-plan-counted : (p : ℕ) (t : Bool) → (inPlan (b .terms) (s .requested) p && t) ≡ true → Counted p
   in-plan-counted p t e =
-      and-left (hasProcessor (b .terms) p) (ltb (getD (s .entry) p 0) (b .terms .count))
-      (and-left (inPlan (b .terms) (s .entry) p) t e)
+      and-left (hasProcessor (b .terms) p) (ltb (getD (s .requested) p 0) (b .terms .count))
+      (and-left (inPlan (b .terms) (s .requested) p) t e)
 
   waiting-counted : (p : ℕ) → bit (ph .waiting) p ≡ true → Counted p
   unfolding cleaned isWaiting
-  waiting-counted p e = in-plan-counted p _ (marked-passes slots (isWaiting (b .terms) (s .entry) (s .phases)) p e)
+  waiting-counted p e = in-plan-counted p _ (marked-passes maxProcessors (isWaiting (b .terms) (s .requested) (s .phases)) p e)
 
   entitled-counted : (p : ℕ) → bit (ph .entitled) p ≡ true → Counted p
   unfolding cleaned isEntitled
-  entitled-counted p e = in-plan-counted p _ (marked-passes slots (isEntitled (b .terms) (s .entry) (s .phases)) p e)
+  entitled-counted p e = in-plan-counted p _ (marked-passes maxProcessors (isEntitled (b .terms) (s .requested) (s .phases)) p e)
 
   holding-counted : (p : ℕ) → bit (ph .holding) p ≡ true → Counted p
   unfolding cleaned isHolding
-  holding-counted p e = in-plan-counted p _ (marked-passes slots (isHolding (b .terms) (s .entry) (s .phases)) p e)
+  holding-counted p e = in-plan-counted p _ (marked-passes maxProcessors (isHolding (b .terms) (s .requested) (s .phases)) p e)
 
   unsatisfied-counted : (p : ℕ) → unsatisfied ph p ≡ true → Counted p
   unsatisfied-counted p e =
@@ -133,11 +133,11 @@ module _ (b : Board) (s : State) where
           (entitled-counted p (and-left _ (isWriter f p) h), holding-counted q (and-left _ (not (isWriter f q)) k))
       go (waiting-write h before a w c) = (waiting-counted p (and-left _ (isWriter f p) h), active-counted q a)
 
-  counted-below : (p : ℕ) → Counted p → p < slots
-  counted-below p e = ltb-true p slots (and-left (ltb p slots) (ltb p (b .terms .processors)) e)
+  counted-below : (p : ℕ) → Counted p → p < maxProcessors
+  counted-below p e = ltb-true p maxProcessors (and-left (ltb p maxProcessors) (ltb p (b .terms .processors)) e)
 
-  pub unsatisfied-below : (p : ℕ) → unsatisfied (phasesOf b s) p ≡ true → p < slots
+  pub unsatisfied-below : (p : ℕ) → unsatisfied (phasesOf b s) p ≡ true → p < maxProcessors
   unsatisfied-below p e = counted-below p (unsatisfied-counted p e)
 
-  pub waits-below : (p q : ℕ) → waitsFor b s p q ≡ true → (p < slots) × (q < slots)
+  pub waits-below : (p q : ℕ) → waitsFor b s p q ≡ true → (p < maxProcessors) × (q < maxProcessors)
   waits-below p q e = (counted-below p (waits-counted p q e .0), counted-below q (waits-counted p q e .1))

@@ -7,10 +7,10 @@ use native.Mathlib.Omega.{arith}
 use lib.ListN.{take, drop, getD}
 use borrow.Author.Tests.{lt-ltb}
 use Rattle.masks.specs.Sets.{maskOf}
-use Rattle.refusals.specs.Due.{said}
-use Rattle.plans.specs.Entries.{slots}
+use Rattle.refusals.specs.Due.{asNumbers}
+use Rattle.plans.specs.Entries.{maxProcessors}
 use Rattle.masks.proofs.Tabulate.{getD-tabulate}
-use Rattle.rules.specs.declared.settling.Phases.{Phases}
+use Rattle.rules.specs.declared.states.Phases.{Phases}
 use Rattle.rules.specs.declared.states.Board.{Board}
 use Rattle.rules.specs.declared.states.State.{State}
 use Rattle.rules.specs.Faults.{processorFault}
@@ -40,15 +40,15 @@ module _ (b : Board) (s : State) where
 
   listed-counted : (p : ℕ) → p < listed b → processorFault (b .terms) p ≡ 0
   listed-counted p l =
-      let slot : p < slots = omega arith in
+      let slot : p < maxProcessors = omega arith in
       let plans : p < b .terms .processors = omega arith in
-      rw (lt-ltb p slots slot, lt-ltb p (b .terms .processors) plans)
+      rw (lt-ltb p maxProcessors slot, lt-ltb p (b .terms .processors) plans)
 
   -- For a processor that is listed, the single queries refuse nothing, and its part contains their answers.
   pub part-is-queries : (p : ℕ) → p < listed b
       → (phaseQuery b s p .number ≡ 0) × (waitsQuery b s p .number ≡ 0)
       × (take (partSize k) (drop (1 + partSize k * p) (boardBytes b s))
-      ≡ partBytes k (phaseQuery b s p .value) (entryShown (phasesOf b s) (s .entry) p) (waitedIn (phasesOf b s) (s .last) (s .since) p)
+      ≡ partBytes k (phaseQuery b s p .value) (entryShown (phasesOf b s) (s .requested) p) (waitedIn (phasesOf b s) (s .last) (s .since) p)
       (waitsQuery b s p .value))
   unfolding boardPart
   part-is-queries p l =
@@ -57,13 +57,13 @@ module _ (b : Board) (s : State) where
 
   -- The parts as the code makes them, from the phases that count and the direct waits of all processors.
   module _ (ph : Phases) (waits : List ℕ) (counted : ph ≡ phasesOf b s) (direct : waits ≡ directRows b s) where
-    part-found : (p : ℕ) → p < listed b → partIn k ph (s .last) (s .entry) (s .since) waits p ≡ boardPart b s p
+    part-found : (p : ℕ) → p < listed b → partIn k ph (s .last) (s .requested) (s .since) waits p ≡ boardPart b s p
     unfolding partIn boardPart stateNumber
     part-found p l =
-        let mask : getD waits p 0 ≡ maskOf slots (waitsFor b s p) =
-        ap (λ ws. getD ws p 0) direct ∙ getD-tabulate slots (λ q. maskOf slots (waitsFor b s q)) p 0 (omega arith) in
+        let mask : getD waits p 0 ≡ maskOf maxProcessors (waitsFor b s p) =
+        ap (λ ws. getD ws p 0) direct ∙ getD-tabulate maxProcessors (λ q. maskOf maxProcessors (waitsFor b s q)) p 0 (omega arith) in
         rw (mask, counted)
 
     pub board-found : (buffer : List ℕ)
-        → listBuffer k (listed b) (partIn k ph (s .last) (s .entry) (s .since) waits) buffer ≡ boardBuffer b s buffer
+        → listBuffer k (listed b) (partIn k ph (s .last) (s .requested) (s .since) waits) buffer ≡ boardBuffer b s buffer
     board-found buffer = list-agree k (listed b) _ _ buffer part-found

@@ -8,7 +8,7 @@ use lib.ListN.{getD}
 use Rattle.masks.specs.Sets.{bit}
 use Rattle.refusals.specs.Number.{numberOf}
 use Rattle.refusals.specs.Due.{due}
-use Rattle.conflicts.specs.Sharing.{sharedBy, Over, noConflict, conflictSays, over}
+use Rattle.conflicts.specs.Sharing.{sharedBy, Over, noConflict, conflictAsNumbers, over}
 use Rattle.rules.specs.declared.states.Terms.{Terms}
 use Rattle.rules.specs.declared.states.Board.{Board}
 use Rattle.queries.specs.declared.contention.SharedAnswer.{SharedAnswer}
@@ -25,9 +25,9 @@ pub record SharedSaid : Type 0 where
   pub number : ℕ
   pub conflict : Over
 
-abbrev pub sharedSays : SharedAnswer → SharedSaid
-sharedSays (SharedAnswer.Is c) = record { number = 0; conflict = conflictSays c }
-sharedSays (SharedAnswer.Refused r) = record { number = numberOf r; conflict = noConflict }
+abbrev pub sharedAsNumbers : SharedAnswer → SharedSaid
+sharedAsNumbers (SharedAnswer.Is c) = record { number = 0; conflict = conflictAsNumbers c }
+sharedAsNumbers (SharedAnswer.Refused r) = record { number = numberOf r; conflict = noConflict }
 
 -- Clauses 7.10 and 8.2: 12 if either entry is not one of the plan's.
 abbrev pub pairFault : Terms → ℕ → ℕ → ℕ

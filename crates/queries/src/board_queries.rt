@@ -1,8 +1,8 @@
 // The whole board in one buffer, in one pass: which requests write and which count is computed only once.
 // Specification, clauses 7.7 to 7.9.
 use encoding::Outcome;
-use plans::ENTRIES;
-use plans::SLOTS;
+use plans::MAX_ENTRIES;
+use plans::MAX_PROCESSORS;
 use rules::Board;
 use rules::Moment;
 use rules::State;
@@ -11,7 +11,7 @@ use settling::clean;
 use waits::waits_of_all;
 ghost use mathlib.Core.Path.{_≡_};
 ghost use mathlib.Core.List.{[]};
-ghost use Rattle.encoding.specs.Buffers.{outcomeSays};
+ghost use Rattle.encoding.specs.Buffers.{outcomeAsNumbers};
 ghost use Rattle.rules.specs.InPlace.{boardBy, stateBy};
 ghost use Rattle.queries.specs.WholeBoard.{boardQuery, boardBuffer};
 
@@ -19,28 +19,28 @@ ghost use Rattle.queries.specs.WholeBoard.{boardQuery, boardBuffer};
 // state are lent, as in a call in place. A buffer that is too short is refused with 16, and then nothing is written.
 pub fn list_board_in_place(
     terms: Terms,
-    rows: &[u64; ENTRIES],
+    rows: &[u64; MAX_ENTRIES],
     moment: Moment,
-    entries: &[u8; SLOTS],
-    since: &[u64; SLOTS],
-    earlier: &[u32; SLOTS],
+    requested: &[u8; MAX_PROCESSORS],
+    since: &[u64; MAX_PROCESSORS],
+    earlier: &[u32; MAX_PROCESSORS],
     buffer: &mut [u8],
 ) -> Outcome
-    ensures outcome { λ r. ⌜ outcomeSays r
+    ensures outcome { λ r. ⌜ outcomeAsNumbers r
         ≡ boardQuery (boardBy terms (now (rows .entry)) []) (now (buffer .entry)) ⌝ }
     ensures bytes { λ _. ⌜ now (buffer .exit) ≡ boardBuffer
         (boardBy terms (now (rows .entry)) [])
-        (stateBy moment (now (entries .entry)) (now (since .entry)) (now (earlier .entry)))
+        (stateBy moment (now (requested .entry)) (now (since .entry)) (now (earlier .entry)))
         (now (buffer .entry)) ⌝ }
 {
     let given = moment.phases;
-    let phases = clean(terms, *entries, given);
-    let waits = waits_of_all(rows, terms.writes, entries, earlier, phases);
+    let phases = clean(terms, *requested, given);
+    let waits = waits_of_all(rows, terms.writes, requested, earlier, phases);
     board_list::write(
         terms.processors,
         phases,
         moment.last,
-        entries,
+        requested,
         since,
         &waits,
         buffer,
@@ -49,7 +49,7 @@ pub fn list_board_in_place(
 
 // The same by value.
 pub fn list_board(board: Board, state: State, buffer: &mut [u8]) -> Outcome
-    ensures outcome { λ r. ⌜ outcomeSays r ≡ boardQuery board (now (buffer .entry)) ⌝ }
+    ensures outcome { λ r. ⌜ outcomeAsNumbers r ≡ boardQuery board (now (buffer .entry)) ⌝ }
     ensures bytes { λ _. ⌜ now (buffer .exit) ≡ boardBuffer board state (now (buffer .entry)) ⌝ }
 {
     let terms = board.terms;
@@ -59,8 +59,8 @@ pub fn list_board(board: Board, state: State, buffer: &mut [u8]) -> Outcome
         last: state.last,
         phases: given,
     };
-    let entries = state.entry;
+    let requested = state.requested;
     let since = state.since;
     let earlier = state.earlier;
-    list_board_in_place(terms, &rows, moment, &entries, &since, &earlier, buffer)
+    list_board_in_place(terms, &rows, moment, &requested, &since, &earlier, buffer)
 }

@@ -4,14 +4,14 @@ use conflicts::Conflict;
 use conflicts::conflict_by;
 use masks::has64;
 use masks::row_at;
-use plans::ENTRIES;
+use plans::MAX_ENTRIES;
 use refusals::Refusal;
 use rules::Board;
 use rules::Terms;
 ghost use mathlib.Core.Path.{_≡_};
 ghost use lib.ListN.{getD};
-ghost use Rattle.conflicts.specs.Sharing.{conflictSays, over};
-ghost use Rattle.queries.specs.Contention.{sharedIn, sharedSays, sharedQuery, sharedOf};
+ghost use Rattle.conflicts.specs.Sharing.{conflictAsNumbers, over};
+ghost use Rattle.queries.specs.Contention.{sharedIn, sharedAsNumbers, sharedQuery, sharedOf};
 
 // What the two entries conflict over, or the refusal.
 pub enum SharedAnswer {
@@ -22,13 +22,13 @@ pub enum SharedAnswer {
 // The conflict of two entries, given which entries are writes and the names and widened sets of all entries.
 fn conflict_in(
     writes: u64,
-    names: &[u64; ENTRIES],
-    widened: &[u64; ENTRIES],
+    names: &[u64; MAX_ENTRIES],
+    widened: &[u64; MAX_ENTRIES],
     first: u8,
     second: u8,
 ) -> Conflict
     ensures { λ r. ⌜
-        conflictSays r ≡ over (sharedIn writes (now (names .entry)) (now (widened .entry)) first second)
+        conflictAsNumbers r ≡ over (sharedIn writes (now (names .entry)) (now (widened .entry)) first second)
         ⌝ }
 {
     let e = first as u32;
@@ -49,12 +49,12 @@ fn conflict_in(
 // 12.
 pub fn shared_on(
     terms: Terms,
-    names: &[u64; ENTRIES],
-    widened: &[u64; ENTRIES],
+    names: &[u64; MAX_ENTRIES],
+    widened: &[u64; MAX_ENTRIES],
     first: u8,
     second: u8,
 ) -> SharedAnswer
-    ensures { λ r. ⌜ sharedSays r ≡ sharedOf terms (now (names .entry)) (now (widened .entry)) first second ⌝ }
+    ensures { λ r. ⌜ sharedAsNumbers r ≡ sharedOf terms (now (names .entry)) (now (widened .entry)) first second ⌝ }
 {
     if terms.count <= first {
         return SharedAnswer::Refused(Refusal::Entry);
@@ -67,7 +67,7 @@ pub fn shared_on(
 
 // The same with the board by value.
 pub fn shared_by(board: Board, first: u8, second: u8) -> SharedAnswer
-    ensures { λ r. ⌜ sharedSays r ≡ sharedQuery board first second ⌝ }
+    ensures { λ r. ⌜ sharedAsNumbers r ≡ sharedQuery board first second ⌝ }
 {
     let terms = board.terms;
     let names = board.names;

@@ -3,7 +3,7 @@ use crate::query_answers::Phase;
 use crate::query_answers::PhaseAnswer;
 use crate::query_checks::check_processor;
 use masks::has32;
-use plans::SLOTS;
+use plans::MAX_PROCESSORS;
 use refusals::Verdict;
 use rules::Board;
 use rules::Phases;
@@ -13,7 +13,7 @@ use settling::clean;
 ghost use mathlib.Core.Path.{_≡_};
 ghost use mathlib.Core.List.{[]};
 ghost use Rattle.board_list.specs.Fields.{stateIn};
-ghost use Rattle.queries.specs.Answers.{phaseNumber, phaseSays};
+ghost use Rattle.queries.specs.Answers.{phaseNumber, phaseAsNumbers};
 ghost use Rattle.queries.specs.Queries.{phaseQuery};
 ghost use Rattle.queries.specs.Parts.{boardWith, stateWith};
 
@@ -37,17 +37,17 @@ fn phase_at(phases: Phases, p: u32) -> Phase
 // The state of a processor, with the parts of a board and a state lent, as in a call in place. Refused with 11.
 pub fn phase_in_place(
     terms: Terms,
-    entries: &[u8; SLOTS],
+    requested: &[u8; MAX_PROCESSORS],
     phases: Phases,
     processor: u8,
 ) -> PhaseAnswer
-    ensures { λ r. ⌜ phaseSays r
-        ≡ phaseQuery (boardWith terms []) (stateWith (now (entries .entry)) [] phases) processor ⌝ }
+    ensures { λ r. ⌜ phaseAsNumbers r
+        ≡ phaseQuery (boardWith terms []) (stateWith (now (requested .entry)) [] phases) processor ⌝ }
 {
     let verdict = check_processor(terms, processor);
     match verdict {
         Verdict::Accepted => PhaseAnswer::Is(phase_at(
-            clean(terms, *entries, phases),
+            clean(terms, *requested, phases),
             processor as u32,
         )),
         Verdict::Refused(refusal) => PhaseAnswer::Refused(refusal),
@@ -56,10 +56,10 @@ pub fn phase_in_place(
 
 // The same by value.
 pub fn phase_of(board: Board, state: State, processor: u8) -> PhaseAnswer
-    ensures { λ r. ⌜ phaseSays r ≡ phaseQuery board state processor ⌝ }
+    ensures { λ r. ⌜ phaseAsNumbers r ≡ phaseQuery board state processor ⌝ }
 {
     let terms = board.terms;
-    let entries = state.entry;
+    let requested = state.requested;
     let phases = state.phases;
-    phase_in_place(terms, &entries, phases, processor)
+    phase_in_place(terms, &requested, phases, processor)
 }

@@ -1,5 +1,5 @@
 // When a query about one processor is refused. Specification, clause 7.5. The crate `reach` also checks its scratch.
-use plans::SLOTS;
+use plans::MAX_PROCESSORS;
 use refusals::Refusal;
 use refusals::Verdict;
 use refusals::refuse_unless;
@@ -13,7 +13,7 @@ pub fn check_processor(terms: Terms, processor: u8) -> Verdict
     ensures { λ r. ⌜ verdictNumber r ≡ processorFault terms processor ⌝ }
 {
     refuse_unless(
-        (processor < SLOTS as u8) & (processor < terms.processors),
+        (processor < MAX_PROCESSORS as u8) & (processor < terms.processors),
         Refusal::Processor,
     )
 }

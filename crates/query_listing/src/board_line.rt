@@ -3,13 +3,13 @@
 use crate::text::Page;
 use crate::text::put_bytes;
 use board_list::list_size;
-use plans::SLOTS;
+use plans::MAX_PROCESSORS;
 use queries::list_board;
 use rules::Board;
 use rules::State;
 
 // The size of the longest list and of the bytes after it.
-const MOST: usize = 17 + 10 * SLOTS;
+const MOST: usize = 17 + 10 * MAX_PROCESSORS;
 
 pub fn put_list(page: Page, board: Board, state: State) -> Page {
     let mut buffer = [170u8; MOST];

@@ -15,10 +15,10 @@ use input::after;
 use input::opening;
 use listings::line_size;
 use log_input::due_size;
-use logs::COUNT_BYTES;
+use logs::CALL_COUNT_BYTES;
 use logs::CountAnswer;
 use logs::RECORD_BYTES;
-use plans::SLOTS;
+use plans::MAX_PROCESSORS;
 use query_line::query_line;
 use replay::Begun;
 use replay::RanBlock;
@@ -33,7 +33,7 @@ use text::put;
 use text::put_line;
 
 // The processors that are asked for: all that have a place in a state, and one more.
-const ASKED: u8 = SLOTS as u8 + 1;
+const ASKED: u8 = MAX_PROCESSORS as u8 + 1;
 
 // The state before a call, and the input from its record on.
 struct Turn {
@@ -142,7 +142,7 @@ fn print_rest(board: Board, state: State, input: Input) {
             board,
             state,
             left,
-            after(input, COUNT_BYTES, due_size(left), false),
+            after(input, CALL_COUNT_BYTES, due_size(left), false),
         );
     }
 }
@@ -164,6 +164,6 @@ fn main() {
     if let Outcome::Bytes(size) = outcome {
         let board = begun.board;
         let state = begun.state;
-        print_rest(board, state, after(input, size, COUNT_BYTES, false));
+        print_rest(board, state, after(input, size, CALL_COUNT_BYTES, false));
     }
 }

@@ -11,7 +11,7 @@ use queries::PhaseAnswer;
 use queries::direct_waits;
 use queries::phase_number;
 use queries::phase_of;
-use reach::MOST_ROOM;
+use reach::MAX_SCRATCH_BYTES;
 use reach::reach;
 use refusals::Refusal;
 use rules::Board;
@@ -30,7 +30,7 @@ fn put_mask(line: Line, answer: MaskAnswer, digits: usize) -> Line {
 
 // Two digits for each byte of a mask. The scratch has as much room as a reach needs, so that none is refused for it.
 fn put_waits(line: Line, board: Board, state: State, processor: u8) -> Line {
-    let mut scratch = [0u8; MOST_ROOM];
+    let mut scratch = [0u8; MAX_SCRATCH_BYTES];
     let digits = 2 * mask_size(board.terms.processors);
     let direct = put_mask(line, direct_waits(board, state, processor), digits);
     put_mask(direct, reach(board, state, processor, &mut scratch), digits)
@@ -41,8 +41,8 @@ pub fn query_line(board: Board, state: State, processor: u8) -> Line {
     let phase = phase_of(board, state, processor);
     match phase {
         PhaseAnswer::Is(is) => {
-            let said = put_decimal(put(line, 32), phase_number(is));
-            put_waits(said, board, state, processor)
+            let asNumbers = put_decimal(put(line, 32), phase_number(is));
+            put_waits(asNumbers, board, state, processor)
         }
         PhaseAnswer::Refused(refusal) => put_refusal(line, refusal),
     }

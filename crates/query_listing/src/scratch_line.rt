@@ -2,14 +2,14 @@
 // is filled with 170 first.
 use crate::text::Page;
 use crate::text::put_bytes;
-use reach::MOST_ROOM;
+use reach::MAX_SCRATCH_BYTES;
 use reach::reach;
 use reach::room_of;
 use rules::Board;
 use rules::State;
 
 // The size of the longest scratch and of the bytes after it.
-const MOST: usize = MOST_ROOM + 16;
+const MOST: usize = MAX_SCRATCH_BYTES + 16;
 
 pub fn put_scratch(page: Page, board: Board, state: State) -> Page {
     let mut scratch = [170u8; MOST];

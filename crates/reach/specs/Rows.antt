@@ -5,7 +5,7 @@ use mathlib.Core.List.{List}
 use lib.Bits.{bitOr}
 use lib.ListN.{getD}
 use Rattle.masks.specs.Sets.{bit}
-use Rattle.plans.specs.Entries.{slots}
+use Rattle.plans.specs.Entries.{maxProcessors}
 use Rattle.masks.specs.Tabulation.{tabulate}
 
 -- Row p, joined with row k where k is in it.
@@ -16,4 +16,4 @@ joinedRow rows k p = cond (bit (getD rows p 0) k) (bitOr (getD rows p 0) (getD r
 -- these are the chains of any length is proved beside the queries.
 unfoldable pub rowsThrough : ℕ → List ℕ → List ℕ
 rowsThrough zero rows = rows
-rowsThrough (suc k) rows = tabulate slots (joinedRow (rowsThrough k rows) k)
+rowsThrough (suc k) rows = tabulate maxProcessors (joinedRow (rowsThrough k rows) k)

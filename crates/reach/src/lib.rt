@@ -6,5 +6,5 @@ mod row_words;
 
 pub use reach_queries::reach;
 pub use reach_queries::reach_in_place;
-pub use row_words::MOST_ROOM;
+pub use row_words::MAX_SCRATCH_BYTES;
 pub use row_words::room_of;

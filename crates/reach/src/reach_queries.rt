@@ -3,8 +3,8 @@
 use crate::reach_checks::check_reach;
 use crate::reaching::reach_rows;
 use crate::row_words::write_rows;
-use plans::ENTRIES;
-use plans::SLOTS;
+use plans::MAX_ENTRIES;
+use plans::MAX_PROCESSORS;
 use queries::MaskAnswer;
 use queries::direct_rows;
 use refusals::Verdict;
@@ -17,17 +17,22 @@ ghost use Prim.Native.Nat.{_<_, _≤_};
 ghost use lib.ListN.{length};
 ghost use Rattle.masks.specs.Sets.{maskOf};
 ghost use Rattle.encoding.specs.Buffers.{overwritten};
-ghost use Rattle.plans.specs.Entries.{slots};
-ghost use Rattle.queries.specs.Answers.{maskSays};
+ghost use Rattle.plans.specs.Entries.{maxProcessors};
+ghost use Rattle.queries.specs.Answers.{maskAsNumbers};
 ghost use Rattle.queries.specs.Queries.{reaches, scratchSize, reachBytes, reachQuery, reachScratch};
 ghost use Rattle.queries.specs.Parts.{boardWith, stateWith};
 ghost use Rattle.queries.specs.inner.Rows.{directRows};
 
 // Writes the rows of all processors into the scratch, as words for so many, and answers the row asked for.
-fn write_reach(processors: u8, direct: [u32; SLOTS], processor: u8, scratch: &mut [u8]) -> u32
-    requires { ⌜ (processor < slots) × (scratchSize processors ≤ length (now scratch)) ⌝ }
+fn write_reach(
+    processors: u8,
+    direct: [u32; MAX_PROCESSORS],
+    processor: u8,
+    scratch: &mut [u8],
+) -> u32
+    requires { ⌜ (processor < maxProcessors) × (scratchSize processors ≤ length (now scratch)) ⌝ }
     ensures mask { λ r. ⌜ ((b : Board) (s : State) → processors ≡ b .terms .processors → direct ≡ directRows b s
-        → r ≡ maskOf slots (reaches b s processor)) ⌝ }
+        → r ≡ maskOf maxProcessors (reaches b s processor)) ⌝ }
     ensures stored { λ _. ⌜ ((b : Board) (s : State) → processors ≡ b .terms .processors → direct ≡ directRows b s
         → now (scratch .exit) ≡ overwritten (now (scratch .entry)) 0 (reachBytes b s)) ⌝ }
 {
@@ -37,9 +42,14 @@ fn write_reach(processors: u8, direct: [u32; SLOTS], processor: u8, scratch: &mu
 }
 
 // All that a processor reaches, from the direct waits of all. Refuses by 11, then by 16.
-fn reach_from(terms: Terms, direct: [u32; SLOTS], processor: u8, scratch: &mut [u8]) -> MaskAnswer
+fn reach_from(
+    terms: Terms,
+    direct: [u32; MAX_PROCESSORS],
+    processor: u8,
+    scratch: &mut [u8],
+) -> MaskAnswer
     ensures mask { λ r. ⌜ ((b : Board) (s : State) → terms ≡ b .terms → direct ≡ directRows b s
-        → maskSays r ≡ reachQuery b s processor (now (scratch .entry))) ⌝ }
+        → maskAsNumbers r ≡ reachQuery b s processor (now (scratch .entry))) ⌝ }
     ensures stored { λ _. ⌜ ((b : Board) (s : State) → terms ≡ b .terms → direct ≡ directRows b s
         → now (scratch .exit) ≡ reachScratch b s processor (now (scratch .entry))) ⌝ }
 {
@@ -55,36 +65,36 @@ fn reach_from(terms: Terms, direct: [u32; SLOTS], processor: u8, scratch: &mut [
 // with a word for each processor, and bytes behind those stay. Refuses by 11, then by 16; a refusal writes nothing.
 pub fn reach_in_place(
     terms: Terms,
-    rows: &[u64; ENTRIES],
-    entry: &[u8; SLOTS],
-    earlier: &[u32; SLOTS],
+    rows: &[u64; MAX_ENTRIES],
+    requested: &[u8; MAX_PROCESSORS],
+    earlier: &[u32; MAX_PROCESSORS],
     phases: Phases,
     processor: u8,
     scratch: &mut [u8],
 ) -> MaskAnswer
-    ensures mask { λ r. ⌜ maskSays r ≡ reachQuery
+    ensures mask { λ r. ⌜ maskAsNumbers r ≡ reachQuery
         (boardWith terms (now (rows .entry)))
-        (stateWith (now (entry .entry)) (now (earlier .entry)) phases)
+        (stateWith (now (requested .entry)) (now (earlier .entry)) phases)
         processor (now (scratch .entry)) ⌝ }
     ensures stored { λ _. ⌜ now (scratch .exit) ≡ reachScratch
         (boardWith terms (now (rows .entry)))
-        (stateWith (now (entry .entry)) (now (earlier .entry)) phases)
+        (stateWith (now (requested .entry)) (now (earlier .entry)) phases)
         processor (now (scratch .entry)) ⌝ }
 {
-    let direct = direct_rows(terms, rows, entry, earlier, phases);
+    let direct = direct_rows(terms, rows, requested, earlier, phases);
     reach_from(terms, direct, processor, scratch)
 }
 
 // The same by value.
 pub fn reach(board: Board, state: State, processor: u8, scratch: &mut [u8]) -> MaskAnswer
-    ensures mask { λ r. ⌜ maskSays r ≡ reachQuery board state processor (now (scratch .entry)) ⌝ }
+    ensures mask { λ r. ⌜ maskAsNumbers r ≡ reachQuery board state processor (now (scratch .entry)) ⌝ }
     ensures stored { λ _. ⌜ now (scratch .exit) ≡ reachScratch board state processor (now (scratch .entry)) ⌝ }
 {
     let terms = board.terms;
     let rows = board.rows;
-    let entry = state.entry;
+    let requested = state.requested;
     let earlier = state.earlier;
     let phases = state.phases;
-    let direct = direct_rows(terms, &rows, &entry, &earlier, phases);
+    let direct = direct_rows(terms, &rows, &requested, &earlier, phases);
     reach_from(terms, direct, processor, scratch)
 }

@@ -2,23 +2,23 @@
 use board_list::listed;
 use masks::has32;
 use masks::join_if;
-use plans::SLOTS;
+use plans::MAX_PROCESSORS;
 ghost use mathlib.Core.Path.{_≡_};
 ghost use Prim.Native.Nat.{_<_};
-ghost use Rattle.plans.specs.Entries.{slots};
+ghost use Rattle.plans.specs.Entries.{maxProcessors};
 ghost use Rattle.masks.specs.Tabulation.{tabulate};
 ghost use Rattle.board_list.specs.Sizes.{listedOf};
 ghost use Rattle.reach.specs.Rows.{joinedRow, rowsThrough};
 
 // Every row, joined with row k where k is in it.
-fn join_through(rows: [u32; SLOTS], k: usize) -> [u32; SLOTS]
-    requires { ⌜ k < slots ⌝ }
-    ensures { λ r. ⌜ r ≡ tabulate slots (joinedRow rows k) ⌝ }
+fn join_through(rows: [u32; MAX_PROCESSORS], k: usize) -> [u32; MAX_PROCESSORS]
+    requires { ⌜ k < maxProcessors ⌝ }
+    ensures { λ r. ⌜ r ≡ tabulate maxProcessors (joinedRow rows k) ⌝ }
 {
     let row = rows[k];
-    let mut next: [u32; SLOTS] = [0; SLOTS];
+    let mut next: [u32; MAX_PROCESSORS] = [0; MAX_PROCESSORS];
     let mut p: usize = 0;
-    while p < SLOTS {
+    while p < MAX_PROCESSORS {
         next[p] = join_if(rows[p], row, has32(rows[p], k as u32));
         p += 1;
     }
@@ -27,7 +27,7 @@ fn join_through(rows: [u32; SLOTS], k: usize) -> [u32; SLOTS]
 
 // Clause 7.3: from the direct waits of all to all that each reaches, on a board with so many processors. One pass for
 // each processor that a chain may lead through: the rows of those before it already have the chains through them.
-pub fn reach_rows(processors: u8, direct: [u32; SLOTS]) -> [u32; SLOTS]
+pub fn reach_rows(processors: u8, direct: [u32; MAX_PROCESSORS]) -> [u32; MAX_PROCESSORS]
     ensures { λ r. ⌜ r ≡ rowsThrough (listedOf processors) direct ⌝ }
 {
     let count = listed(processors);

@@ -3,20 +3,20 @@
 use encoding::Outcome;
 use encoding::has_room;
 use encoding::write_number;
-use plans::SLOTS;
+use plans::MAX_PROCESSORS;
 use plans::mask_size;
 use refusals::Refusal;
 ghost use mathlib.Core.Path.{_≡_};
 ghost use Prim.Native.Nat.{_≤_};
 ghost use lib.ListN.{length, getD};
 ghost use lib.Seq.{sets};
-ghost use Rattle.refusals.specs.Due.{said};
-ghost use Rattle.encoding.specs.Buffers.{outcomeSays};
+ghost use Rattle.refusals.specs.Due.{asNumbers};
+ghost use Rattle.encoding.specs.Buffers.{outcomeAsNumbers};
 ghost use Rattle.plans.specs.Entries.{maskSizeFor};
 ghost use Rattle.queries.specs.Words.{wordCount, wordsOf, wordsSize, wordsFault, wordsScratch};
 
 // The most bytes that the words of all rows take: four for each.
-pub const MOST_ROOM: usize = 4 * SLOTS;
+pub const MAX_SCRATCH_BYTES: usize = 4 * MAX_PROCESSORS;
 
 // The bits of a byte: so many processors.
 const BITS: usize = 8;
@@ -31,7 +31,7 @@ pub fn room_of(processors: u8) -> usize
 
 // Stores the rows from the start of the scratch, in words of so many bytes, one for each processor that has a bit in a
 // word.
-fn store_rows(size: usize, rows: [u32; SLOTS], scratch: &mut [u8])
+fn store_rows(size: usize, rows: [u32; MAX_PROCESSORS], scratch: &mut [u8])
     requires { ⌜ (size ≤ 4) × (wordsSize size ≤ length (now scratch)) ⌝ }
     ensures { λ _. ⌜
         now (scratch .exit) ≡ sets (now (scratch .entry)) 0 (wordsOf size (wordCount size) (λ p. getD rows p 0))
@@ -47,8 +47,8 @@ fn store_rows(size: usize, rows: [u32; SLOTS], scratch: &mut [u8])
 
 // Clause 7.4: writes the rows into the scratch, a word for each, low byte first; bytes behind them stay. Refuses by 16
 // a scratch that is too short, and then writes nothing.
-pub fn write_rows(processors: u8, rows: [u32; SLOTS], scratch: &mut [u8]) -> Outcome
-    ensures outcome { λ r. ⌜ outcomeSays r ≡ said
+pub fn write_rows(processors: u8, rows: [u32; MAX_PROCESSORS], scratch: &mut [u8]) -> Outcome
+    ensures outcome { λ r. ⌜ outcomeAsNumbers r ≡ asNumbers
         (wordsFault (maskSizeFor processors) (now (scratch .entry)))
         (wordsSize (maskSizeFor processors)) ⌝ }
     ensures bytes { λ _. ⌜

@@ -10,7 +10,7 @@ use Rattle.refusals.specs.declared.Refusal.{Refusal}
 use Rattle.refusals.specs.declared.Refusal.the-variants.{Short, Tail, Processors, Resources, Entries, Kind, Set, Length, Verb, Tick, Processor, Entry, Busy, Idle, Unheld, Room, Held, Register}
 use Rattle.refusals.specs.declared.Verdict.{Verdict}
 use Rattle.refusals.specs.Number.{numberOf, verdictNumber}
-use Rattle.refusals.specs.Due.{due, firstOf, said}
+use Rattle.refusals.specs.Due.{due, firstOf, asNumbers}
 
 -- ---- the numbers of the table
 
@@ -97,13 +97,13 @@ due-failed t n e = rw e
 
 -- ---- an answer of one value
 
-pub said-value : (n x : ℕ) → n ≡ 0 → said n x ≡ record { number = 0; value = x }
+pub said-value : (n x : ℕ) → n ≡ 0 → asNumbers n x ≡ record { number = 0; value = x }
 said-value n x e = rw e
 
-pub said-refusal : (n x : ℕ) → 0 < n → said n x ≡ record { number = n; value = 0 }
+pub said-refusal : (n x : ℕ) → 0 < n → asNumbers n x ≡ record { number = n; value = 0 }
 said-refusal n x h = rw (positive-not-zero n h)
 
-pub said-accepted : (n x y : ℕ) → said n x ≡ said 0 y → (n ≡ 0) × (x ≡ y)
+pub said-accepted : (n x y : ℕ) → asNumbers n x ≡ asNumbers 0 y → (n ≡ 0) × (x ≡ y)
 said-accepted n x y e =
     let none : n ≡ 0 = ap (λ a. a .number) e in
     (none, ap (λ a. a .value) (sym (said-value n x none) ∙ e))

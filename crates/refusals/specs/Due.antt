@@ -14,9 +14,9 @@ firstOf earlier later = cond (eqb earlier 0) later earlier
 
 -- Clause 8.1: an answer of one value as numbers: the number that is due, and the value if that number is 0. A refusal
 -- is its number alone, so its value is 0.
-pub record Said : Type 0 where
+pub record AsNumbers : Type 0 where
   pub number : ℕ
   pub value : ℕ
 
-abbrev pub said : ℕ → ℕ → Said
-said number value = record { number = number; value = cond (eqb number 0) value 0 }
+abbrev pub asNumbers : ℕ → ℕ → AsNumbers
+asNumbers number value = record { number = number; value = cond (eqb number 0) value 0 }

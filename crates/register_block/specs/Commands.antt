@@ -51,9 +51,9 @@ unfoldable pub registerWrite : Board → State → Block → ℕ → ℕ → Wri
 registerWrite board state block offset value = writtenTo (registerAt offset) board state block offset value
 
 -- Clause 10.10: what a write returns, with the block as it leaves it, in numbers.
-abbrev pub writtenSays : Written → Block → WriteAnswer
-writtenSays written block =
+abbrev pub writtenAsNumbers : Written → Block → WriteAnswer
+writtenAsNumbers written block =
     record { number = verdictNumber (written .verdict); block = block; state = written .state }
 
-abbrev pub changeSays : Change → WriteAnswer
-changeSays change = writtenSays (change .written) (change .block)
+abbrev pub changeAsNumbers : Change → WriteAnswer
+changeAsNumbers change = writtenAsNumbers (change .written) (change .block)

@@ -10,7 +10,7 @@ use rules::Reply;
 ghost use mathlib.Core.Path.{_≡_};
 ghost use Prim.Native.Nat.{_+_, _≤_};
 ghost use lib.ListN.{set};
-ghost use Rattle.rules.specs.Replies.{replySays};
+ghost use Rattle.rules.specs.Replies.{replyAsNumbers};
 ghost use Rattle.register_block.specs.Registers.{withMask, acceptedBlock, repliedBlock};
 
 // The bytes with a mask stored in four of them.
@@ -25,7 +25,7 @@ fn put_mask(bytes: [u8; BLOCK], place: usize, mask: u64) -> [u8; BLOCK]
 
 // Clause 10.8: stores the answer to an accepted command in the registers.
 fn accept(bytes: [u8; BLOCK], granted: u32, entitled: u32, late: u8) -> Block
-    ensures { λ r. ⌜ r ≡ acceptedBlock bytes (replySays (Reply.Done granted entitled late)) ⌝ }
+    ensures { λ r. ⌜ r ≡ acceptedBlock bytes (replyAsNumbers (Reply.Done granted entitled late)) ⌝ }
 {
     let mut kept = bytes;
     kept[3] = 0;
@@ -47,7 +47,7 @@ fn refuse(bytes: [u8; BLOCK], number: u8) -> Block
 
 // Clauses 10.8 and 10.9: what a command leaves.
 pub fn show(bytes: [u8; BLOCK], reply: Reply) -> Block
-    ensures { λ r. ⌜ r ≡ repliedBlock bytes (replySays reply) ⌝ }
+    ensures { λ r. ⌜ r ≡ repliedBlock bytes (replyAsNumbers reply) ⌝ }
 {
     match reply {
         Reply::Done {

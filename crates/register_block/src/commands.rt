@@ -2,7 +2,7 @@
 use crate::command_calls::call_of;
 use crate::command_registers::show;
 use arbiter::answer_on;
-use plans::ENTRIES;
+use plans::MAX_ENTRIES;
 use refusals::Refusal;
 use refusals::Verdict;
 use registers::Block;
@@ -10,7 +10,7 @@ use rules::State;
 use rules::Terms;
 ghost use mathlib.Core.Path.{_≡_};
 ghost use Rattle.rules.specs.InPlace.{boardBy};
-ghost use Rattle.register_block.specs.Commands.{commanded, changeSays};
+ghost use Rattle.register_block.specs.Commands.{commanded, changeAsNumbers};
 
 // Whether a write is accepted, and the state after it.
 pub struct Written {
@@ -40,13 +40,13 @@ pub fn unmoved(verdict: Verdict, block: Block, state: State) -> Change
 // Clause 10.7: carries out a command.
 pub fn command(
     terms: Terms,
-    rows: &[u64; ENTRIES],
-    lengths: &[u16; ENTRIES],
+    rows: &[u64; MAX_ENTRIES],
+    lengths: &[u16; MAX_ENTRIES],
     state: State,
     block: Block,
     command: u8,
 ) -> Change
-    ensures { λ r. ⌜ changeSays r
+    ensures { λ r. ⌜ changeAsNumbers r
         ≡ commanded (boardBy terms (now (rows .entry)) (now (lengths .entry))) state block command ⌝ }
 {
     if command == 0 {

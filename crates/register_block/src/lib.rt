@@ -8,7 +8,7 @@ mod register_writes;
 
 pub use commands::Change;
 pub use commands::Written;
-use plans::ENTRIES;
+use plans::MAX_ENTRIES;
 pub use register_writes::write;
 use registers::Block;
 use registers::ReadAnswer;
@@ -17,12 +17,12 @@ use rules::State;
 use rules::Terms;
 ghost use mathlib.Core.Path.{_≡_};
 ghost use Rattle.rules.specs.InPlace.{boardBy};
-ghost use Rattle.registers.specs.Registers.{registerRead, registerSays};
-ghost use Rattle.register_block.specs.Commands.{registerWrite, writtenSays};
+ghost use Rattle.registers.specs.Registers.{registerRead, registerAsNumbers};
+ghost use Rattle.register_block.specs.Commands.{registerWrite, writtenAsNumbers};
 
 // Reads an offset of the block. Refused with 18.
 pub fn read_register(block: &Block, offset: u8) -> ReadAnswer
-    ensures { λ r. ⌜ registerSays r ≡ registerRead (now (block .entry)) offset ⌝ }
+    ensures { λ r. ⌜ registerAsNumbers r ≡ registerRead (now (block .entry)) offset ⌝ }
 {
     read(*block, offset)
 }
@@ -31,13 +31,13 @@ pub fn read_register(block: &Block, offset: u8) -> ReadAnswer
 pub fn write_register(
     block: &mut Block,
     terms: Terms,
-    rows: &[u64; ENTRIES],
-    lengths: &[u16; ENTRIES],
+    rows: &[u64; MAX_ENTRIES],
+    lengths: &[u16; MAX_ENTRIES],
     state: State,
     offset: u8,
     value: u8,
 ) -> Written
-    ensures { λ r. ⌜ writtenSays r (now (block .exit))
+    ensures { λ r. ⌜ writtenAsNumbers r (now (block .exit))
         ≡ registerWrite (boardBy terms (now (rows .entry)) (now (lengths .entry))) state
         (now (block .entry)) offset value ⌝ }
 {

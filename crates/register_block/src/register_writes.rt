@@ -2,7 +2,7 @@
 use crate::commands::Change;
 use crate::commands::command;
 use crate::commands::unmoved;
-use plans::ENTRIES;
+use plans::MAX_ENTRIES;
 use refusals::Refusal;
 use refusals::Verdict;
 use registers::Block;
@@ -13,19 +13,19 @@ use rules::State;
 use rules::Terms;
 ghost use mathlib.Core.Path.{_≡_};
 ghost use Rattle.rules.specs.InPlace.{boardBy};
-ghost use Rattle.register_block.specs.Commands.{registerWrite, changeSays};
+ghost use Rattle.register_block.specs.Commands.{registerWrite, changeAsNumbers};
 
 // Writes a byte to an offset of a block. Refused with 18.
 pub fn write(
     terms: Terms,
-    rows: &[u64; ENTRIES],
-    lengths: &[u16; ENTRIES],
+    rows: &[u64; MAX_ENTRIES],
+    lengths: &[u16; MAX_ENTRIES],
     state: State,
     block: Block,
     offset: u8,
     value: u8,
 ) -> Change
-    ensures { λ r. ⌜ changeSays r
+    ensures { λ r. ⌜ changeAsNumbers r
         ≡ registerWrite (boardBy terms (now (rows .entry)) (now (lengths .entry))) state block offset value ⌝ }
 {
     let register = register_at(offset);

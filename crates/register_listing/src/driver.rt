@@ -1,5 +1,5 @@
 // A driver's own block, lent to the functions that read and write it.
-use plans::ENTRIES;
+use plans::MAX_ENTRIES;
 use register_block::Change;
 use register_block::read_register;
 use register_block::write_register;
@@ -9,19 +9,19 @@ use rules::State;
 use rules::Terms;
 ghost use mathlib.Core.Path.{_≡_};
 ghost use Rattle.rules.specs.InPlace.{boardBy};
-ghost use Rattle.registers.specs.Registers.{registerRead, registerSays};
-ghost use Rattle.register_block.specs.Commands.{registerWrite, changeSays};
+ghost use Rattle.registers.specs.Registers.{registerRead, registerAsNumbers};
+ghost use Rattle.register_block.specs.Commands.{registerWrite, changeAsNumbers};
 
 pub fn write_lent(
     terms: Terms,
-    rows: &[u64; ENTRIES],
-    lengths: &[u16; ENTRIES],
+    rows: &[u64; MAX_ENTRIES],
+    lengths: &[u16; MAX_ENTRIES],
     state: State,
     block: Block,
     offset: u8,
     value: u8,
 ) -> Change
-    ensures { λ r. ⌜ changeSays r
+    ensures { λ r. ⌜ changeAsNumbers r
         ≡ registerWrite (boardBy terms (now (rows .entry)) (now (lengths .entry))) state block offset value ⌝ }
 {
     let mut kept = block;
@@ -33,7 +33,7 @@ pub fn write_lent(
 }
 
 pub fn read_lent(block: Block, offset: u8) -> ReadAnswer
-    ensures { λ r. ⌜ registerSays r ≡ registerRead block offset ⌝ }
+    ensures { λ r. ⌜ registerAsNumbers r ≡ registerRead block offset ⌝ }
 {
     let kept = block;
     read_register(&kept, offset)

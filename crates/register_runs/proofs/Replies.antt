@@ -5,10 +5,10 @@ use mathlib.Core.Path.{_≡_, refl}
 use mathlib.Core.Bool.{Bool, true, false, cond, true≢false}
 use lib.Dec.{eqb, lit<}
 use Rattle.masks.proofs.Masks.{mask-below-width}
-use Rattle.plans.specs.Entries.{slots}
+use Rattle.plans.specs.Entries.{maxProcessors}
 use Rattle.rules.specs.declared.calls.Call.{Call}
 use Rattle.rules.specs.Replies.{Response, refusedWith}
-use Rattle.rules.specs.declared.settling.Phases.{Phases}
+use Rattle.rules.specs.declared.states.Phases.{Phases}
 use Rattle.rules.specs.declared.states.Board.{Board}
 use Rattle.rules.specs.declared.states.State.{State}
 use Rattle.rules.specs.Faults.{issueFault, handoverFault}
@@ -24,8 +24,8 @@ done-holdable : (x : State) (after : Phases) (late : ℕ) → Holdable (done x a
 unfolding done
 done-holdable x after late =
     record {
-      granted = mask-below-width 32 slots _ (lit< tt);
-      entitled = mask-below-width 32 slots _ (lit< tt);
+      granted = mask-below-width 32 maxProcessors _ (lit< tt);
+      entitled = mask-below-width 32 maxProcessors _ (lit< tt);
       alone = λ e. absurd (true≢false e);
     }
 
@@ -47,8 +47,8 @@ both-holdable : (first second : Answer) → Holdable (both first second .reply)
 unfolding both
 both-holdable first second =
     record {
-      granted = mask-below-width 32 slots _ (lit< tt);
-      entitled = mask-below-width 32 slots _ (lit< tt);
+      granted = mask-below-width 32 maxProcessors _ (lit< tt);
+      entitled = mask-below-width 32 maxProcessors _ (lit< tt);
       alone = λ e. absurd (true≢false e);
     }
 

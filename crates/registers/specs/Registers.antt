@@ -7,7 +7,7 @@ use lib.ListN.{getD, set}
 use lib.Seq.{slice}
 use Rattle.masks.specs.Sets.{bit, some}
 use Rattle.refusals.specs.Number.{numberOf}
-use Rattle.refusals.specs.Due.{Said, said}
+use Rattle.refusals.specs.Due.{AsNumbers, asNumbers}
 use Rattle.encoding.specs.Numbers.{number}
 use Rattle.registers.specs.declared.Register.{Register}
 use Rattle.registers.specs.declared.Register.the-variants.{Command, Argument, Answer, Pending, Enabled, Line, Unlisted}
@@ -88,10 +88,10 @@ shownAt Line bytes offset = lineOf bytes
 shownAt Unlisted bytes offset = 0
 
 -- Clause 10.4: reading an offset of a block.
-unfoldable pub registerRead : Block → ℕ → Said
-registerRead block offset = said (registerFault (registerAt offset)) (shownAt (registerAt offset) (block .bytes) offset)
+unfoldable pub registerRead : Block → ℕ → AsNumbers
+registerRead block offset = asNumbers (registerFault (registerAt offset)) (shownAt (registerAt offset) (block .bytes) offset)
 
 -- The answer to a read as numbers: the value, or the refusal.
-abbrev pub registerSays : ReadAnswer → Said
-registerSays (ReadAnswer.Value value) = record { number = 0; value = value }
-registerSays (ReadAnswer.Refused r) = record { number = numberOf r; value = 0 }
+abbrev pub registerAsNumbers : ReadAnswer → AsNumbers
+registerAsNumbers (ReadAnswer.Value value) = record { number = 0; value = value }
+registerAsNumbers (ReadAnswer.Refused r) = record { number = numberOf r; value = 0 }

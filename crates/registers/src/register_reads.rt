@@ -6,7 +6,7 @@ use crate::line_of;
 use encoding::byte_at;
 use refusals::Refusal;
 ghost use mathlib.Core.Path.{_≡_};
-ghost use Rattle.registers.specs.Registers.{registerAt, registerRead, registerSays};
+ghost use Rattle.registers.specs.Registers.{registerAt, registerRead, registerAsNumbers};
 
 // The register at an offset.
 pub fn register_at(offset: u8) -> Register
@@ -35,7 +35,7 @@ pub fn register_at(offset: u8) -> Register
 
 // Reads an offset of a block. Refuses with 18 if the offset is not listed.
 pub fn read(block: Block, offset: u8) -> ReadAnswer
-    ensures { λ r. ⌜ registerSays r ≡ registerRead block offset ⌝ }
+    ensures { λ r. ⌜ registerAsNumbers r ≡ registerRead block offset ⌝ }
 {
     let bytes = block.bytes;
     let byte = byte_at(&bytes, offset as usize);

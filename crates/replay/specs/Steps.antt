@@ -7,9 +7,9 @@ use Rattle.rules.specs.declared.states.Board.{Board}
 use Rattle.rules.specs.declared.states.State.{State}
 use Rattle.rules.specs.Calls.{answered}
 use Rattle.rules.specs.InPlace.{stateBy}
-use Rattle.listings.specs.PlainLines.{lineSays}
+use Rattle.listings.specs.PlainLines.{lineAsNumbers}
 use Rattle.listings.specs.Lines.{callLineBy}
-use Rattle.replay.specs.declared.carrying_out.Carried.{Carried}
+use Rattle.replay.specs.declared.carrying_out.Replayed.{Replayed}
 
 -- The line of a step, the state after it, and whether it ends the replay.
 pub record Step : Type 0 where
@@ -37,9 +37,9 @@ pub record Stands : Type 0 where
 -- it.
 unfoldable pub stands : Step → ℕ → ℕ → Stands
 stands step size at =
-    record { state = step .state; written = lineSays (step .line) size at .value; ended = step .ended }
+    record { state = step .state; written = lineAsNumbers (step .line) size at .value; ended = step .ended }
 
 -- The same for what a function returns and leaves in the arrays of the state.
-abbrev pub carriedBy : Carried → List ℕ → List ℕ → List ℕ → Stands
-carriedBy c entry since earlier =
+abbrev pub replayedBy : Replayed → List ℕ → List ℕ → List ℕ → Stands
+replayedBy c entry since earlier =
     record { state = stateBy (c .moment) entry since earlier; written = c .written; ended = c .ended }

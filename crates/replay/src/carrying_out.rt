@@ -3,8 +3,8 @@
 use calls_in_place::answer_in_place;
 use listings::call_line_by;
 use listings::line_size;
-use plans::ENTRIES;
-use plans::SLOTS;
+use plans::MAX_ENTRIES;
+use plans::MAX_PROCESSORS;
 use rules::Call;
 use rules::Moment;
 use rules::Terms;
@@ -12,11 +12,11 @@ ghost use mathlib.Core.Path.{_≡_};
 ghost use lib.ListN.{length};
 ghost use Rattle.rules.specs.InPlace.{boardBy, stateBy};
 ghost use Rattle.listings.specs.PlainLines.{lineBuffer};
-ghost use Rattle.replay.specs.Steps.{callStep, stands, carriedBy};
+ghost use Rattle.replay.specs.Steps.{callStep, stands, replayedBy};
 
 // What one record did, apart from the arrays of the state: the moment after it, how many bytes its line took, and
 // whether it ended the replay.
-pub struct Carried {
+pub struct Replayed {
     pub moment: Moment,
     pub written: usize,
     pub ended: bool,
@@ -26,37 +26,46 @@ pub struct Carried {
 // is the table with the digits of every byte.
 pub fn carry_out(
     terms: Terms,
-    rows: &[u64; ENTRIES],
-    lengths: &[u16; ENTRIES],
+    rows: &[u64; MAX_ENTRIES],
+    lengths: &[u16; MAX_ENTRIES],
     pairs: &[u16],
     moment: Moment,
-    entries: &mut [u8; SLOTS],
-    since: &mut [u64; SLOTS],
-    earlier: &mut [u32; SLOTS],
+    requested: &mut [u8; MAX_PROCESSORS],
+    since: &mut [u64; MAX_PROCESSORS],
+    earlier: &mut [u32; MAX_PROCESSORS],
     call: Call,
     out: &mut [u8],
     at: usize,
-) -> Carried
+) -> Replayed
     ensures result { λ r. ⌜
-        carriedBy r (now (entries .exit)) (now (since .exit)) (now (earlier .exit))
+        replayedBy r (now (requested .exit)) (now (since .exit)) (now (earlier .exit))
         ≡ stands
         (callStep (now (pairs .entry)) (boardBy terms (now (rows .entry)) (now (lengths .entry)))
-        (stateBy moment (now (entries .entry)) (now (since .entry)) (now (earlier .entry))) call)
+        (stateBy moment (now (requested .entry)) (now (since .entry)) (now (earlier .entry))) call)
         (length (now (out .entry))) at
         ⌝ }
     ensures written { λ _. ⌜
         now (out .exit)
         ≡ lineBuffer
         (callStep (now (pairs .entry)) (boardBy terms (now (rows .entry)) (now (lengths .entry)))
-        (stateBy moment (now (entries .entry)) (now (since .entry)) (now (earlier .entry))) call .line)
+        (stateBy moment (now (requested .entry)) (now (since .entry)) (now (earlier .entry))) call .line)
         (now (out .entry)) at
         ⌝ }
 {
-    let changed = answer_in_place(terms, rows, lengths, moment, entries, since, earlier, call);
+    let changed = answer_in_place(
+        terms,
+        rows,
+        lengths,
+        moment,
+        requested,
+        since,
+        earlier,
+        call,
+    );
     let reply = changed.reply;
     let after = changed.moment;
     let size = line_size(call_line_by(pairs, terms.processors, call, reply, out, at));
-    Carried {
+    Replayed {
         moment: after,
         written: size,
         ended: false,

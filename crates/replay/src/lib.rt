@@ -15,8 +15,8 @@ pub use log_ends::finish;
 pub use log_openings::Begun;
 pub use log_openings::begin;
 use logs::RECORD_BYTES;
-use plans::ENTRIES;
-use plans::SLOTS;
+use plans::MAX_ENTRIES;
+use plans::MAX_PROCESSORS;
 use replay_records::replay_record;
 use rules::Board;
 use rules::Moment;
@@ -53,7 +53,7 @@ pub struct RanBlock {
 
 // The part of a state that is not in its arrays.
 fn moment_of(state: State) -> Moment
-    ensures { λ r. ⌜ stateBy r (state .entry) (state .since) (state .earlier) ≡ state ⌝ }
+    ensures { λ r. ⌜ stateBy r (state .requested) (state .since) (state .earlier) ≡ state ⌝ }
 {
     let phases = state.phases;
     Moment {
@@ -65,11 +65,11 @@ fn moment_of(state: State) -> Moment
 // The state of a moment and the three arrays.
 fn state_of(
     moment: Moment,
-    entries: [u8; SLOTS],
-    since: [u64; SLOTS],
-    earlier: [u32; SLOTS],
+    requested: [u8; MAX_PROCESSORS],
+    since: [u64; MAX_PROCESSORS],
+    earlier: [u32; MAX_PROCESSORS],
 ) -> State
-    ensures { λ r. ⌜ r ≡ stateBy moment entries since earlier ⌝ }
+    ensures { λ r. ⌜ r ≡ stateBy moment requested since earlier ⌝ }
 {
     let phases = moment.phases;
     State {
@@ -77,7 +77,7 @@ fn state_of(
         phases: phases,
         since: since,
         earlier: earlier,
-        entry: entries,
+        requested: requested,
     }
 }
 
@@ -85,13 +85,13 @@ fn state_of(
 // `out`. The arrays of the board and of the state are lent, and so is the table with the digits of every byte.
 fn run_records(
     terms: Terms,
-    rows: &[u64; ENTRIES],
-    lengths: &[u16; ENTRIES],
+    rows: &[u64; MAX_ENTRIES],
+    lengths: &[u16; MAX_ENTRIES],
     pairs: &[u16],
     first: Moment,
-    entries: &mut [u8; SLOTS],
-    since: &mut [u64; SLOTS],
-    earlier: &mut [u32; SLOTS],
+    requested: &mut [u8; MAX_PROCESSORS],
+    since: &mut [u64; MAX_PROCESSORS],
+    earlier: &mut [u32; MAX_PROCESSORS],
     due: u16,
     bytes: &[u8],
     out: &mut [u8],
@@ -100,16 +100,16 @@ fn run_records(
         (now pairs ≡ hexPairs) × ((recordSize * due ≤ length (now bytes)) × (lineRoom * due ≤ length (now out)))
         ⌝ }
     ensures result { λ r. ⌜
-        ranBy r (now (entries .exit)) (now (since .exit)) (now (earlier .exit))
+        ranBy r (now (requested .exit)) (now (since .exit)) (now (earlier .exit))
         ≡ ranBlock
         (ran (boardBy terms (now (rows .entry)) (now (lengths .entry)))
-        (stateBy first (now (entries .entry)) (now (since .entry)) (now (earlier .entry))) due (now (bytes .entry)))
+        (stateBy first (now (requested .entry)) (now (since .entry)) (now (earlier .entry))) due (now (bytes .entry)))
         ⌝ }
     ensures written { λ _. ⌜
         now (out .exit)
         ≡ overwritten (now (out .entry)) 0
         (ran (boardBy terms (now (rows .entry)) (now (lengths .entry)))
-        (stateBy first (now (entries .entry)) (now (since .entry)) (now (earlier .entry)))
+        (stateBy first (now (requested .entry)) (now (since .entry)) (now (earlier .entry)))
         due (now (bytes .entry)) .lines)
         ⌝ }
 {
@@ -125,7 +125,7 @@ fn run_records(
             lengths,
             pairs,
             moment,
-            entries,
+            requested,
             since,
             earlier,
             &bytes[from..],
@@ -166,7 +166,7 @@ pub fn run(board: Board, state: State, left: u16, bytes: &[u8], out: &mut [u8]) 
     let pairs = hex_pairs();
     let due = budget_of(left, bytes.len(), out.len());
     let moment = moment_of(state);
-    let mut entries = state.entry;
+    let mut requested = state.requested;
     let mut since = state.since;
     let mut earlier = state.earlier;
     let done = run_records(
@@ -175,7 +175,7 @@ pub fn run(board: Board, state: State, left: u16, bytes: &[u8], out: &mut [u8]) 
         &lengths,
         &pairs,
         moment,
-        &mut entries,
+        &mut requested,
         &mut since,
         &mut earlier,
         due,
@@ -184,7 +184,7 @@ pub fn run(board: Board, state: State, left: u16, bytes: &[u8], out: &mut [u8]) 
     );
     let after = done.moment;
     RanBlock {
-        state: state_of(after, entries, since, earlier),
+        state: state_of(after, requested, since, earlier),
         calls: done.calls,
         written: done.written,
         ended: done.ended,

@@ -11,9 +11,9 @@ use refusals::Verdict;
 ghost use mathlib.Core.Path.{_≡_};
 ghost use lib.ListN.{length};
 ghost use Rattle.refusals.specs.Number.{verdictNumber};
-ghost use Rattle.encoding.specs.Buffers.{outcomeSays};
-ghost use Rattle.logs.specs.Records.{countSays, readCount};
-ghost use Rattle.listings.specs.PlainLines.{lineSays, lineBuffer};
+ghost use Rattle.encoding.specs.Buffers.{outcomeAsNumbers};
+ghost use Rattle.logs.specs.Records.{countAsNumbers, readCount};
+ghost use Rattle.listings.specs.PlainLines.{lineAsNumbers, lineBuffer};
 ghost use Rattle.replay.specs.Ends.{faultLine, countLine, endFault, endLine};
 
 // How many calls follow, or the refusal; and the line of the refusal.
@@ -27,7 +27,7 @@ pub struct CallCount {
 // The line of a refusal, and no line if there is no refusal.
 fn verdict_line(verdict: Verdict, out: &mut [u8]) -> Outcome
     ensures outcome { λ r. ⌜
-        outcomeSays r ≡ lineSays (faultLine (verdictNumber verdict)) (length (now (out .entry))) 0
+        outcomeAsNumbers r ≡ lineAsNumbers (faultLine (verdictNumber verdict)) (length (now (out .entry))) 0
         ⌝ }
     ensures written { λ _. ⌜
         now (out .exit) ≡ lineBuffer (faultLine (verdictNumber verdict)) (now (out .entry)) 0
@@ -40,7 +40,7 @@ fn verdict_line(verdict: Verdict, out: &mut [u8]) -> Outcome
 }
 
 fn count_verdict(calls: CountAnswer) -> Verdict
-    ensures { λ r. ⌜ verdictNumber r ≡ countSays calls .number ⌝ }
+    ensures { λ r. ⌜ verdictNumber r ≡ countAsNumbers calls .number ⌝ }
 {
     match calls {
         CountAnswer::Calls(_) => Verdict::Accepted,
@@ -51,9 +51,9 @@ fn count_verdict(calls: CountAnswer) -> Verdict
 // Reads the call count at the start of the bytes after the plan. If it is refused, the line of the refusal is written
 // at the start of `out`.
 pub fn count(bytes: &[u8], out: &mut [u8]) -> CallCount
-    ensures calls { λ r. ⌜ countSays (r .calls) ≡ readCount (now (bytes .entry)) ⌝ }
+    ensures calls { λ r. ⌜ countAsNumbers (r .calls) ≡ readCount (now (bytes .entry)) ⌝ }
     ensures line { λ r. ⌜
-        outcomeSays (r .line) ≡ lineSays (countLine (now (bytes .entry))) (length (now (out .entry))) 0
+        outcomeAsNumbers (r .line) ≡ lineAsNumbers (countLine (now (bytes .entry))) (length (now (out .entry))) 0
         ⌝ }
     ensures written { λ _. ⌜ now (out .exit) ≡ lineBuffer (countLine (now (bytes .entry))) (now (out .entry)) 0 ⌝ }
 {
@@ -85,7 +85,7 @@ fn end_fault(left: u16, bytes: &[u8]) -> Verdict
 // The line that ends the listing, if any. The input has ended with less than a record left over, or no call is left.
 pub fn finish(left: u16, bytes: &[u8], out: &mut [u8]) -> Outcome
     ensures outcome { λ r. ⌜
-        outcomeSays r ≡ lineSays (endLine left (now (bytes .entry))) (length (now (out .entry))) 0
+        outcomeAsNumbers r ≡ lineAsNumbers (endLine left (now (bytes .entry))) (length (now (out .entry))) 0
         ⌝ }
     ensures written { λ _. ⌜
         now (out .exit) ≡ lineBuffer (endLine left (now (bytes .entry))) (now (out .entry)) 0

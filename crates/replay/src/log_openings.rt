@@ -10,10 +10,10 @@ use rules::Board;
 use rules::State;
 ghost use mathlib.Core.Path.{_≡_};
 ghost use lib.ListN.{length};
-ghost use Rattle.encoding.specs.Buffers.{outcomeSays};
-ghost use Rattle.plans.specs.Reading.{readSays, planRead};
+ghost use Rattle.encoding.specs.Buffers.{outcomeAsNumbers};
+ghost use Rattle.plans.specs.Reading.{readAsNumbers, planRead};
 ghost use Rattle.boards.specs.Fresh.{freshBoard, freshState};
-ghost use Rattle.listings.specs.PlainLines.{lineSays, lineBuffer};
+ghost use Rattle.listings.specs.PlainLines.{lineAsNumbers, lineBuffer};
 ghost use Rattle.replay.specs.Openings.{openingLine};
 ghost use Rattle.replay.specs.inner.Opening.{openingBy};
 
@@ -28,10 +28,10 @@ pub struct Begun {
 // The first line of an accepted plan, or the line of the plan's refusal.
 fn opening_line(outcome: Outcome, plan: Plan, out: &mut [u8]) -> Outcome
     ensures outcome { λ r. ⌜
-        outcomeSays r ≡ lineSays (openingBy (outcomeSays outcome .number) plan) (length (now (out .entry))) 0
+        outcomeAsNumbers r ≡ lineAsNumbers (openingBy (outcomeAsNumbers outcome .number) plan) (length (now (out .entry))) 0
         ⌝ }
     ensures written { λ _. ⌜
-        now (out .exit) ≡ lineBuffer (openingBy (outcomeSays outcome .number) plan) (now (out .entry)) 0
+        now (out .exit) ≡ lineBuffer (openingBy (outcomeAsNumbers outcome .number) plan) (now (out .entry)) 0
         ⌝ }
 {
     match outcome {
@@ -43,11 +43,11 @@ fn opening_line(outcome: Outcome, plan: Plan, out: &mut [u8]) -> Outcome
 // Reads the plan at the start of a log, makes its fresh arbiter, and writes the line that opens the listing at the
 // start of `out`. If `out` is too short for the line, nothing is written.
 pub fn begin(bytes: &[u8], out: &mut [u8]) -> Begun
-    ensures outcome { λ r. ⌜ outcomeSays (r .outcome) ≡ readSays (now (bytes .entry)) ⌝ }
+    ensures outcome { λ r. ⌜ outcomeAsNumbers (r .outcome) ≡ readAsNumbers (now (bytes .entry)) ⌝ }
     ensures board { λ r. ⌜ r .board ≡ freshBoard (planRead (now (bytes .entry))) ⌝ }
     ensures state { λ r. ⌜ r .state ≡ freshState ⌝ }
     ensures line { λ r. ⌜
-        outcomeSays (r .line) ≡ lineSays (openingLine (now (bytes .entry))) (length (now (out .entry))) 0
+        outcomeAsNumbers (r .line) ≡ lineAsNumbers (openingLine (now (bytes .entry))) (length (now (out .entry))) 0
         ⌝ }
     ensures written { λ _. ⌜ now (out .exit) ≡ lineBuffer (openingLine (now (bytes .entry))) (now (out .entry)) 0 ⌝ }
 {

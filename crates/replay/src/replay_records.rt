@@ -1,49 +1,49 @@
 // One record of a log, replayed: its call is carried out and gets its line, or its refusal gets a line and ends the
 // replay (specification, section 9). `run` replays the records of a block one by one.
-use crate::carrying_out::Carried;
+use crate::carrying_out::Replayed;
 use crate::carrying_out::carry_out;
 use listings::line_size;
 use listings::refusal_line;
 use logs::RecordAnswer;
 use logs::read_record;
-use plans::ENTRIES;
-use plans::SLOTS;
+use plans::MAX_ENTRIES;
+use plans::MAX_PROCESSORS;
 use rules::Moment;
 use rules::Terms;
 ghost use mathlib.Core.Path.{_≡_};
 ghost use lib.ListN.{length};
 ghost use Rattle.rules.specs.InPlace.{boardBy, stateBy};
 ghost use Rattle.listings.specs.PlainLines.{lineBuffer};
-ghost use Rattle.replay.specs.Steps.{stands, carriedBy};
+ghost use Rattle.replay.specs.Steps.{stands, replayedBy};
 ghost use Rattle.replay.specs.Records.{recordStep};
 
 // One record: its call is carried out and gets its line, or its refusal is a line of its own and ends the replay. The
 // arrays of the board and of the state are lent, and so is the table with the digits of every byte.
 pub fn replay_record(
     terms: Terms,
-    rows: &[u64; ENTRIES],
-    lengths: &[u16; ENTRIES],
+    rows: &[u64; MAX_ENTRIES],
+    lengths: &[u16; MAX_ENTRIES],
     pairs: &[u16],
     moment: Moment,
-    entries: &mut [u8; SLOTS],
-    since: &mut [u64; SLOTS],
-    earlier: &mut [u32; SLOTS],
+    requested: &mut [u8; MAX_PROCESSORS],
+    since: &mut [u64; MAX_PROCESSORS],
+    earlier: &mut [u32; MAX_PROCESSORS],
     bytes: &[u8],
     out: &mut [u8],
     at: usize,
-) -> Carried
+) -> Replayed
     ensures result { λ r. ⌜
-        carriedBy r (now (entries .exit)) (now (since .exit)) (now (earlier .exit))
+        replayedBy r (now (requested .exit)) (now (since .exit)) (now (earlier .exit))
         ≡ stands
         (recordStep (now (pairs .entry)) (boardBy terms (now (rows .entry)) (now (lengths .entry)))
-        (stateBy moment (now (entries .entry)) (now (since .entry)) (now (earlier .entry))) (now (bytes .entry)))
+        (stateBy moment (now (requested .entry)) (now (since .entry)) (now (earlier .entry))) (now (bytes .entry)))
         (length (now (out .entry))) at
         ⌝ }
     ensures written { λ _. ⌜
         now (out .exit)
         ≡ lineBuffer
         (recordStep (now (pairs .entry)) (boardBy terms (now (rows .entry)) (now (lengths .entry)))
-        (stateBy moment (now (entries .entry)) (now (since .entry)) (now (earlier .entry))) (now (bytes .entry)) .line)
+        (stateBy moment (now (requested .entry)) (now (since .entry)) (now (earlier .entry))) (now (bytes .entry)) .line)
         (now (out .entry)) at
         ⌝ }
 {
@@ -55,7 +55,7 @@ pub fn replay_record(
             lengths,
             pairs,
             moment,
-            entries,
+            requested,
             since,
             earlier,
             call,
@@ -64,7 +64,7 @@ pub fn replay_record(
         ),
         RecordAnswer::Refused(refusal) => {
             let written = line_size(refusal_line(refusal, out, at));
-            Carried {
+            Replayed {
                 moment: moment,
                 written: written,
                 ended: true,

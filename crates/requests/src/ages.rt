@@ -1,7 +1,7 @@
 // What a state keeps of each processor's request beside its phase: who is earlier, and since when it holds or waits.
 // Specification, clauses 4.2 and 4.8. A processor that a state has no place for changes nothing.
 use masks::remove32;
-use plans::SLOTS;
+use plans::MAX_PROCESSORS;
 use rules::Phases;
 use settling::ALL;
 ghost use mathlib.Core.Path.{_≡_};
@@ -10,33 +10,33 @@ ghost use lib.Bits.{bitAnd};
 ghost use lib.Dec.{eqb};
 ghost use lib.ListN.{getD, length};
 ghost use Rattle.masks.specs.Sets.{bit, maskOf};
-ghost use Rattle.plans.specs.Entries.{slots};
+ghost use Rattle.plans.specs.Entries.{maxProcessors};
 ghost use Rattle.masks.specs.Tabulation.{tabulate};
 ghost use Rattle.rules.specs.Acts.{putLast};
 
 // What the types of two lent arrays say, for the proofs. Compiled, there is nothing left of them.
-fn ticks_are_whole(since: [u64; SLOTS])
-    ensures { λ r. ⌜ length since ≡ slots ⌝ }
+fn ticks_are_whole(since: [u64; MAX_PROCESSORS])
+    ensures { λ r. ⌜ length since ≡ maxProcessors ⌝ }
 {}
 
-fn sets_are_whole(earlier: [u32; SLOTS])
-    ensures { λ r. ⌜ length earlier ≡ slots ⌝ }
+fn sets_are_whole(earlier: [u32; MAX_PROCESSORS])
+    ensures { λ r. ⌜ length earlier ≡ maxProcessors ⌝ }
 {}
 
 // Every processor but this one.
 pub fn all_but(processor: u8) -> u32
-    ensures { λ r. ⌜ r ≡ maskOf slots (λ q. not (eqb q processor)) ⌝ }
+    ensures { λ r. ⌜ r ≡ maskOf maxProcessors (λ q. not (eqb q processor)) ⌝ }
 {
     remove32(ALL, processor as u32)
 }
 
 // Each set with just the places that are kept.
-fn keep_each(sets: &mut [u32; SLOTS], keep: u32)
-    ensures { λ r. ⌜ now (sets .exit) ≡ tabulate slots (λ q. bitAnd (getD (now (sets .entry)) q 0) keep) ⌝ }
+fn keep_each(sets: &mut [u32; MAX_PROCESSORS], keep: u32)
+    ensures { λ r. ⌜ now (sets .exit) ≡ tabulate maxProcessors (λ q. bitAnd (getD (now (sets .entry)) q 0) keep) ⌝ }
 {
     sets_are_whole(*sets);
     let mut q: usize = 0;
-    while q < SLOTS {
+    while q < MAX_PROCESSORS {
         sets[q] = sets[q] & keep;
         q += 1;
     }
@@ -44,10 +44,10 @@ fn keep_each(sets: &mut [u32; SLOTS], keep: u32)
 
 // All that are active are earlier than the processor's new request, and it is earlier than none. The test comes first:
 // a call has made it already, and compiled into it this one is gone.
-pub fn put_last(earlier: &mut [u32; SLOTS], phases: Phases, processor: u8)
+pub fn put_last(earlier: &mut [u32; MAX_PROCESSORS], phases: Phases, processor: u8)
     ensures { λ r. ⌜ now (earlier .exit) ≡ putLast (now (earlier .entry)) phases processor ⌝ }
 {
-    if (processor as usize) < SLOTS {
+    if (processor as usize) < MAX_PROCESSORS {
         keep_each(earlier, all_but(processor));
         earlier[processor as usize] = (phases.waiting | phases.entitled | phases.holding) & ALL;
     } else {
@@ -56,9 +56,9 @@ pub fn put_last(earlier: &mut [u32; SLOTS], phases: Phases, processor: u8)
 }
 
 // The ticks with this one for the processors in the mask.
-pub fn stamp(since: &mut [u64; SLOTS], among: u32, tick: u64)
+pub fn stamp(since: &mut [u64; MAX_PROCESSORS], among: u32, tick: u64)
     ensures { λ r. ⌜ now (since .exit)
-        ≡ tabulate slots (λ p. cond (bit among p) tick (getD (now (since .entry)) p 0)) ⌝ }
+        ≡ tabulate maxProcessors (λ p. cond (bit among p) tick (getD (now (since .entry)) p 0)) ⌝ }
 {
     ticks_are_whole(*since);
     let mut left = among & ALL;

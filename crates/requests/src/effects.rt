@@ -3,7 +3,7 @@
 use rules::Phases;
 
 // What an act that was carried out answers, and the phases that it leaves.
-pub struct Carried {
+pub struct Effect {
     pub granted: u32,
     pub entitled: u32,
     pub late: u8,

@@ -1,14 +1,14 @@
 // An act carried out on the arrays of a state: a request enters or leaves, all requests are settled, and the answer has
 // who began to hold and who became entitled by it. Specification, clauses 4.4 to 4.8.
-use crate::effects::Carried;
+use crate::effects::Effect;
 use crate::grants::accept;
 use crate::placing::settle_left;
 use crate::placing::settle_new;
 use crate::placing::take_out;
 use crate::stores::store_entry;
 use crate::stores::store_tick;
-use plans::ENTRIES;
-use plans::SLOTS;
+use plans::MAX_ENTRIES;
+use plans::MAX_PROCESSORS;
 use rules::Phases;
 ghost use mathlib.Core.Path.{_≡_};
 ghost use lib.ListN.{set};
@@ -17,53 +17,53 @@ ghost use Rattle.rules.specs.Settling.{settled};
 ghost use Rattle.rules.specs.Acts.{putIn, takenOut};
 ghost use Rattle.rules.specs.Calls.{done};
 ghost use Rattle.rules.specs.InPlace.{stateBy};
-ghost use Rattle.requests.specs.Carried.{carriedSays};
+ghost use Rattle.requests.specs.Effect.{effectAsNumbers};
 
 // The processor's request for the entry is put in, beside the requests of these phases. Who is earlier is told. It is
 // never late.
 pub fn enter(
-    rows: &[u64; ENTRIES],
+    rows: &[u64; MAX_ENTRIES],
     writes: u64,
-    entries: &mut [u8; SLOTS],
-    since: &mut [u64; SLOTS],
-    earlier: &[u32; SLOTS],
+    requested: &mut [u8; MAX_PROCESSORS],
+    since: &mut [u64; MAX_PROCESSORS],
+    earlier: &[u32; MAX_PROCESSORS],
     phases: Phases,
     processor: u8,
     entry: u8,
     tick: u64,
-) -> Carried
-    ensures { λ r. ⌜ carriedSays r tick (now (entries .exit)) (now (since .exit)) (now (earlier .entry))
+) -> Effect
+    ensures { λ r. ⌜ effectAsNumbers r tick (now (requested .exit)) (now (since .exit)) (now (earlier .entry))
         ≡ done (stateBy (record { last = tick; phases = putIn phases processor })
-        (set (now (entries .entry)) processor entry) (set (now (since .entry)) processor tick) (now (earlier .entry)))
+        (set (now (requested .entry)) processor entry) (set (now (since .entry)) processor tick) (now (earlier .entry)))
         (settled
-        (factsBy (now (rows .entry)) writes (set (now (entries .entry)) processor entry) (now (earlier .entry)))
+        (factsBy (now (rows .entry)) writes (set (now (requested .entry)) processor entry) (now (earlier .entry)))
         (putIn phases processor)) 0 ⌝ }
 {
-    store_entry(entries, processor, entry);
+    store_entry(requested, processor, entry);
     store_tick(since, processor, tick);
-    let after = settle_new(rows, writes, entries, earlier, phases, processor);
+    let after = settle_new(rows, writes, requested, earlier, phases, processor);
     accept(tick, phases, after, since, 0)
 }
 
 // The processor's request is taken out of the requests of these phases, and what is left is settled.
 pub fn leave(
-    rows: &[u64; ENTRIES],
+    rows: &[u64; MAX_ENTRIES],
     writes: u64,
-    entries: &[u8; SLOTS],
-    since: &mut [u64; SLOTS],
-    earlier: &[u32; SLOTS],
+    requested: &[u8; MAX_PROCESSORS],
+    since: &mut [u64; MAX_PROCESSORS],
+    earlier: &[u32; MAX_PROCESSORS],
     phases: Phases,
     processor: u8,
     tick: u64,
     late: u8,
-) -> Carried
-    ensures { λ r. ⌜ carriedSays r tick (now (entries .entry)) (now (since .exit)) (now (earlier .entry))
-        ≡ done (stateBy (record { last = tick; phases = takenOut phases processor }) (now (entries .entry))
+) -> Effect
+    ensures { λ r. ⌜ effectAsNumbers r tick (now (requested .entry)) (now (since .exit)) (now (earlier .entry))
+        ≡ done (stateBy (record { last = tick; phases = takenOut phases processor }) (now (requested .entry))
         (now (since .entry)) (now (earlier .entry)))
-        (settled (factsBy (now (rows .entry)) writes (now (entries .entry)) (now (earlier .entry)))
+        (settled (factsBy (now (rows .entry)) writes (now (requested .entry)) (now (earlier .entry)))
         (takenOut phases processor)) late ⌝ }
 {
     let ready = take_out(phases, processor);
-    let after = settle_left(rows, writes, entries, earlier, ready);
+    let after = settle_left(rows, writes, requested, earlier, ready);
     accept(tick, ready, after, since, late)
 }

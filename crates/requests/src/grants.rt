@@ -1,16 +1,16 @@
 // What an act did, from the phases before and after all were settled: who began to hold by it and who became entitled.
 // Specification, clauses 4.6 to 4.8.
 use crate::ages::stamp;
-use crate::effects::Carried;
+use crate::effects::Effect;
 use masks::without32;
-use plans::SLOTS;
+use plans::MAX_PROCESSORS;
 use rules::Phases;
 ghost use mathlib.Core.Path.{_≡_};
 ghost use mathlib.Core.List.{List};
 ghost use Prim.Native.Nat.{ℕ};
 ghost use Rattle.rules.specs.Calls.{done};
 ghost use Rattle.rules.specs.InPlace.{stateBy};
-ghost use Rattle.requests.specs.Carried.{carriedSays};
+ghost use Rattle.requests.specs.Effect.{effectAsNumbers};
 
 // The two masks. `before` has the request put in or taken out, `after` is settled. Those that began to hold have this
 // tick.
@@ -18,15 +18,15 @@ pub fn accept(
     tick: u64,
     before: Phases,
     after: Phases,
-    since: &mut [u64; SLOTS],
+    since: &mut [u64; MAX_PROCESSORS],
     late: u8,
-) -> Carried
-    ensures { λ r. ⌜ ((entry : List ℕ) (earlier : List ℕ) → carriedSays r tick entry (now (since .exit)) earlier
-        ≡ done (stateBy (record { last = tick; phases = before }) entry (now (since .entry)) earlier) after late) ⌝ }
+) -> Effect
+    ensures { λ r. ⌜ ((requested : List ℕ) (earlier : List ℕ) → effectAsNumbers r tick requested (now (since .exit)) earlier
+        ≡ done (stateBy (record { last = tick; phases = before }) requested (now (since .entry)) earlier) after late) ⌝ }
 {
     let granted = without32(after.holding, before.holding);
     stamp(since, granted, tick);
-    Carried {
+    Effect {
         granted: granted,
         entitled: without32(after.entitled, before.entitled),
         late: late,

@@ -9,7 +9,7 @@ mod placing;
 mod stores;
 
 pub use ages::put_last;
-pub use effects::Carried;
+pub use effects::Effect;
 pub use enter_leave::enter;
 pub use enter_leave::leave;
 pub use late::late_mark;

@@ -1,24 +1,24 @@
 // Two acts that are answered as one. Specification, clause 4.7.
-use crate::effects::Carried;
+use crate::effects::Effect;
 use settling::ALL;
 ghost use mathlib.Core.Path.{_≡_};
 ghost use mathlib.Core.List.{List};
 ghost use Prim.Native.Nat.{ℕ};
 ghost use Rattle.rules.specs.Calls.{both};
-ghost use Rattle.requests.specs.Carried.{carriedSays};
+ghost use Rattle.requests.specs.Effect.{effectAsNumbers};
 
 // The second was carried out right after the first. Who is no longer entitled after both is in no mask.
-pub fn merge(first: Carried, second: Carried) -> Carried
-    ensures { λ r. ⌜ ((tick : ℕ) (entry entry₂ : List ℕ) (since since₂ : List ℕ) (earlier earlier₂ : List ℕ)
-        → carriedSays r tick entry₂ since₂ earlier₂
-        ≡ both (carriedSays first tick entry since earlier) (carriedSays second tick entry₂ since₂ earlier₂)) ⌝ }
+pub fn merge(first: Effect, second: Effect) -> Effect
+    ensures { λ r. ⌜ ((tick : ℕ) (requested requested₂ : List ℕ) (since since₂ : List ℕ) (earlier earlier₂ : List ℕ)
+        → effectAsNumbers r tick requested₂ since₂ earlier₂
+        ≡ both (effectAsNumbers first tick requested since earlier) (effectAsNumbers second tick requested₂ since₂ earlier₂)) ⌝ }
 {
     let granted = first.granted;
     let granted_later = second.granted;
     let entitled = first.entitled;
     let entitled_later = second.entitled;
     let after = second.phases;
-    Carried {
+    Effect {
         granted: (granted | granted_later) & ALL,
         entitled: (entitled | entitled_later) & (after.entitled & ALL),
         late: first.late,

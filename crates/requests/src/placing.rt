@@ -2,8 +2,8 @@
 // processor that a state has no place for changes nothing.
 use crate::ages::all_but;
 use masks::add32;
-use plans::ENTRIES;
-use plans::SLOTS;
+use plans::MAX_ENTRIES;
+use plans::MAX_PROCESSORS;
 use rules::Phases;
 use settling::ALL;
 use settling::settle;
@@ -26,18 +26,20 @@ fn put_in(phases: Phases, processor: u8) -> Phases
 // The phases with the processor's new request put in and settled. Where nobody else is active and nobody is earlier it
 // holds, read or write, and no row has to be looked at.
 pub fn settle_new(
-    rows: &[u64; ENTRIES],
+    rows: &[u64; MAX_ENTRIES],
     writes: u64,
-    entry: &[u8; SLOTS],
-    earlier: &[u32; SLOTS],
+    requested: &[u8; MAX_PROCESSORS],
+    earlier: &[u32; MAX_PROCESSORS],
     phases: Phases,
     processor: u8,
 ) -> Phases
     ensures { λ r. ⌜ r ≡ settled
-        (factsBy (now (rows .entry)) writes (now (entry .entry)) (now (earlier .entry)))
+        (factsBy (now (rows .entry)) writes (now (requested .entry)) (now (earlier .entry)))
         (putIn phases processor) ⌝ }
 {
-    if ((processor as usize) < SLOTS) & (phases.waiting | phases.entitled | phases.holding == 0) {
+    if ((processor as usize) < MAX_PROCESSORS)
+        & (phases.waiting | phases.entitled | phases.holding == 0)
+    {
         if earlier[processor as usize] == 0 {
             return Phases {
                 waiting: 0,
@@ -46,7 +48,7 @@ pub fn settle_new(
             };
         }
     }
-    settle(rows, writes, entry, earlier, put_in(phases, processor))
+    settle(rows, writes, requested, earlier, put_in(phases, processor))
 }
 
 // The phases with the processor's request taken out.
@@ -64,14 +66,14 @@ pub fn take_out(phases: Phases, processor: u8) -> Phases
 // The phases of the requests that are left, settled. Where nobody waits or is entitled there is nothing to settle: a
 // request that is put in always waits, so this test stands here alone.
 pub fn settle_left(
-    rows: &[u64; ENTRIES],
+    rows: &[u64; MAX_ENTRIES],
     writes: u64,
-    entry: &[u8; SLOTS],
-    earlier: &[u32; SLOTS],
+    requested: &[u8; MAX_PROCESSORS],
+    earlier: &[u32; MAX_PROCESSORS],
     phases: Phases,
 ) -> Phases
     ensures { λ r. ⌜ r ≡ settled
-        (factsBy (now (rows .entry)) writes (now (entry .entry)) (now (earlier .entry)))
+        (factsBy (now (rows .entry)) writes (now (requested .entry)) (now (earlier .entry)))
         phases ⌝ }
 {
     if (phases.waiting & ALL) | (phases.entitled & ALL) == 0 {
@@ -81,5 +83,5 @@ pub fn settle_left(
             holding: phases.holding & ALL,
         };
     }
-    settle(rows, writes, entry, earlier, phases)
+    settle(rows, writes, requested, earlier, phases)
 }

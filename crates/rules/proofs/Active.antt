@@ -6,10 +6,10 @@ use Prim.Native.Nat.{ℕ, _<_}
 use Rattle.masks.specs.Sets.{bit}
 use Rattle.masks.proofs.Masks.{bit-mask-at}
 use Rattle.masks.proofs.Truth.{or-left, or-right}
-use Rattle.plans.specs.Entries.{slots}
+use Rattle.plans.specs.Entries.{maxProcessors}
 use Rattle.rules.specs.Requests.{active}
 use Rattle.rules.specs.Settling.{hold, entitle}
-use Rattle.rules.specs.declared.settling.Phases.{Phases}
+use Rattle.rules.specs.declared.states.Phases.{Phases}
 
 -- ---- a phase is within the active ones
 
@@ -47,18 +47,18 @@ entitled-same x e h false i = ap₂ (λ u v. u || v || h) (and-true x) (or-false
 entitled-same true e h true i = ap (λ u. u || h) (or-true e)
 entitled-same false e h true i = absurd (false≢true (i refl))
 
-module _ (ph : Phases) (test : ℕ → Bool) (p : ℕ) (l : p < slots) where
+module _ (ph : Phases) (test : ℕ → Bool) (p : ℕ) (l : p < maxProcessors) where
   pub active-held : (test p ≡ true → (bit (ph .waiting) p || bit (ph .entitled) p) ≡ true) → active (hold ph test) p ≡ active ph p
   active-held i =
       (λ k.
-      ((bit-mask-at slots (λ q. bit (ph .waiting) q && not (test q)) p l k
-      || bit-mask-at slots (λ q. bit (ph .entitled) q && not (test q)) p l k)
-      || bit-mask-at slots (λ q. bit (ph .holding) q || test q) p l k))
+      ((bit-mask-at maxProcessors (λ q. bit (ph .waiting) q && not (test q)) p l k
+      || bit-mask-at maxProcessors (λ q. bit (ph .entitled) q && not (test q)) p l k)
+      || bit-mask-at maxProcessors (λ q. bit (ph .holding) q || test q) p l k))
       ∙ held-same (bit (ph .waiting) p) (bit (ph .entitled) p) (bit (ph .holding) p) (test p) i
 
   pub active-entitled : (test p ≡ true → bit (ph .waiting) p ≡ true) → active (entitle ph test) p ≡ active ph p
   active-entitled i =
       ap₂ (λ u v. u || v || bit (ph .holding) p)
-      (bit-mask-at slots (λ q. bit (ph .waiting) q && not (test q)) p l)
-      (bit-mask-at slots (λ q. bit (ph .entitled) q || test q) p l)
+      (bit-mask-at maxProcessors (λ q. bit (ph .waiting) q && not (test q)) p l)
+      (bit-mask-at maxProcessors (λ q. bit (ph .entitled) q || test q) p l)
       ∙ entitled-same (bit (ph .waiting) p) (bit (ph .entitled) p) (bit (ph .holding) p) (test p) i

@@ -9,15 +9,15 @@ use Rattle.masks.proofs.Some.{some-agree, some-or}
 use Rattle.masks.proofs.Masks.{mask-below, mask-of-bits, mask-agree}
 use Rattle.masks.proofs.Truth.{or-right}
 use Rattle.masks.proofs.Tests.{Mask, bit-is, agree-is, places-is, and-is, or-is, without-is}
-use Rattle.plans.specs.Entries.{slots}
+use Rattle.plans.specs.Entries.{maxProcessors}
 use Rattle.rules.specs.Requests.{Facts, active, isWriter, conflicts, against, isEarlier, waitingRead, waitingWrite, unsatisfiedWrite, entitledRead, entitledWrite, holdingWrite}
 use Rattle.rules.specs.Settling.{hold, entitle, test1, step1, test2, step2, test3, step3, test4, step4, settled}
 use Rattle.rules.specs.inner.Moves.{Follows, unopposedIn, firstInLine}
-use Rattle.rules.specs.declared.settling.Phases.{Phases}
+use Rattle.rules.specs.declared.states.Phases.{Phases}
 use Rattle.rules.proofs.Active.{unsatisfied-active, waiting-active, entitled-active, holding-active, within-and, within-not, active-held, active-entitled}
 
 -- A mask of processors fits the code's word.
-pub fit : slots ≤ 32
+pub fit : maxProcessors ≤ 32
 fit = omega arith
 
 -- Processor p is active and its request is a write.
@@ -26,56 +26,56 @@ activeWrite f ph p = active ph p && isWriter f p
 
 -- The masks that the code is at: of the active writes, and of the three phases.
 pub record At (f : Facts) (ph : Phases) (w x e h : ℕ) : Type 0 where
-  pub writes : Mask slots (activeWrite f ph) w
-  pub waits : Mask slots (bit (ph .waiting)) x
-  pub entitles : Mask slots (bit (ph .entitled)) e
-  pub holds : Mask slots (bit (ph .holding)) h
+  pub writes : Mask maxProcessors (activeWrite f ph) w
+  pub waits : Mask maxProcessors (bit (ph .waiting)) x
+  pub entitles : Mask maxProcessors (bit (ph .entitled)) e
+  pub holds : Mask maxProcessors (bit (ph .holding)) h
 
 pub at-first : {f : Facts} {ph : Phases} {w x e h : ℕ} → Follows ph x e h
-    → w ≡ maskOf slots (λ p. bit (bitOr (bitOr x e) h) p && isWriter f p) → At f ph w x e h
+    → w ≡ maskOf maxProcessors (λ p. bit (bitOr (bitOr x e) h) p && isWriter f p) → At f ph w x e h
 at-first {f} {ph} {w} {x} {e} {h} given are =
     record {
-      writes = record { is = are ∙ mask-agree slots _ _ (λ p l. ap (λ t. t && isWriter f p) (bit-is (or-is (or-is waits entitles) holds) p l)) };
+      writes = record { is = are ∙ mask-agree maxProcessors _ _ (λ p l. ap (λ t. t && isWriter f p) (bit-is (or-is (or-is waits entitles) holds) p l)) };
       waits = waits;
       entitles = entitles;
       holds = holds;
     }
   where
-    waits : Mask slots (bit (ph .waiting)) x
+    waits : Mask maxProcessors (bit (ph .waiting)) x
     waits = record { is = given .waits }
 
-    entitles : Mask slots (bit (ph .entitled)) e
+    entitles : Mask maxProcessors (bit (ph .entitled)) e
     entitles = record { is = given .entitles }
 
-    holds : Mask slots (bit (ph .holding)) h
+    holds : Mask maxProcessors (bit (ph .holding)) h
     holds = record { is = given .holds }
 
 -- ---- conflict with the processors in a mask
 
 module _ (f : Facts) where
-  unopposed-is : {P Q : ℕ → Bool} {c o g : ℕ} → Mask slots P c → Mask slots Q o → g ≡ unopposedIn f c o
-      → Mask slots (λ p. P p && not (against f p Q)) g
+  unopposed-is : {P Q : ℕ → Bool} {c o g : ℕ} → Mask maxProcessors P c → Mask maxProcessors Q o → g ≡ unopposedIn f c o
+      → Mask maxProcessors (λ p. P p && not (against f p Q)) g
   unopposed-is mc mo e =
       record {
         is =
-            e ∙ mask-agree slots _ _ (λ p l. ap₂ (λ t u. t && not u) (bit-is mc p l)
-            (some-agree slots _ _ (λ q m. ap (λ t. t && conflicts f p q) (bit-is mo q m))));
+            e ∙ mask-agree maxProcessors _ _ (λ p l. ap₂ (λ t u. t && not u) (bit-is mc p l)
+            (some-agree maxProcessors _ _ (λ q m. ap (λ t. t && conflicts f p q) (bit-is mo q m))));
       }
 
   -- The same of those of the others that are earlier.
-  first-is : {P Q : ℕ → Bool} {c o g : ℕ} → Mask slots P c → Mask slots Q o → g ≡ firstInLine f c o
-      → Mask slots (λ p. P p && not (against f p (λ q. isEarlier f q p && Q q))) g
+  first-is : {P Q : ℕ → Bool} {c o g : ℕ} → Mask maxProcessors P c → Mask maxProcessors Q o → g ≡ firstInLine f c o
+      → Mask maxProcessors (λ p. P p && not (against f p (λ q. isEarlier f q p && Q q))) g
   first-is mc mo e =
       record {
         is =
-            e ∙ mask-agree slots _ _ (λ p l. ap₂ (λ t u. t && not u) (bit-is mc p l)
-            (some-agree slots _ _ (λ q m. ap (λ t. isEarlier f q p && t && conflicts f p q) (bit-is mo q m))));
+            e ∙ mask-agree maxProcessors _ _ (λ p l. ap₂ (λ t u. t && not u) (bit-is mc p l)
+            (some-agree maxProcessors _ _ (λ q m. ap (λ t. isEarlier f q p && t && conflicts f p q) (bit-is mo q m))));
       }
 
   against-either : (p : ℕ) (P Q : ℕ → Bool) → against f p (λ q. P q || Q q) ≡ (against f p P || against f p Q)
   against-either p P Q =
-      some-agree slots _ _ (λ q l. and-or-distrib-right (P q) (Q q) (conflicts f p q))
-      ∙ some-or slots (λ q. P q && conflicts f p q) (λ q. Q q && conflicts f p q)
+      some-agree maxProcessors _ _ (λ q l. and-or-distrib-right (P q) (Q q) (conflicts f p q))
+      ∙ some-or maxProcessors (λ q. P q && conflicts f p q) (λ q. Q q && conflicts f p q)
 
 first-of : (a b c : Bool) → (a && b && c) ≡ true → a ≡ true
 first-of true b c e = refl
@@ -104,17 +104,17 @@ clauses4 true false e = refl
 
 module _ {f : Facts} {ph : Phases} {w x e h : ℕ} (at : At f ph w x e h) where
   -- The writes and the reads of a phase.
-  writes-of : {P : ℕ → Bool} {a : ℕ} → ((p : ℕ) → P p ≡ true → active ph p ≡ true) → Mask slots P a
-      → Mask slots (λ p. P p && isWriter f p) (bitAnd a w)
+  writes-of : {P : ℕ → Bool} {a : ℕ} → ((p : ℕ) → P p ≡ true → active ph p ≡ true) → Mask maxProcessors P a
+      → Mask maxProcessors (λ p. P p && isWriter f p) (bitAnd a w)
   writes-of {P} i m = agree-is (λ p l. within-and (P p) (active ph p) (isWriter f p) (i p)) (and-is m (at .writes))
 
-  reads-of : {P : ℕ → Bool} {a : ℕ} → ((p : ℕ) → P p ≡ true → active ph p ≡ true) → Mask slots P a
-      → Mask slots (λ p. P p && not (isWriter f p)) (without 32 a w)
+  reads-of : {P : ℕ → Bool} {a : ℕ} → ((p : ℕ) → P p ≡ true → active ph p ≡ true) → Mask maxProcessors P a
+      → Mask maxProcessors (λ p. P p && not (isWriter f p)) (without 32 a w)
   reads-of {P} i m = agree-is (λ p l. within-not (P p) (active ph p) (isWriter f p) (i p)) (without-is 32 fit m (at .writes))
 
   -- Those that pass a test move on.
   held : {test : ℕ → Bool} {g : ℕ} → ((p : ℕ) → test p ≡ true → (bit (ph .waiting) p || bit (ph .entitled) p) ≡ true)
-      → Mask slots test g → At f (hold ph test) w (without 32 x g) (without 32 e g) (bitOr h g)
+      → Mask maxProcessors test g → At f (hold ph test) w (without 32 x g) (without 32 e g) (bitOr h g)
   held {test} i m =
       record {
         writes = agree-is (λ p l. ap (λ t. t && isWriter f p) (sym (active-held ph test p l (i p)))) (at .writes);
@@ -123,7 +123,7 @@ module _ {f : Facts} {ph : Phases} {w x e h : ℕ} (at : At f ph w x e h) where
         holds = places-is (or-is (at .holds) m);
       }
 
-  entitled : {test : ℕ → Bool} {g : ℕ} → ((p : ℕ) → test p ≡ true → bit (ph .waiting) p ≡ true) → Mask slots test g
+  entitled : {test : ℕ → Bool} {g : ℕ} → ((p : ℕ) → test p ≡ true → bit (ph .waiting) p ≡ true) → Mask maxProcessors test g
       → At f (entitle ph test) w (without 32 x g) (bitOr e g) h
   entitled {test} i m =
       record {
@@ -182,8 +182,8 @@ module _ {f : Facts} {ph : Phases} {w x e h : ℕ} (at : At f ph w x e h) where
 
 -- ---- settled
 
-settled-mask : {a : ℕ} (P : ℕ → Bool) → Mask slots (bit (maskOf slots P)) a → a ≡ maskOf slots P
-settled-mask P m = m .is ∙ mask-of-bits slots (maskOf slots P) (mask-below slots P)
+settled-mask : {a : ℕ} (P : ℕ → Bool) → Mask maxProcessors (bit (maskOf maxProcessors P)) a → a ≡ maskOf maxProcessors P
+settled-mask P m = m .is ∙ mask-of-bits maxProcessors (maskOf maxProcessors P) (mask-below maxProcessors P)
 
 pub at-last : {f : Facts} {w : ℕ} (ph after : Phases) → At f (settled f ph) w (after .waiting) (after .entitled) (after .holding) → after ≡ settled f ph
 unfolding step1 step2 step3 step4 settled

@@ -13,8 +13,8 @@ use Rattle.refusals.proofs.Numbers.{first-accepted, first-passes, due-accepted,
 use Rattle.masks.specs.Sets.{bit, maskOf}
 use Rattle.masks.proofs.Masks.{bit-mask-at}
 use Rattle.masks.proofs.Truth.{and-left, and-right}
-use Rattle.plans.specs.Entries.{slots}
-use Rattle.rules.specs.declared.settling.Phases.{Phases}
+use Rattle.plans.specs.Entries.{maxProcessors}
+use Rattle.rules.specs.declared.states.Phases.{Phases}
 use Rattle.rules.specs.Requests.{Facts, isWriter, against, unsatisfied, active, entitledWrite, holdingWrite}
 use Rattle.rules.specs.Settling.{test1, test2, test3, test4, step1, step2, step3, step4, settled}
 use Rattle.rules.proofs.Active.{active-held, active-entitled}
@@ -37,7 +37,7 @@ entitled-by-3 : (w e : Bool) → e ≡ true → (w || e) ≡ true
 entitled-by-3 true e t = refl
 entitled-by-3 false e t = t
 
-module _ (f : Facts) (p : ℕ) (l : p < slots) where
+module _ (f : Facts) (p : ℕ) (l : p < maxProcessors) where
   active-1 : (ph : Phases) → active (step1 f ph) p ≡ active ph p
   unfolding test1 step1
   active-1 ph =
@@ -70,19 +70,19 @@ none-of true e h t = absurd (false≢true (sym t))
 none-of false true h t = absurd (false≢true (sym t))
 none-of false false h t = (refl, refl, t)
 
-taken-idle : (ph : Phases) (p : ℕ) → p < slots → active (takenOut ph p) p ≡ false
+taken-idle : (ph : Phases) (p : ℕ) → p < maxProcessors → active (takenOut ph p) p ≡ false
 unfolding takenOut
 taken-idle ph p l = λ i. (out (ph .waiting) i || out (ph .entitled) i || out (ph .holding) i)
   where
-    out : (n : ℕ) → bit (maskOf slots (λ q. bit n q && not (eqb q p))) p ≡ false
-    out n = bit-mask-at slots _ p l ∙ ap (λ t. bit n p && not t) (eq-eqb p p refl) ∙ and-false (bit n p)
+    out : (n : ℕ) → bit (maskOf maxProcessors (λ q. bit n q && not (eqb q p))) p ≡ false
+    out n = bit-mask-at maxProcessors _ p l ∙ ap (λ t. bit n p && not t) (eq-eqb p p refl) ∙ and-false (bit n p)
 
-idle-cleaned : (terms : Terms) (entry : List ℕ) (ph : Phases) (p : ℕ) → p < slots → active ph p ≡ false → active (cleaned terms entry ph) p ≡ false
+idle-cleaned : (terms : Terms) (entry : List ℕ) (ph : Phases) (p : ℕ) → p < maxProcessors → active ph p ≡ false → active (cleaned terms entry ph) p ≡ false
 unfolding isWaiting isEntitled isHolding cleaned
 idle-cleaned terms entry ph p l idle =
-    λ i. ((bit-mask-at slots (isWaiting terms entry ph) p l ∙ gone _ _ (no .0)) i
-    || (bit-mask-at slots (isEntitled terms entry ph) p l ∙ gone _ _ (no .1)) i
-    || (bit-mask-at slots (isHolding terms entry ph) p l ∙ ap (λ t. inPlan terms entry p && t) (no .2) ∙ and-false (inPlan terms entry p)) i)
+    λ i. ((bit-mask-at maxProcessors (isWaiting terms entry ph) p l ∙ gone _ _ (no .0)) i
+    || (bit-mask-at maxProcessors (isEntitled terms entry ph) p l ∙ gone _ _ (no .1)) i
+    || (bit-mask-at maxProcessors (isHolding terms entry ph) p l ∙ ap (λ t. inPlan terms entry p && t) (no .2) ∙ and-false (inPlan terms entry p)) i)
   where
     no : (bit (ph .waiting) p ≡ false) × (bit (ph .entitled) p ≡ false) × (bit (ph .holding) p ≡ false)
     no = none-of (bit (ph .waiting) p) (bit (ph .entitled) p) (bit (ph .holding) p) idle
@@ -113,8 +113,8 @@ module _ (b : Board) (s : State) (p e t : ℕ) (ok : handoverFault (b .terms) (s
         held = d .later;
       }
 
-  pub handover-below : p < slots
-  handover-below = ltb-true p slots (and-left _ _ (passed .in-plan))
+  pub handover-below : p < maxProcessors
+  handover-below = ltb-true p maxProcessors (and-left _ _ (passed .in-plan))
 
   pub completion-accepted : completeFault (b .terms) (s .last) (phasesOf b s) p t ≡ 0
   unfolding completeFault
@@ -132,7 +132,7 @@ module _ (b : Board) (s : State) (p e t : ℕ) (ok : handoverFault (b .terms) (s
   unfolding takenState done settledDone
   idle-after =
       ap (λ a. active (phasesOf b (a .state)) p) first-half
-      ∙ idle-cleaned (b .terms) (s .entry) _ p handover-below
+      ∙ idle-cleaned (b .terms) (s .requested) _ p handover-below
       (active-settled (factsOf b (takenState b s p t)) p handover-below _ ∙ taken-idle (phasesOf b s) p handover-below)
 
   last-after : completed b s p t .state .last ≡ t

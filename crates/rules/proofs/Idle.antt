@@ -11,11 +11,11 @@ use Rattle.masks.specs.Sets.{bit, without, maskOf}
 use Rattle.masks.proofs.Places.{bit-zero, bit-single}
 use Rattle.masks.proofs.Some.{some-none}
 use Rattle.masks.proofs.Tests.{Mask, agree-is, same-is, own-is, places-is, none-is, one-is, without-is}
-use Rattle.plans.specs.Entries.{slots}
+use Rattle.plans.specs.Entries.{maxProcessors}
 use Rattle.rules.specs.Requests.{Facts, isWriter, isEarlier, conflicts, against}
 use Rattle.rules.specs.Settling.{settled}
 use Rattle.rules.specs.inner.Moves.{Follows, unopposedIn, firstInLine}
-use Rattle.rules.specs.declared.settling.Phases.{Phases}
+use Rattle.rules.specs.declared.states.Phases.{Phases}
 use Rattle.rules.proofs.FourSteps.{fit, At, at-first, after1, after2, after3, after4, at-last}
 use Rattle.rules.proofs.Quiet.{none-unopposed, none-first}
 
@@ -28,31 +28,31 @@ aloneHolding p = record { waiting = 0; entitled = 0; holding = 2 ^ p }
 -- ---- conflict with nobody
 
 no-opponent : (f : Facts) (p : ℕ) (test : ℕ → Bool) → ((q : ℕ) → test q ≡ false) → against f p test ≡ false
-no-opponent f p test none = some-none slots _ (λ q l. ap (λ t. t && conflicts f p q) (none q))
+no-opponent f p test none = some-none maxProcessors _ (λ q l. ap (λ t. t && conflicts f p q) (none q))
 
 -- A test of processor p alone, that p passes, keeps p.
-kept-alone : (p : ℕ) (T : ℕ → Bool) → p < slots → T p ≡ true → 2 ^ p ≡ maskOf slots (λ k. bit (2 ^ p) k && T k)
-kept-alone p T l yes' = agree-is (λ k m. at k (eqb k p) refl) (one-is slots p l) .is
+kept-alone : (p : ℕ) (T : ℕ → Bool) → p < maxProcessors → T p ≡ true → 2 ^ p ≡ maskOf maxProcessors (λ k. bit (2 ^ p) k && T k)
+kept-alone p T l yes' = agree-is (λ k m. at k (eqb k p) refl) (one-is maxProcessors p l) .is
   where
     at : (k : ℕ) (t : Bool) → eqb k p ≡ t → eqb k p ≡ (bit (2 ^ p) k && T k)
     at k true e = e ∙ sym (ap₂ _&&_ (bit-single p k ∙ e) (ap T (eqb-true k p e) ∙ yes'))
     at k false e = e ∙ ap (λ t. t && T k) (sym (bit-single p k ∙ e))
 
 -- And one that p fails keeps nobody.
-left-alone : (p : ℕ) (T : ℕ → Bool) → p < slots → T p ≡ false → 0 ≡ maskOf slots (λ k. bit (2 ^ p) k && T k)
-left-alone p T l no' = agree-is (λ k m. at k (eqb k p) refl) (none-is slots) .is
+left-alone : (p : ℕ) (T : ℕ → Bool) → p < maxProcessors → T p ≡ false → 0 ≡ maskOf maxProcessors (λ k. bit (2 ^ p) k && T k)
+left-alone p T l no' = agree-is (λ k m. at k (eqb k p) refl) (none-is maxProcessors) .is
   where
     at : (k : ℕ) (t : Bool) → eqb k p ≡ t → false ≡ (bit (2 ^ p) k && T k)
     at k true e = sym (ap₂ _&&_ (bit-single p k ∙ e) (ap T (eqb-true k p e) ∙ no'))
     at k false e = sym (ap (λ t. t && T k) (bit-single p k ∙ e))
 
 -- Nothing taken away leaves it.
-kept : (p : ℕ) → p < slots → without 32 (2 ^ p) 0 ≡ 2 ^ p
-kept p l = same-is (agree-is (λ k m. and-true (eqb k p)) (without-is 32 fit (one-is slots p l) (none-is slots))) (one-is slots p l)
+kept : (p : ℕ) → p < maxProcessors → without 32 (2 ^ p) 0 ≡ 2 ^ p
+kept p l = same-is (agree-is (λ k m. and-true (eqb k p)) (without-is 32 fit (one-is maxProcessors p l) (none-is maxProcessors))) (one-is maxProcessors p l)
 
 -- What is taken away from itself leaves nothing.
-gone : (p : ℕ) → p < slots → without 32 (2 ^ p) (2 ^ p) ≡ 0
-gone p l = same-is (agree-is (λ k m. never (eqb k p)) (without-is 32 fit (one-is slots p l) (one-is slots p l))) (none-is slots)
+gone : (p : ℕ) → p < maxProcessors → without 32 (2 ^ p) (2 ^ p) ≡ 0
+gone p l = same-is (agree-is (λ k m. never (eqb k p)) (without-is 32 fit (one-is maxProcessors p l) (one-is maxProcessors p l))) (none-is maxProcessors)
   where
     never : (t : Bool) → (t && not t) ≡ false
     never true = refl
@@ -61,7 +61,7 @@ gone p l = same-is (agree-is (λ k m. never (eqb k p)) (without-is 32 fit (one-i
 -- ---- a request alone
 
 -- A request that waits alone, by the masks that the code is at.
-module _ (f : Facts) (ph : Phases) (p : ℕ) (l : p < slots) where
+module _ (f : Facts) (ph : Phases) (p : ℕ) (l : p < maxProcessors) where
   all : (c : ℕ) → c ≡ 2 ^ p → 2 ^ p ≡ unopposedIn f c 0
   all c e =
       kept-alone p _ l (ap not (no-opponent f p (bit 0) bit-zero)) ∙ ap (λ (c : ℕ). unopposedIn f c 0) (sym e)
@@ -92,13 +92,13 @@ module _ (f : Facts) (ph : Phases) (p : ℕ) (l : p < slots) where
       let three = rw or-zero-r at (after3 two (none _)) in
       at-last ph (aloneHolding p) (after4 three (none _) (none _))
 
-module _ (f : Facts) (p : ℕ) (l : p < slots) where
+module _ (f : Facts) (p : ℕ) (l : p < maxProcessors) where
   alone-follows : Follows (aloneWaiting p) (2 ^ p) 0 0
   alone-follows =
       record {
-        waits = own-is slots (2 ^ p) (pow-lt l) .is;
-        entitles = own-is slots 0 (pow-pos slots) .is;
-        holds = own-is slots 0 (pow-pos slots) .is;
+        waits = own-is maxProcessors (2 ^ p) (pow-lt l) .is;
+        entitles = own-is maxProcessors 0 (pow-pos maxProcessors) .is;
+        holds = own-is maxProcessors 0 (pow-pos maxProcessors) .is;
       }
 
   alone : getD (f .earlier) p 0 ≡ 0 → (t : Bool) → isWriter f p ≡ t → aloneHolding p ≡ settled f (aloneWaiting p)

@@ -4,3 +4,4 @@ pub mod FourSteps
 pub mod Known
 pub mod Quiet
 pub mod Idle
+pub mod AtOnce

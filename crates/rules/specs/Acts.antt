@@ -5,16 +5,16 @@ use mathlib.Core.List.{List}
 use lib.Dec.{eqb}
 use lib.ListN.{getD}
 use Rattle.masks.specs.Sets.{bit, maskOf}
-use Rattle.plans.specs.Entries.{slots}
+use Rattle.plans.specs.Entries.{maxProcessors}
 use Rattle.masks.specs.Tabulation.{tabulate}
-use Rattle.rules.specs.declared.settling.Phases.{Phases}
+use Rattle.rules.specs.declared.states.Phases.{Phases}
 use Rattle.rules.specs.Requests.{active}
 
 -- Clauses 4.4 and 5.1: the phases with processor p's request put in, waiting.
 unfoldable pub putIn : Phases → ℕ → Phases
 putIn ph p =
     record {
-      waiting = maskOf slots (λ q. bit (ph .waiting) q || eqb q p);
+      waiting = maskOf maxProcessors (λ q. bit (ph .waiting) q || eqb q p);
       entitled = ph .entitled;
       holding = ph .holding;
     }
@@ -22,16 +22,16 @@ putIn ph p =
 -- Clause 4.2: who is earlier, with p's request put in last: all that are active are earlier than it, and it than none.
 unfoldable pub putLast : List ℕ → Phases → ℕ → List ℕ
 putLast earlier ph p =
-    tabulate slots
-    (λ q. cond (eqb q p) (maskOf slots (active ph)) (maskOf slots (λ r. bit (getD earlier q 0) r && not (eqb r p))))
+    tabulate maxProcessors
+    (λ q. cond (eqb q p) (maskOf maxProcessors (active ph)) (maskOf maxProcessors (λ r. bit (getD earlier q 0) r && not (eqb r p))))
 
 -- Clause 4.4: the phases with processor p's request taken out, in whatever phase it is.
 unfoldable pub takenOut : Phases → ℕ → Phases
 takenOut ph p =
     record {
-      waiting = maskOf slots (λ q. bit (ph .waiting) q && not (eqb q p));
-      entitled = maskOf slots (λ q. bit (ph .entitled) q && not (eqb q p));
-      holding = maskOf slots (λ q. bit (ph .holding) q && not (eqb q p));
+      waiting = maskOf maxProcessors (λ q. bit (ph .waiting) q && not (eqb q p));
+      entitled = maskOf maxProcessors (λ q. bit (ph .entitled) q && not (eqb q p));
+      holding = maskOf maxProcessors (λ q. bit (ph .holding) q && not (eqb q p));
     }
 
 -- Clause 4.7: processor p began to hold: `before` is with the request put in or taken out, `after` is settled.
@@ -44,4 +44,4 @@ became before after p = bit (after .entitled) p && not (bit (before .entitled) p
 
 -- Clause 4.8: the tick of the call for those that began to hold by it, and the old one for all others.
 unfoldable pub stamped : List ℕ → Phases → Phases → ℕ → List ℕ
-stamped since before after t = tabulate slots (λ p. cond (began before after p) t (getD since p 0))
+stamped since before after t = tabulate maxProcessors (λ p. cond (began before after p) t (getD since p 0))

@@ -12,11 +12,11 @@ pub record Fields : Type 0 where
   pub entry : ℕ
   pub tick : ℕ
 
-abbrev pub callSays : Call → Fields
-callSays (Call.Issue p e t) = record { verb = 0; processor = p; entry = e; tick = t }
-callSays (Call.Complete p t) = record { verb = 1; processor = p; entry = 0; tick = t }
-callSays (Call.Withdraw p t) = record { verb = 2; processor = p; entry = 0; tick = t }
-callSays (Call.Handover p e t) = record { verb = 3; processor = p; entry = e; tick = t }
+abbrev pub callAsNumbers : Call → Fields
+callAsNumbers (Call.Issue p e t) = record { verb = 0; processor = p; entry = e; tick = t }
+callAsNumbers (Call.Complete p t) = record { verb = 1; processor = p; entry = 0; tick = t }
+callAsNumbers (Call.Withdraw p t) = record { verb = 2; processor = p; entry = 0; tick = t }
+callAsNumbers (Call.Handover p e t) = record { verb = 3; processor = p; entry = e; tick = t }
 
 -- The call that some fields say: 0 issues, 1 completes, 2 withdraws, any other verb hands over. Which verbs are taken,
 -- a log's reader says.

@@ -4,10 +4,10 @@ use mathlib.Core.Bool.{cond, _&&_, _||_}
 use lib.Dec.{eqb, ltb}
 use lib.ListN.{getD, set}
 use Rattle.masks.specs.Sets.{bit, maskOf}
-use Rattle.plans.specs.Entries.{slots}
+use Rattle.plans.specs.Entries.{maxProcessors}
 use Rattle.rules.specs.declared.calls.Call.{Call}
 use Rattle.rules.specs.Replies.{Response, refusedWith}
-use Rattle.rules.specs.declared.settling.Phases.{Phases}
+use Rattle.rules.specs.declared.states.Phases.{Phases}
 use Rattle.rules.specs.Requests.{Facts, factsBy}
 use Rattle.rules.specs.Settling.{settled}
 use Rattle.rules.specs.declared.states.Board.{Board}
@@ -18,11 +18,11 @@ use Rattle.rules.specs.Acts.{putIn, putLast, takenOut, began, became, st
 
 -- What settling goes by, of a board and a state.
 abbrev pub factsOf : Board → State → Facts
-factsOf b s = factsBy (b .rows) (b .terms .writes) (s .entry) (s .earlier)
+factsOf b s = factsBy (b .rows) (b .terms .writes) (s .requested) (s .earlier)
 
 -- Clause 4.10: the phases of the requests that count.
 abbrev pub phasesOf : Board → State → Phases
-phasesOf b s = cleaned (b .terms) (s .entry) (s .phases)
+phasesOf b s = cleaned (b .terms) (s .requested) (s .phases)
 
 -- Clause 4.4: the state, of requests that count, with processor p's request for entry e put in at tick t.
 unfoldable pub putState : Board → State → ℕ → ℕ → ℕ → State
@@ -32,7 +32,7 @@ putState b s p e t =
       phases = putIn (phasesOf b s) p;
       since = set (s .since) p t;
       earlier = putLast (s .earlier) (phasesOf b s) p;
-      entry = set (s .entry) p e;
+      requested = set (s .requested) p e;
     }
 
 -- Clause 4.4: the state, of requests that count, with processor p's taken out at tick t.
@@ -43,7 +43,7 @@ takenState b s p t =
       phases = takenOut (phasesOf b s) p;
       since = s .since;
       earlier = s .earlier;
-      entry = s .entry;
+      requested = s .requested;
     }
 
 -- The answer to a call, in numbers, and the state after it.
@@ -59,8 +59,8 @@ done x after late =
       reply =
           record {
             number = 0;
-            granted = maskOf slots (began (x .phases) after);
-            entitled = maskOf slots (became (x .phases) after);
+            granted = maskOf maxProcessors (began (x .phases) after);
+            entitled = maskOf maxProcessors (became (x .phases) after);
             late = late;
           };
       state =
@@ -69,7 +69,7 @@ done x after late =
             phases = after;
             since = stamped (x .since) (x .phases) after (x .last);
             earlier = x .earlier;
-            entry = x .entry;
+            requested = x .requested;
           };
     }
 
@@ -89,7 +89,7 @@ issued b s p e t =
 -- Clauses 4.8 and 4.10: late is 1 where the hold was longer than its entry's length. A hold that would run backwards
 -- lasted 0.
 abbrev pub lateMark : Board → State → ℕ → ℕ → ℕ
-lateMark b s p t = cond (ltb (getD (b .lengths) (getD (s .entry) p 0) 0) (t - getD (s .since) p 0)) 1 0
+lateMark b s p t = cond (ltb (getD (b .lengths) (getD (s .requested) p 0) 0) (t - getD (s .since) p 0)) 1 0
 
 -- Clauses 4.4 and 4.6: processor p's request leaves at tick t, unless a number is due.
 unfoldable pub left : Board → State → ℕ → ℕ → ℕ → ℕ → Answer
@@ -111,9 +111,9 @@ both first second =
       reply =
           record {
             number = 0;
-            granted = maskOf slots (λ q. bit (first .reply .granted) q || bit (second .reply .granted) q);
+            granted = maskOf maxProcessors (λ q. bit (first .reply .granted) q || bit (second .reply .granted) q);
             entitled =
-                maskOf slots
+                maskOf maxProcessors
                 (λ q.
                 (bit (first .reply .entitled) q || bit (second .reply .entitled) q)
                 && bit (second .state .phases .entitled) q);

@@ -5,34 +5,34 @@ use mathlib.Core.List.{List}
 use lib.Dec.{ltb}
 use lib.ListN.{getD}
 use Rattle.masks.specs.Sets.{bit, maskOf}
-use Rattle.plans.specs.Entries.{slots}
-use Rattle.rules.specs.declared.settling.Phases.{Phases}
+use Rattle.plans.specs.Entries.{maxProcessors}
+use Rattle.rules.specs.declared.states.Phases.{Phases}
 use Rattle.rules.specs.declared.states.Terms.{Terms}
 
 -- Clause 4.10: processor p is one of the plan's, and one of those that a state holds.
 abbrev pub hasProcessor : Terms → ℕ → Bool
-hasProcessor terms p = ltb p slots && ltb p (terms .processors)
+hasProcessor terms p = ltb p maxProcessors && ltb p (terms .processors)
 
 -- Clause 4.10: the request of p has its processor and its entry in the plan; otherwise it is none.
 abbrev pub inPlan : Terms → List ℕ → ℕ → Bool
-inPlan terms entry p = hasProcessor terms p && ltb (getD entry p 0) (terms .count)
+inPlan terms requested p = hasProcessor terms p && ltb (getD requested p 0) (terms .count)
 
 -- Clauses 4.1 and 4.10: the phase of p's request. Holding counts before entitled, and entitled before waiting.
 unfoldable pub isHolding : Terms → List ℕ → Phases → ℕ → Bool
-isHolding terms entry ph p = inPlan terms entry p && bit (ph .holding) p
+isHolding terms requested ph p = inPlan terms requested p && bit (ph .holding) p
 
 unfoldable pub isEntitled : Terms → List ℕ → Phases → ℕ → Bool
-isEntitled terms entry ph p = inPlan terms entry p && (bit (ph .entitled) p && not (bit (ph .holding) p))
+isEntitled terms requested ph p = inPlan terms requested p && (bit (ph .entitled) p && not (bit (ph .holding) p))
 
 unfoldable pub isWaiting : Terms → List ℕ → Phases → ℕ → Bool
-isWaiting terms entry ph p =
-    inPlan terms entry p && (bit (ph .waiting) p && not (bit (ph .entitled) p || bit (ph .holding) p))
+isWaiting terms requested ph p =
+    inPlan terms requested p && (bit (ph .waiting) p && not (bit (ph .entitled) p || bit (ph .holding) p))
 
 -- Clause 4.10: the phases of just the requests that count. Calls and queries go by them.
 unfoldable pub cleaned : Terms → List ℕ → Phases → Phases
-cleaned terms entry ph =
+cleaned terms requested ph =
     record {
-      waiting = maskOf slots (isWaiting terms entry ph);
-      entitled = maskOf slots (isEntitled terms entry ph);
-      holding = maskOf slots (isHolding terms entry ph);
+      waiting = maskOf maxProcessors (isWaiting terms requested ph);
+      entitled = maskOf maxProcessors (isEntitled terms requested ph);
+      holding = maskOf maxProcessors (isHolding terms requested ph);
     }

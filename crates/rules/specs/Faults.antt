@@ -5,7 +5,7 @@ use mathlib.Core.Bool.{not, _&&_}
 use lib.Dec.{leb, ltb}
 use Rattle.masks.specs.Sets.{bit}
 use Rattle.refusals.specs.Due.{due, firstOf}
-use Rattle.rules.specs.declared.settling.Phases.{Phases}
+use Rattle.rules.specs.declared.states.Phases.{Phases}
 use Rattle.rules.specs.Requests.{unsatisfied, active}
 use Rattle.rules.specs.declared.states.Terms.{Terms}
 use Rattle.rules.specs.CountedRequests.{hasProcessor}

@@ -1,12 +1,12 @@
 -- Calls in place: the parts of a board and of a state that they are lent, and the answer that they leave.
 use Prim.Native.Nat.{ℕ}
 use mathlib.Core.List.{List, []}
-use Rattle.rules.specs.Replies.{replySays}
+use Rattle.rules.specs.Replies.{replyAsNumbers}
 use Rattle.rules.specs.declared.states.Terms.{Terms}
 use Rattle.rules.specs.declared.states.Board.{Board}
 use Rattle.rules.specs.declared.states.State.{State}
 use Rattle.rules.specs.declared.states.Moment.{Moment}
-use Rattle.rules.specs.declared.Changed.{Changed}
+use Rattle.rules.specs.declared.calls.Changed.{Changed}
 use Rattle.rules.specs.Calls.{Answer}
 
 -- The board of these terms, conflict rows and lengths. No call reads names or a widened set.
@@ -15,10 +15,10 @@ boardBy terms rows lengths = record { terms = terms; lengths = lengths; names = 
 
 -- The state of this moment and these arrays.
 abbrev pub stateBy : Moment → List ℕ → List ℕ → List ℕ → State
-stateBy now entry since earlier =
-    record { last = now .last; phases = now .phases; since = since; earlier = earlier; entry = entry }
+stateBy now requested since earlier =
+    record { last = now .last; phases = now .phases; since = since; earlier = earlier; requested = requested }
 
 -- The answer: what the call returns, with the arrays as it leaves them.
 abbrev pub answerBy : Changed → List ℕ → List ℕ → List ℕ → Answer
-answerBy c entry since earlier =
-    record { reply = replySays (c .reply); state = stateBy (c .moment) entry since earlier }
+answerBy c requested since earlier =
+    record { reply = replyAsNumbers (c .reply); state = stateBy (c .moment) requested since earlier }

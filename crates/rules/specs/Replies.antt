@@ -11,10 +11,10 @@ pub record Response : Type 0 where
   pub entitled : ℕ
   pub late : ℕ
 
-abbrev pub replySays : Reply → Response
-replySays (Reply.Done granted entitled late) =
+abbrev pub replyAsNumbers : Reply → Response
+replyAsNumbers (Reply.Done granted entitled late) =
     record { number = 0; granted = granted; entitled = entitled; late = late }
-replySays (Reply.Refused r) = record { number = numberOf r; granted = 0; entitled = 0; late = 0 }
+replyAsNumbers (Reply.Refused r) = record { number = numberOf r; granted = 0; entitled = 0; late = 0 }
 
 -- A refusal by its number.
 abbrev pub refusedWith : ℕ → Response

@@ -4,23 +4,23 @@ use mathlib.Core.Bool.{Bool, not, _&&_, _||_}
 use mathlib.Core.List.{List}
 use lib.ListN.{getD}
 use Rattle.masks.specs.Sets.{bit, some}
-use Rattle.plans.specs.Entries.{slots}
-use Rattle.rules.specs.declared.settling.Phases.{Phases}
+use Rattle.plans.specs.Entries.{maxProcessors}
+use Rattle.rules.specs.declared.states.Phases.{Phases}
 
 -- What settling goes by and leaves as it is: the conflict rows of the entries, which entries are writes, the entry of
 -- each processor's request, and the set of processors whose requests are earlier than it.
 pub record Facts : Type 0 where
   pub rows : List ℕ
   pub writes : ℕ
-  pub entry : List ℕ
+  pub requested : List ℕ
   pub earlier : List ℕ
 
 abbrev pub factsBy : List ℕ → ℕ → List ℕ → List ℕ → Facts
-factsBy rows writes entry earlier = record { rows = rows; writes = writes; entry = entry; earlier = earlier }
+factsBy rows writes requested earlier = record { rows = rows; writes = writes; requested = requested; earlier = earlier }
 
 -- The entry of processor p's request, and whether it is a write.
 abbrev pub entryOf : Facts → ℕ → ℕ
-entryOf f p = getD (f .entry) p 0
+entryOf f p = getD (f .requested) p 0
 
 abbrev pub isWriter : Facts → ℕ → Bool
 isWriter f p = bit (f .writes) (entryOf f p)
@@ -35,7 +35,7 @@ conflicts f p q = bit (getD (f .rows) (entryOf f p) 0) (entryOf f q)
 
 -- Some request that passes the test conflicts with p's.
 abbrev pub against : Facts → ℕ → (ℕ → Bool) → Bool
-against f p test = some slots (λ q. test q && conflicts f p q)
+against f p test = some maxProcessors (λ q. test q && conflicts f p q)
 
 -- Clause 4.1: unsatisfied is who waits or is entitled; active is who is unsatisfied or holds.
 abbrev pub unsatisfied : Phases → ℕ → Bool

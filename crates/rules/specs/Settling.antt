@@ -3,25 +3,25 @@ use Prim.Native.Nat.{ℕ}
 use mathlib.Core.Bool.{Bool, not, _&&_, _||_}
 use lib.Dec.{eqb}
 use Rattle.masks.specs.Sets.{bit, maskOf}
-use Rattle.plans.specs.Entries.{slots}
+use Rattle.plans.specs.Entries.{maxProcessors}
 use Rattle.rules.specs.Requests.{Facts, isWriter, isEarlier, against, holdingRead, holdingWrite, entitledRead, entitledWrite, waitingRead, waitingWrite, unsatisfiedWrite}
-use Rattle.rules.specs.declared.settling.Phases.{Phases}
+use Rattle.rules.specs.declared.states.Phases.{Phases}
 
 -- The processors that pass the test begin to hold, whether they were waiting or entitled.
 abbrev pub hold : Phases → (ℕ → Bool) → Phases
 hold ph test =
     record {
-      waiting = maskOf slots (λ p. bit (ph .waiting) p && not (test p));
-      entitled = maskOf slots (λ p. bit (ph .entitled) p && not (test p));
-      holding = maskOf slots (λ p. bit (ph .holding) p || test p);
+      waiting = maskOf maxProcessors (λ p. bit (ph .waiting) p && not (test p));
+      entitled = maskOf maxProcessors (λ p. bit (ph .entitled) p && not (test p));
+      holding = maskOf maxProcessors (λ p. bit (ph .holding) p || test p);
     }
 
 -- The processors that pass the test go from waiting to entitled.
 abbrev pub entitle : Phases → (ℕ → Bool) → Phases
 entitle ph test =
     record {
-      waiting = maskOf slots (λ p. bit (ph .waiting) p && not (test p));
-      entitled = maskOf slots (λ p. bit (ph .entitled) p || test p);
+      waiting = maskOf maxProcessors (λ p. bit (ph .waiting) p && not (test p));
+      entitled = maskOf maxProcessors (λ p. bit (ph .entitled) p || test p);
       holding = ph .holding;
     }
 

@@ -1,4 +1,5 @@
 // The vocabulary of the arbiter: a call, and the reply to it. Logs are read to calls; listings are written from both.
+use crate::states::Moment;
 use refusals::Refusal;
 
 // A processor asks for an entry, gives its request back, leaves the line with a request that does not hold, or gives
@@ -18,4 +19,10 @@ pub enum Reply {
         late: u8,
     },
     Refused(Refusal),
+}
+
+// What a call in place returns: the reply, and the moment after it.
+pub struct Changed {
+    pub reply: Reply,
+    pub moment: Moment,
 }

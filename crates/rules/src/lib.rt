@@ -1,18 +1,14 @@
-// The rules of the calls on whole states, as definitions (specs/): what an accepted call changes and answers, and what
-// a refused one does. The crates above carry them out.
+// The rules of the arbiter, as definitions (specs/): which requests count, when a call is refused, the four steps of
+// settling, and what each call changes and answers. `settling`, `call_checks`, `requests` and `calls_in_place` carry them
+// out, and the theorems of `runs` are about them. Specification, sections 4 and 5.
 mod calls;
-mod settling;
 mod states;
 
 pub use calls::Call;
+pub use calls::Changed;
 pub use calls::Reply;
-pub use settling::Phases;
 pub use states::Board;
 pub use states::Moment;
+pub use states::Phases;
 pub use states::State;
 pub use states::Terms;
-// What a call in place returns: the reply, and the moment after it.
-pub struct Changed {
-    pub reply: Reply,
-    pub moment: Moment,
-}

@@ -1,33 +1,40 @@
-// The board that calls go by and the state that they change.
-use crate::settling::Phases;
-use plans::ENTRIES;
-use plans::SLOTS;
+// The board that calls read and the state that they change.
+use plans::MAX_ENTRIES;
+use plans::MAX_PROCESSORS;
 
-// What a call goes by, of a board, beside the conflict rows and the lengths: the counts, and which entries are writes.
+// The counts of a plan, and which of its entries are writes: what a call reads of a board besides the conflict rows and
+// the lengths.
 pub struct Terms {
     pub processors: u8,
     pub count: u8,
     pub writes: u64,
 }
 
-// What the calls and queries go by. Made from a plan: its terms, the entries' lengths, names and widened sets, and
-// which entries conflict.
+// What the calls and queries read. It is made from a plan: its terms, the lengths, names and widened sets of its entries,
+// and which entries conflict.
 pub struct Board {
     pub terms: Terms,
-    pub lengths: [u16; ENTRIES],
-    pub names: [u64; ENTRIES],
-    pub widened: [u64; ENTRIES],
-    pub rows: [u64; ENTRIES],
+    pub lengths: [u16; MAX_ENTRIES],
+    pub names: [u64; MAX_ENTRIES],
+    pub widened: [u64; MAX_ENTRIES],
+    pub rows: [u64; MAX_ENTRIES],
 }
 
-// One request for each processor: its phase, the tick of its issue, or of its grant while it holds, the processors
-// whose requests were active when it was issued, and its entry. The last accepted tick.
+// The phases of all processors: bit p of a mask is processor p.
+pub struct Phases {
+    pub waiting: u32,
+    pub entitled: u32,
+    pub holding: u32,
+}
+
+// The last accepted tick, and one request for each processor: its phase, the tick of its issue, or of its grant while it
+// holds, the processors whose requests were active when it was issued, and the entry that it requests.
 pub struct State {
     pub last: u64,
     pub phases: Phases,
-    pub since: [u64; SLOTS],
-    pub earlier: [u32; SLOTS],
-    pub entry: [u8; SLOTS],
+    pub since: [u64; MAX_PROCESSORS],
+    pub earlier: [u32; MAX_PROCESSORS],
+    pub requested: [u8; MAX_PROCESSORS],
 }
 
 // What every call changes of a state, beside its arrays: the last accepted tick and the phases.

@@ -6,8 +6,8 @@ use mathlib.Core.Bool.{true, not}
 use native.Mathlib.Omega.{arith}
 use Rattle.rules.specs.declared.states.Board.{Board}
 use Rattle.rules.specs.declared.states.State.{State}
-use Rattle.plans.specs.Entries.{slots}
-use Rattle.rules.specs.declared.settling.Phases.{Phases}
+use Rattle.plans.specs.Entries.{maxProcessors}
+use Rattle.rules.specs.declared.states.Phases.{Phases}
 use Rattle.rules.specs.Requests.{Facts, isWriter}
 use Rattle.rules.specs.Calls.{factsOf}
 use Rattle.runs.specs.Claim.{everyEntry}
@@ -46,11 +46,11 @@ module _ (b : Board) (s : State) (r : Reached b s) where
   ph = s .phases
 
   pub distance : ℕ → ℕ
-  distance i = cost (phaseIn s i) (rank slots R (phaseIn s) i)
+  distance i = cost (phaseIn s i) (rank maxProcessors R (phaseIn s) i)
 
-  distance-in : (i : ℕ) (a : Phase) → phaseIn s i ≡ a → distance i ≡ cost a (rank slots R (phaseIn s) i)
+  distance-in : (i : ℕ) (a : Phase) → phaseIn s i ≡ a → distance i ≡ cost a (rank maxProcessors R (phaseIn s) i)
   unfolding distance
-  distance-in i a e = ap (λ x. cost x (rank slots R (phaseIn s) i)) e
+  distance-in i a e = ap (λ x. cost x (rank maxProcessors R (phaseIn s) i)) e
 
   holding-at-zero : (i : ℕ) → phaseIn s i ≡ holding → distance i ≡ 0
   unfolding cost
@@ -60,16 +60,16 @@ module _ (b : Board) (s : State) (r : Reached b s) where
   unfolding cost
   entitled-at-one i = distance-in i entitled
 
-  waiting-at : (i : ℕ) → phaseIn s i ≡ waiting → distance i ≡ 2 + rank slots R (phaseIn s) i
+  waiting-at : (i : ℕ) → phaseIn s i ≡ waiting → distance i ≡ 2 + rank maxProcessors R (phaseIn s) i
   unfolding cost
   waiting-at i = distance-in i waiting
 
-  distance-at-most : (i : ℕ) → distance i ≤ 2 + rank slots R (phaseIn s) i
+  distance-at-most : (i : ℕ) → distance i ≤ 2 + rank maxProcessors R (phaseIn s) i
   unfolding distance
-  distance-at-most i = cost-at-most (phaseIn s i) (rank slots R (phaseIn s) i)
+  distance-at-most i = cost-at-most (phaseIn s i) (rank maxProcessors R (phaseIn s) i)
 
   -- The number falls, and the processor that is waited for is active.
-  reason-falls : (i j : ℕ) → i < slots → j < slots → Reason f ph i j
+  reason-falls : (i j : ℕ) → i < maxProcessors → j < maxProcessors → Reason f ph i j
       → (distance j < distance i) × (phaseIn s j ≡ idle → ⊥)
   reason-falls i j li lj (entitled-read h k x) =
       let at-i : phaseIn s i ≡ entitled = entitled-phase ph i (r .clean .tidy) li (and-left _ (not (isWriter f i)) h) in

@@ -8,7 +8,7 @@ use native.Mathlib.Omega.{arith}
 use Rattle.masks.specs.Sets.{bit, maskOf}
 use Rattle.masks.proofs.Masks.{bit-mask-at}
 use Rattle.plans.specs.declared.Plan.{Plan}
-use Rattle.plans.specs.Entries.{slots}
+use Rattle.plans.specs.Entries.{maxProcessors}
 use Rattle.plans.specs.Acceptance.{planFault}
 use Rattle.rules.specs.declared.calls.Call.{Call}
 use Rattle.rules.specs.Requests.{unsatisfied}
@@ -35,10 +35,10 @@ module _ (b : Board) (s : State) (r : Reached b s) where
   same : phasesOf b s ≡ s .phases
   same = clean-phases b s (r .clean)
 
-  holds : (h : ℕ) → h < slots → phaseIn s h ≡ holding → holdsIn b s h ≡ true
+  holds : (h : ℕ) → h < maxProcessors → phaseIn s h ≡ holding → holdsIn b s h ≡ true
   unfolding cleaned
   holds h l e =
-      sym (bit-mask-at slots (isHolding (b .terms) (s .entry) (s .phases)) h l) ∙ ap (λ x. bit (x .holding) h) same
+      sym (bit-mask-at maxProcessors (isHolding (b .terms) (s .requested) (s .phases)) h l) ∙ ap (λ x. bit (x .holding) h) same
       ∙ held-bit (s .phases) h e
 
   to-a-holder : (q : ℕ) → unsatisfied (phasesOf b s) q ≡ true → (h : ℕ) × Chain b s q h × (holdsIn b s h ≡ true)
@@ -62,7 +62,7 @@ pub not-in-own-reach : (p : Plan) → planFault p ≡ 0 → (calls : List Call) 
 not-in-own-reach p taken calls q =
     no-chain-not-reached (boardOf p) (reachedBy p calls) q q (no-deadlock p taken calls .nobody-reaches-itself q)
 
-pub not-in-own-mask : (p : Plan) → planFault p ≡ 0 → (calls : List Call) → (q : ℕ) → q < slots
-    → bit (maskOf slots (reaches (boardOf p) (reachedBy p calls) q)) q ≡ false
+pub not-in-own-mask : (p : Plan) → planFault p ≡ 0 → (calls : List Call) → (q : ℕ) → q < maxProcessors
+    → bit (maskOf maxProcessors (reaches (boardOf p) (reachedBy p calls) q)) q ≡ false
 not-in-own-mask p taken calls q l =
-    bit-mask-at slots (reaches (boardOf p) (reachedBy p calls) q) q l ∙ not-in-own-reach p taken calls q
+    bit-mask-at maxProcessors (reaches (boardOf p) (reachedBy p calls) q) q l ∙ not-in-own-reach p taken calls q

@@ -6,7 +6,7 @@ use mathlib.Core.Bool.{Bool, true, false, not, _&&_, _||_, false≢true}
 use lib.Dec.{eqb}
 use Rattle.masks.specs.Sets.{bit}
 use Rattle.masks.proofs.Masks.{bit-mask-at}
-use Rattle.plans.specs.Entries.{slots}
+use Rattle.plans.specs.Entries.{maxProcessors}
 use Rattle.rules.specs.Requests.{unsatisfied}
 use Rattle.rules.specs.declared.states.Board.{Board}
 use Rattle.rules.specs.declared.states.State.{State}
@@ -40,16 +40,16 @@ module _ (b : Board) (s : State) (p e t : ℕ) (ok : handoverFault (b .terms) (s
   leaves-what-both-leave = ap (λ x. x .state) is-both-halves
 
   -- The processors that began to hold in either half.
-  pub grants-of-both : (q : ℕ) → q < slots
+  pub grants-of-both : (q : ℕ) → q < maxProcessors
       → bit (handedOver b s p e t .reply .granted) q
       ≡ (bit (completed b s p t .reply .granted) q || bit (issued b (completed b s p t .state) p e t .reply .granted) q)
   unfolding both
   grants-of-both q l =
       ap (λ x. bit (x .reply .granted) q) is-both-halves
-      ∙ bit-mask-at slots (λ q. bit (first .reply .granted) q || bit (second .reply .granted) q) q l
+      ∙ bit-mask-at maxProcessors (λ q. bit (first .reply .granted) q || bit (second .reply .granted) q) q l
 
   -- The processors that became entitled in either half and are entitled at the end.
-  pub entitlements-of-both : (q : ℕ) → q < slots
+  pub entitlements-of-both : (q : ℕ) → q < maxProcessors
       → bit (handedOver b s p e t .reply .entitled) q
       ≡ ((bit (completed b s p t .reply .entitled) q
       || bit (issued b (completed b s p t .state) p e t .reply .entitled) q)
@@ -57,7 +57,7 @@ module _ (b : Board) (s : State) (p e t : ℕ) (ok : handoverFault (b .terms) (s
   unfolding both
   entitlements-of-both q l =
       ap (λ x. bit (x .reply .entitled) q) is-both-halves
-      ∙ bit-mask-at slots
+      ∙ bit-mask-at maxProcessors
       (λ q.
       (bit (first .reply .entitled) q || bit (second .reply .entitled) q) && bit (second .state .phases .entitled) q)
       q l
@@ -84,7 +84,7 @@ module _ (b : Board) (s : State) (p e t : ℕ) (c : Clean b s)
 
   -- The granted mask contains the processors that hold after the handover and did not before, and p itself if its new
   -- request holds.
-  pub grants-exactly : (q : ℕ) → q < slots
+  pub grants-exactly : (q : ℕ) → q < maxProcessors
       → bit (handedOver b s p e t .reply .granted) q
       ≡ (bit (handedOver b s p e t .state .phases .holding) q && (not (bit (s .phases .holding) q) || eqb q p))
   unfolding both
@@ -98,7 +98,7 @@ module _ (b : Board) (s : State) (p e t : ℕ) (c : Clean b s)
       right-of-none (bit (s .phases .waiting) p) _ (sym (ap (λ ph. unsatisfied ph p) (clean-phases b s c)) ∙ satisfied)
 
   -- The entitled mask contains the processors that are entitled after the handover and were not before.
-  pub entitles-exactly : (q : ℕ) → q < slots
+  pub entitles-exactly : (q : ℕ) → q < maxProcessors
       → bit (handedOver b s p e t .reply .entitled) q
       ≡ (bit (handedOver b s p e t .state .phases .entitled) q && not (bit (s .phases .entitled) q))
   unfolding both

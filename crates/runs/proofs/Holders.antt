@@ -7,8 +7,8 @@ use mathlib.Core.Logic.{_⊎_, inl, inr}
 use native.Mathlib.Omega.{arith}
 use Rattle.rules.specs.declared.states.Board.{Board}
 use Rattle.rules.specs.declared.states.State.{State}
-use Rattle.plans.specs.Entries.{slots}
-use Rattle.rules.specs.declared.settling.Phases.{Phases}
+use Rattle.plans.specs.Entries.{maxProcessors}
+use Rattle.rules.specs.declared.states.Phases.{Phases}
 use Rattle.rules.specs.Requests.{Facts, isWriter}
 use Rattle.rules.specs.Calls.{factsOf}
 use Rattle.runs.specs.Claim.{everyEntry}
@@ -35,7 +35,7 @@ module _ (b : Board) (s : State) (r : Reached b s) where
   entitled-mark : Marks ph (ph .entitled) entitled
   entitled-mark = marks-entitled ph (r .clean .tidy)
 
-  settled : Settled slots (requestsOf f everyEntry) (phaseIn s)
+  settled : Settled maxProcessors (requestsOf f everyEntry) (phaseIn s)
   settled = r .standing .settled
 
   abbrev Awaited : ℕ → Type 0
@@ -48,7 +48,7 @@ module _ (b : Board) (s : State) (r : Reached b s) where
   is-read i e = ap not e
 
   -- I5 and I6.
-  waiting-waits : (i : ℕ) → i < slots → phaseIn s i ≡ waiting → (w : Bool) → isWriter f i ≡ w → Awaited i
+  waiting-waits : (i : ℕ) → i < maxProcessors → phaseIn s i ≡ waiting → (w : Bool) → isWriter f i ≡ w → Awaited i
   waiting-waits i l e true w =
       let (j, lj, wj, aj, before, x) = settled .i6 i l w e in
       because i j
@@ -61,7 +61,7 @@ module _ (b : Board) (s : State) (r : Reached b s) where
       (y .conflict))
 
   -- I7 and I4.
-  entitled-waits : (i : ℕ) → i < slots → phaseIn s i ≡ entitled → (w : Bool) → isWriter f i ≡ w → Awaited i
+  entitled-waits : (i : ℕ) → i < maxProcessors → phaseIn s i ≡ entitled → (w : Bool) → isWriter f i ≡ w → Awaited i
   entitled-waits i l e true w =
       let (j, lj, y) = settled .i7 i l w e in
       because i j
@@ -75,13 +75,13 @@ module _ (b : Board) (s : State) (r : Reached b s) where
       (and-both _ (isWriter f j) (held-bit ph j (y .phase-is)) (y .write-is))
       (y .conflict))
 
-  unsatisfied-waits : (i : ℕ) → i < slots → Unsatisfied (phaseIn s i) → Awaited i
+  unsatisfied-waits : (i : ℕ) → i < maxProcessors → Unsatisfied (phaseIn s i) → Awaited i
   unsatisfied-waits i l (inl e) = waiting-waits i l e (isWriter f i) refl
   unsatisfied-waits i l (inr e) = entitled-waits i l e (isWriter f i) refl
 
   -- From every request that waits a chain leads to a holder. Recursion on a bound of the number that falls.
-  pub reaches-holder : (n i : ℕ) → distance b s r i ≤ n → i < slots → Unsatisfied (phaseIn s i)
-      → (h : ℕ) × Chain b s i h × (phaseIn s h ≡ holding) × (h < slots)
+  pub reaches-holder : (n i : ℕ) → distance b s r i ≤ n → i < maxProcessors → Unsatisfied (phaseIn s i)
+      → (h : ℕ) × Chain b s i h × (phaseIn s h ≡ holding) × (h < maxProcessors)
   reaches-holder zero i m l u =
       let (j, e) = unsatisfied-waits i l u in absurd (omega (arith, wait-falls b s r i j e .0, m))
   reaches-holder (suc n) i m l u =
@@ -90,8 +90,8 @@ module _ (b : Board) (s : State) (r : Reached b s) where
       let lj = waits-below b s i j e .1 in
       go j e lj (unsatisfied-or-holding (phaseIn s j) (f .1)) (λ v. reaches-holder n j (omega (arith, f .0, m)) lj v)
     where
-      go : (j : ℕ) → waitsFor b s i j ≡ true → j < slots → Unsatisfied (phaseIn s j) ⊎ (phaseIn s j ≡ holding)
-          → (Unsatisfied (phaseIn s j) → (h : ℕ) × Chain b s j h × (phaseIn s h ≡ holding) × (h < slots))
-          → (h : ℕ) × Chain b s i h × (phaseIn s h ≡ holding) × (h < slots)
+      go : (j : ℕ) → waitsFor b s i j ≡ true → j < maxProcessors → Unsatisfied (phaseIn s j) ⊎ (phaseIn s j ≡ holding)
+          → (Unsatisfied (phaseIn s j) → (h : ℕ) × Chain b s j h × (phaseIn s h ≡ holding) × (h < maxProcessors))
+          → (h : ℕ) × Chain b s i h × (phaseIn s h ≡ holding) × (h < maxProcessors)
       go j e lj (inl v) later = let t = later v in (t .0, through e (t .1), t .2, t .3)
       go j e lj (inr k) later = (j, direct e, k, lj)

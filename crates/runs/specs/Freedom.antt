@@ -20,7 +20,7 @@ reachedBy p calls = stateAfter (boardOf p) freshState calls
 
 -- The request of processor p counts and holds.
 abbrev pub holdsIn : Board → State → ℕ → Bool
-holdsIn b s p = isHolding (b .terms) (s .entry) (s .phases) p
+holdsIn b s p = isHolding (b .terms) (s .requested) (s .phases) p
 
 -- Clause 6.10: after any calls, no chain of direct waits leads from a processor back to itself; and from each processor
 -- whose request is unsatisfied, a chain leads to one that holds, and so can complete.

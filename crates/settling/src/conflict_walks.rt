@@ -4,15 +4,15 @@
 use crate::known_requests::add_if;
 use masks::has64;
 use masks::meet64;
-use plans::ENTRIES;
-use plans::SLOTS;
+use plans::MAX_ENTRIES;
+use plans::MAX_PROCESSORS;
 ghost use mathlib.Core.Path.{_≡_};
 ghost use mathlib.Core.Bool.{cond, not, _&&_};
 ghost use mathlib.Core.List.{[]};
 ghost use Prim.Native.Nat.{ℕ, _<_};
 ghost use lib.ListN.{getD};
 ghost use Rattle.masks.specs.Sets.{bit, added, some, meets, maskOf};
-ghost use Rattle.plans.specs.Entries.{slots, mostEntries};
+ghost use Rattle.plans.specs.Entries.{maxProcessors, maxEntries};
 ghost use Rattle.rules.specs.Requests.{factsBy};
 ghost use Rattle.rules.specs.inner.Moves.{Known, unopposedIn, firstInLine};
 
@@ -20,40 +20,40 @@ ghost use Rattle.rules.specs.inner.Moves.{Known, unopposedIn, firstInLine};
 
 // The set with the place in it, where the row has the entry. It does not branch: nobody foresees which are in the row.
 fn add_if_in(set: u32, place: u32, row: u64, entry: u8) -> u32
-    requires { ⌜ (place < 32) × (entry < mostEntries) ⌝ }
+    requires { ⌜ (place < 32) × (entry < maxEntries) ⌝ }
     ensures { λ r. ⌜ r ≡ cond (bit row entry) (added set place) set ⌝ }
 {
     set | (((row >> entry) % 2) as u32) << place
 }
 
 // The entry of a processor's request.
-fn entry_at(entry: &[u8; SLOTS], p: u32) -> u8
-    requires { ⌜ p < slots ⌝ }
-    ensures { λ r. ⌜ r ≡ getD (now (entry .entry)) p 0 ⌝ }
+fn entry_at(requested: &[u8; MAX_PROCESSORS], p: u32) -> u8
+    requires { ⌜ p < maxProcessors ⌝ }
+    ensures { λ r. ⌜ r ≡ getD (now (requested .entry)) p 0 ⌝ }
 {
-    entry[p as usize]
+    requested[p as usize]
 }
 
 // The entries that a processor's request conflicts with.
-fn row_at(rows: &[u64; ENTRIES], entry: &[u8; SLOTS], p: u32) -> u64
-    requires { ⌜ (p < slots) × (getD (now entry) p 0 < mostEntries) ⌝ }
-    ensures { λ r. ⌜ r ≡ getD (now (rows .entry)) (getD (now (entry .entry)) p 0) 0 ⌝ }
+fn row_at(rows: &[u64; MAX_ENTRIES], requested: &[u8; MAX_PROCESSORS], p: u32) -> u64
+    requires { ⌜ (p < maxProcessors) × (getD (now requested) p 0 < maxEntries) ⌝ }
+    ensures { λ r. ⌜ r ≡ getD (now (rows .entry)) (getD (now (requested .entry)) p 0) 0 ⌝ }
 {
-    rows[entry_at(entry, p) as usize]
+    rows[entry_at(requested, p) as usize]
 }
 
 // ---- the processors in a mask
 
 // Those among known processors whose entries are in the set.
-pub fn known_among(entry: &[u8; SLOTS], set: u64, among: u32) -> u32
-    requires { ⌜ Known (now entry) among ⌝ }
-    ensures { λ r. ⌜ r ≡ maskOf slots (λ p. bit among p && bit set (getD (now (entry .entry)) p 0)) ⌝ }
+pub fn known_among(requested: &[u8; MAX_PROCESSORS], set: u64, among: u32) -> u32
+    requires { ⌜ Known (now requested) among ⌝ }
+    ensures { λ r. ⌜ r ≡ maskOf maxProcessors (λ p. bit among p && bit set (getD (now (requested .entry)) p 0)) ⌝ }
 {
     let mut out: u32 = 0;
     let mut left = among;
     while left != 0 {
         let p = u32::trailing_zeros(left);
-        out = add_if_in(out, p, set, entry_at(entry, p));
+        out = add_if_in(out, p, set, entry_at(requested, p));
         left = left & (left - 1);
     }
     out
@@ -68,42 +68,42 @@ fn add_if_there(set: u32, place: u32, row: u64, entry: u8) -> u32
 }
 
 // The processors of any mask whose entries are in the set.
-pub fn those_in(entry: &[u8; SLOTS], set: u64, among: u32) -> u32
-    ensures { λ r. ⌜ r ≡ maskOf slots (λ p. bit among p && bit set (getD (now (entry .entry)) p 0)) ⌝ }
+pub fn those_in(requested: &[u8; MAX_PROCESSORS], set: u64, among: u32) -> u32
+    ensures { λ r. ⌜ r ≡ maskOf maxProcessors (λ p. bit among p && bit set (getD (now (requested .entry)) p 0)) ⌝ }
 {
     let mut out: u32 = 0;
     let mut left = among;
     while left != 0 {
         let p = u32::trailing_zeros(left);
-        out = add_if_there(out, p, set, entry_at(entry, p));
+        out = add_if_there(out, p, set, entry_at(requested, p));
         left = left & (left - 1);
     }
     out
 }
 
 // The set of their entries: a row meets it where it has one of them.
-fn entries_of(entry: &[u8; SLOTS], among: u32) -> u64
-    requires { ⌜ Known (now entry) among ⌝ }
+fn entries_of(requested: &[u8; MAX_PROCESSORS], among: u32) -> u64
+    requires { ⌜ Known (now requested) among ⌝ }
     ensures { λ r. ⌜ ((row : ℕ) → meets row r
-        ≡ some slots (λ q. bit among q && bit row (getD (now (entry .entry)) q 0))) ⌝ }
+        ≡ some maxProcessors (λ q. bit among q && bit row (getD (now (requested .entry)) q 0))) ⌝ }
 {
     let mut set: u64 = 0;
     let mut left = among;
     while left != 0 {
-        set = set | (1 << entry_at(entry, u32::trailing_zeros(left)));
+        set = set | (1 << entry_at(requested, u32::trailing_zeros(left)));
         left = left & (left - 1);
     }
     set
 }
 
 // One of them has its entry in the row. It stops at the first.
-fn in_row(row: u64, entry: &[u8; SLOTS], among: u32) -> bool
-    requires { ⌜ Known (now entry) among ⌝ }
-    ensures { λ r. ⌜ r ≡ some slots (λ q. bit among q && bit row (getD (now (entry .entry)) q 0)) ⌝ }
+fn in_row(row: u64, requested: &[u8; MAX_PROCESSORS], among: u32) -> bool
+    requires { ⌜ Known (now requested) among ⌝ }
+    ensures { λ r. ⌜ r ≡ some maxProcessors (λ q. bit among q && bit row (getD (now (requested .entry)) q 0)) ⌝ }
 {
     let mut left = among;
     while left != 0 {
-        if (row >> entry_at(entry, u32::trailing_zeros(left))) % 2 == 1 {
+        if (row >> entry_at(requested, u32::trailing_zeros(left))) % 2 == 1 {
             return true;
         }
         left = left & (left - 1);
@@ -112,16 +112,21 @@ fn in_row(row: u64, entry: &[u8; SLOTS], among: u32) -> bool
 }
 
 // The candidates whose requests conflict with no entry of the set.
-fn clear_of(rows: &[u64; ENTRIES], entry: &[u8; SLOTS], candidates: u32, set: u64) -> u32
-    requires { ⌜ Known (now entry) candidates ⌝ }
-    ensures { λ r. ⌜ r ≡ maskOf slots (λ p. bit candidates p
-        && not (meets (getD (now (rows .entry)) (getD (now (entry .entry)) p 0) 0) set)) ⌝ }
+fn clear_of(
+    rows: &[u64; MAX_ENTRIES],
+    requested: &[u8; MAX_PROCESSORS],
+    candidates: u32,
+    set: u64,
+) -> u32
+    requires { ⌜ Known (now requested) candidates ⌝ }
+    ensures { λ r. ⌜ r ≡ maskOf maxProcessors (λ p. bit candidates p
+        && not (meets (getD (now (rows .entry)) (getD (now (requested .entry)) p 0) 0) set)) ⌝ }
 {
     let mut out: u32 = 0;
     let mut left = candidates;
     while left != 0 {
         let p = u32::trailing_zeros(left);
-        out = add_if(out, p, !meet64(row_at(rows, entry, p), set));
+        out = add_if(out, p, !meet64(row_at(rows, requested, p), set));
         left = left & (left - 1);
     }
     out
@@ -131,9 +136,14 @@ fn clear_of(rows: &[u64; ENTRIES], entry: &[u8; SLOTS], candidates: u32, set: u6
 
 // The candidates whose requests conflict with that of none of the others. Where there are no candidates or no others,
 // nothing is looked at.
-pub fn unopposed(rows: &[u64; ENTRIES], entry: &[u8; SLOTS], candidates: u32, others: u32) -> u32
-    requires { ⌜ Known (now entry) candidates × Known (now entry) others ⌝ }
-    ensures { λ r. ⌜ r ≡ unopposedIn (factsBy (now (rows .entry)) 0 (now (entry .entry)) []) candidates others ⌝ }
+pub fn unopposed(
+    rows: &[u64; MAX_ENTRIES],
+    requested: &[u8; MAX_PROCESSORS],
+    candidates: u32,
+    others: u32,
+) -> u32
+    requires { ⌜ Known (now requested) candidates × Known (now requested) others ⌝ }
+    ensures { λ r. ⌜ r ≡ unopposedIn (factsBy (now (rows .entry)) 0 (now (requested .entry)) []) candidates others ⌝ }
 {
     if candidates == 0 {
         return 0;
@@ -141,26 +151,30 @@ pub fn unopposed(rows: &[u64; ENTRIES], entry: &[u8; SLOTS], candidates: u32, ot
     if others == 0 {
         return candidates;
     }
-    clear_of(rows, entry, candidates, entries_of(entry, others))
+    clear_of(rows, requested, candidates, entries_of(requested, others))
 }
 
 // The candidates whose requests conflict with that of no earlier one of the others.
-pub fn first_in_line(
-    rows: &[u64; ENTRIES],
-    entry: &[u8; SLOTS],
-    earlier: &[u32; SLOTS],
+pub fn first_in_queue(
+    rows: &[u64; MAX_ENTRIES],
+    requested: &[u8; MAX_PROCESSORS],
+    earlier: &[u32; MAX_PROCESSORS],
     candidates: u32,
     others: u32,
 ) -> u32
-    requires { ⌜ Known (now entry) candidates × Known (now entry) others ⌝ }
-    ensures { λ r. ⌜ r ≡ firstInLine (factsBy (now (rows .entry)) 0 (now (entry .entry)) (now (earlier .entry)))
+    requires { ⌜ Known (now requested) candidates × Known (now requested) others ⌝ }
+    ensures { λ r. ⌜ r ≡ firstInLine (factsBy (now (rows .entry)) 0 (now (requested .entry)) (now (earlier .entry)))
         candidates others ⌝ }
 {
     let mut out: u32 = 0;
     let mut left = candidates;
     while left != 0 {
         let p = u32::trailing_zeros(left);
-        let before = in_row(row_at(rows, entry, p), entry, earlier[p as usize] & others);
+        let before = in_row(
+            row_at(rows, requested, p),
+            requested,
+            earlier[p as usize] & others,
+        );
         out = add_if(out, p, !before);
         left = left & (left - 1);
     }

@@ -1,17 +1,17 @@
 // Known requests: those whose entries are below a count, as masks of processors. By the number of a plan's entries they
 // are those that count (specification, clause 4.10), and by the number of rows those that conflict with some at all
 // (clause 5.7).
-use plans::SLOTS;
+use plans::MAX_PROCESSORS;
 ghost use mathlib.Core.Path.{_≡_};
 ghost use mathlib.Core.Bool.{cond, _&&_};
 ghost use Prim.Native.Nat.{ℕ, _<_, _≤_};
 ghost use lib.Dec.{ltb};
 ghost use lib.ListN.{getD};
 ghost use Rattle.masks.specs.Sets.{bit, added, maskOf};
-ghost use Rattle.plans.specs.Entries.{slots};
+ghost use Rattle.plans.specs.Entries.{maxProcessors};
 
 // A mask of all processors.
-pub const ALL: u32 = ((1u64 << SLOTS as u64) - 1) as u32;
+pub const ALL: u32 = ((1u64 << MAX_PROCESSORS as u64) - 1) as u32;
 
 // The set with the place in it, where the test says so.
 pub fn add_if(set: u32, place: u32, test: bool) -> u32
@@ -22,14 +22,14 @@ pub fn add_if(set: u32, place: u32, test: bool) -> u32
 }
 
 // Those among the processors whose requests' entries are below the count, one after the other.
-fn each_below(among: u32, count: u8, entry: &[u8; SLOTS]) -> u32
-    ensures { λ r. ⌜ r ≡ maskOf slots (λ p. bit among p && ltb (getD (now (entry .entry)) p 0) count) ⌝ }
+fn each_below(among: u32, count: u8, requested: &[u8; MAX_PROCESSORS]) -> u32
+    ensures { λ r. ⌜ r ≡ maskOf maxProcessors (λ p. bit among p && ltb (getD (now (requested .entry)) p 0) count) ⌝ }
 {
     let mut out: u32 = 0;
     let mut left = among & ALL;
     while left != 0 {
         let p = u32::trailing_zeros(left);
-        out = add_if(out, p, entry[p as usize] < count);
+        out = add_if(out, p, requested[p as usize] < count);
         left = left & (left - 1);
     }
     out
@@ -42,13 +42,13 @@ fn larger(a: u8, b: u8) -> u8
 }
 
 // No request's entry is above it. Nothing else in the loop: compiled, it compares 16 of them at once.
-fn largest(entry: &[u8; SLOTS]) -> u8
-    ensures { λ r. ⌜ ((p : ℕ) → p < slots → getD (now (entry .entry)) p 0 ≤ r) ⌝ }
+fn largest(requested: &[u8; MAX_PROCESSORS]) -> u8
+    ensures { λ r. ⌜ ((p : ℕ) → p < maxProcessors → getD (now (requested .entry)) p 0 ≤ r) ⌝ }
 {
     let mut most: u8 = 0;
     let mut p: usize = 0;
-    while p < SLOTS {
-        most = larger(most, entry[p]);
+    while p < MAX_PROCESSORS {
+        most = larger(most, requested[p]);
         p += 1;
     }
     most
@@ -56,23 +56,23 @@ fn largest(entry: &[u8; SLOTS]) -> u8
 
 // Those among the processors whose requests' entries are below the count. On a board that was made from a plan all are,
 // and a call pays for one comparison. The walk is over a mask that is not fixed: compiled, it then stays a short loop.
-pub fn entries_below(among: u32, count: u8, entry: &[u8; SLOTS]) -> u32
-    ensures { λ r. ⌜ r ≡ maskOf slots (λ p. bit among p && ltb (getD (now (entry .entry)) p 0) count) ⌝ }
+pub fn entries_below(among: u32, count: u8, requested: &[u8; MAX_PROCESSORS]) -> u32
+    ensures { λ r. ⌜ r ≡ maskOf maxProcessors (λ p. bit among p && ltb (getD (now (requested .entry)) p 0) count) ⌝ }
 {
-    if largest(entry) < count {
+    if largest(requested) < count {
         return among & ALL;
     }
-    each_below(among, count, entry)
+    each_below(among, count, requested)
 }
 
 // All processors whose requests' entries are below the count. It looks at the largest first, so that where all are,
 // compiled, it calls nothing.
-pub fn all_below(count: u8, entry: &[u8; SLOTS]) -> u32
-    ensures { λ r. ⌜ r ≡ maskOf slots (λ p. ltb (getD (now (entry .entry)) p 0) count) ⌝ }
+pub fn all_below(count: u8, requested: &[u8; MAX_PROCESSORS]) -> u32
+    ensures { λ r. ⌜ r ≡ maskOf maxProcessors (λ p. ltb (getD (now (requested .entry)) p 0) count) ⌝ }
 {
-    let most = largest(entry);
+    let most = largest(requested);
     if most < count {
         return ALL;
     }
-    entries_below(ALL, count, entry)
+    entries_below(ALL, count, requested)
 }

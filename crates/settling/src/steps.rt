@@ -1,55 +1,55 @@
 // The four settling steps. Specification, section 5.
-use crate::conflict_walks::first_in_line;
+use crate::conflict_walks::first_in_queue;
 use crate::conflict_walks::known_among;
 use crate::conflict_walks::unopposed;
-use plans::ENTRIES;
-use plans::SLOTS;
+use plans::MAX_ENTRIES;
+use plans::MAX_PROCESSORS;
 use rules::Phases;
 ghost use mathlib.Core.Path.{_≡_};
 ghost use Rattle.rules.specs.Requests.{factsBy};
 ghost use Rattle.rules.specs.Settling.{settled};
-ghost use Rattle.rules.specs.declared.settling.Phases.{Phases};
+ghost use Rattle.rules.specs.declared.states.Phases.{Phases};
 ghost use Rattle.rules.specs.inner.Moves.{Table, knownIn, Follows};
 
 // The phases after the four steps, by their masks. Each step goes by those that the one before it left. Of the known
 // processors, w are the active ones whose requests are writes, and r are the others.
 pub fn four_steps(
-    rows: &[u64; ENTRIES],
+    rows: &[u64; MAX_ENTRIES],
     writes: u64,
-    entry: &[u8; SLOTS],
-    earlier: &[u32; SLOTS],
+    requested: &[u8; MAX_PROCESSORS],
+    earlier: &[u32; MAX_PROCESSORS],
     known: u32,
     mut waiting: u32,
     mut entitled: u32,
     mut holding: u32,
 ) -> Phases
-    requires { ⌜ (known ≡ knownIn (now entry)) × Table (now rows) ⌝ }
+    requires { ⌜ (known ≡ knownIn (now requested)) × Table (now rows) ⌝ }
     ensures { λ r. ⌜ ((ph : Phases) → Follows ph waiting entitled holding
-        → r ≡ settled (factsBy (now (rows .entry)) writes (now (entry .entry)) (now (earlier .entry))) ph) ⌝ }
+        → r ≡ settled (factsBy (now (rows .entry)) writes (now (requested .entry)) (now (earlier .entry))) ph) ⌝ }
 {
-    let w = known_among(entry, writes, (waiting | entitled | holding) & known);
+    let w = known_among(requested, writes, (waiting | entitled | holding) & known);
     let r = known & !w;
     // Step 1 (5.3): reads that no holding write is against, entitled, or waiting with no entitled write against them
     // either. One that is not known conflicts with none.
-    let ahead = unopposed(rows, entry, waiting & r, entitled & w);
-    let free = unopposed(rows, entry, (entitled & r) | ahead, holding & w);
+    let ahead = unopposed(rows, requested, waiting & r, entitled & w);
+    let free = unopposed(rows, requested, (entitled & r) | ahead, holding & w);
     let reads = ((waiting | entitled) & !known) | free;
     waiting = waiting & !reads;
     entitled = entitled & !reads;
     holding = holding | reads;
     // Step 2 (5.4): waiting writes that no holding write, entitled read or earlier write in line is against.
-    let clear = unopposed(rows, entry, waiting & w, (holding & w) | (entitled & r));
-    let next = first_in_line(rows, entry, earlier, clear, (waiting | entitled) & w);
+    let clear = unopposed(rows, requested, waiting & w, (holding & w) | (entitled & r));
+    let next = first_in_queue(rows, requested, earlier, clear, (waiting | entitled) & w);
     waiting = waiting & !next;
     entitled = entitled | next;
     // Step 3 (5.5): entitled writes that no holding read is against.
-    let granted = unopposed(rows, entry, entitled & w, holding & r);
+    let granted = unopposed(rows, requested, entitled & w, holding & r);
     waiting = waiting & !granted;
     entitled = entitled & !granted;
     holding = holding | granted;
     // Step 4 (5.6): waiting reads that a holding write is against, and no entitled one.
-    let clear = unopposed(rows, entry, waiting & r, holding & w);
-    let behind = unopposed(rows, entry, waiting & r & !clear, entitled & w);
+    let clear = unopposed(rows, requested, waiting & r, holding & w);
+    let behind = unopposed(rows, requested, waiting & r & !clear, entitled & w);
     Phases {
         waiting: waiting & !behind,
         entitled: entitled | behind,

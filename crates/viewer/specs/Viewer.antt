@@ -1,7 +1,7 @@
 -- What the viewer's functions return for the plan in some bytes. Specification, clause 7.6.
 use Prim.Native.Nat.{ℕ}
 use mathlib.Core.List.{List}
-use Rattle.refusals.specs.Due.{said}
+use Rattle.refusals.specs.Due.{asNumbers}
 use Rattle.plans.specs.Figures.{readFigure, writeFigure}
 use Rattle.plans.specs.Reading.{readFault, planRead}
 
@@ -11,8 +11,8 @@ planRefusal s = readFault s
 
 -- Clause 7.6: the read figure, or 0 for a refused plan. The figure of an accepted plan can be 0 too.
 unfoldable pub planReadFigure : List ℕ → ℕ
-planReadFigure s = said (readFault s) (readFigure (planRead s)) .value
+planReadFigure s = asNumbers (readFault s) (readFigure (planRead s)) .value
 
 -- Clause 7.6: the write figure, or 0 for a refused plan.
 unfoldable pub planWriteFigure : List ℕ → ℕ
-planWriteFigure s = said (readFault s) (writeFigure (planRead s)) .value
+planWriteFigure s = asNumbers (readFault s) (writeFigure (planRead s)) .value

@@ -3,13 +3,13 @@
 // number first.
 use encoding::Outcome;
 ghost use mathlib.Core.Path.{_≡_};
-ghost use Rattle.refusals.specs.Due.{said};
-ghost use Rattle.encoding.specs.Buffers.{outcomeSays};
+ghost use Rattle.refusals.specs.Due.{asNumbers};
+ghost use Rattle.encoding.specs.Buffers.{outcomeAsNumbers};
 ghost use Rattle.viewer.specs.Viewer.{planRefusal, planReadFigure, planWriteFigure};
 
 // 0 if the plan was read, else the refusal's number.
 fn number_of(outcome: Outcome) -> u32
-    ensures { λ r. ⌜ r ≡ outcomeSays outcome .number ⌝ }
+    ensures { λ r. ⌜ r ≡ outcomeAsNumbers outcome .number ⌝ }
 {
     match outcome {
         Outcome::Bytes(_) => 0,
@@ -19,7 +19,7 @@ fn number_of(outcome: Outcome) -> u32
 
 // The figure if the plan was read, else 0.
 fn figure_or_zero(outcome: Outcome, figure: u32) -> u32
-    ensures { λ r. ⌜ r ≡ said (outcomeSays outcome .number) figure .value ⌝ }
+    ensures { λ r. ⌜ r ≡ asNumbers (outcomeAsNumbers outcome .number) figure .value ⌝ }
 {
     match outcome {
         Outcome::Bytes(_) => figure,

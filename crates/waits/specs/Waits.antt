@@ -3,8 +3,8 @@ use Prim.Native.Nat.{ℕ}
 use mathlib.Core.Bool.{Bool, cond, _&&_, _||_}
 use lib.Dec.{ltb}
 use Rattle.masks.specs.Sets.{maskOf}
-use Rattle.plans.specs.Entries.{slots}
-use Rattle.rules.specs.declared.settling.Phases.{Phases}
+use Rattle.plans.specs.Entries.{maxProcessors}
+use Rattle.rules.specs.declared.states.Phases.{Phases}
 use Rattle.rules.specs.Requests.{Facts, active, isEarlier, isWriter, conflicts, holdingRead, holdingWrite, entitledRead, entitledWrite, waitingRead, waitingWrite}
 
 -- Clause 7.2: processor p waits directly for q, whose request conflicts with its own: the first four rows of the table.
@@ -18,4 +18,4 @@ waitsIn f ph p q =
 
 -- Clause 7.2: the mask of all that p waits for. A number past the processors waits for nobody.
 abbrev pub waitsOf : Facts → Phases → ℕ → ℕ
-waitsOf f ph p = cond (ltb p slots) (maskOf slots (waitsIn f ph p)) 0
+waitsOf f ph p = cond (ltb p maxProcessors) (maskOf maxProcessors (waitsIn f ph p)) 0

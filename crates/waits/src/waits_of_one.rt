@@ -3,8 +3,8 @@
 use masks::has32;
 use masks::join_if;
 use masks::row_at;
-use plans::ENTRIES;
-use plans::SLOTS;
+use plans::MAX_ENTRIES;
+use plans::MAX_PROCESSORS;
 use rules::Phases;
 use settling::those_in;
 ghost use mathlib.Core.Path.{_≡_};
@@ -12,27 +12,27 @@ ghost use mathlib.Core.List.{[]};
 ghost use Prim.Native.Nat.{ℕ, _<_};
 ghost use lib.ListN.{getD};
 ghost use Rattle.masks.specs.Sets.{maskOf};
-ghost use Rattle.plans.specs.Entries.{slots};
+ghost use Rattle.plans.specs.Entries.{maxProcessors};
 ghost use Rattle.rules.specs.Requests.{factsBy};
 ghost use Rattle.waits.specs.Waits.{waitsIn, waitsOf};
 ghost use Rattle.waits.specs.inner.Writers.{writersIn};
 
 // The places of a mask of processors.
-const PLACES: u32 = SLOTS as u32;
+const PLACES: u32 = MAX_PROCESSORS as u32;
 
 // The active processors whose requests are writes.
-pub fn writers_of(writes: u64, entry: &[u8; SLOTS], phases: Phases) -> u32
-    ensures { λ r. ⌜ r ≡ writersIn (factsBy [] writes (now (entry .entry)) []) phases ⌝ }
+pub fn writers_of(writes: u64, requested: &[u8; MAX_PROCESSORS], phases: Phases) -> u32
+    ensures { λ r. ⌜ r ≡ writersIn (factsBy [] writes (now (requested .entry)) []) phases ⌝ }
 {
     those_in(
-        entry,
+        requested,
         writes,
         phases.waiting | phases.entitled | phases.holding,
     )
 }
 
 // The entries that an entry conflicts with.
-fn row_of(rows: &[u64; ENTRIES], entry: u8) -> u64
+fn row_of(rows: &[u64; MAX_ENTRIES], entry: u8) -> u64
     ensures { λ r. ⌜ r ≡ getD (now (rows .entry)) entry 0 ⌝ }
 {
     row_at(rows, entry as u32)
@@ -41,17 +41,17 @@ fn row_of(rows: &[u64; ENTRIES], entry: u8) -> u64
 // The direct waits of processor p, from who writes: those that it waits for in each of the four cases, if their
 // requests conflict with its own.
 pub fn waits_from(
-    rows: &[u64; ENTRIES],
-    entry: &[u8; SLOTS],
-    earlier: &[u32; SLOTS],
+    rows: &[u64; MAX_ENTRIES],
+    requested: &[u8; MAX_PROCESSORS],
+    earlier: &[u32; MAX_PROCESSORS],
     phases: Phases,
     writers: u32,
     p: u32,
 ) -> u32
-    requires { ⌜ p < slots ⌝ }
-    ensures { λ r. ⌜ ((writes : ℕ) → writers ≡ writersIn (factsBy [] writes (now (entry .entry)) []) phases
-        → r ≡ maskOf slots (waitsIn
-        (factsBy (now (rows .entry)) writes (now (entry .entry)) (now (earlier .entry))) phases p)) ⌝ }
+    requires { ⌜ p < maxProcessors ⌝ }
+    ensures { λ r. ⌜ ((writes : ℕ) → writers ≡ writersIn (factsBy [] writes (now (requested .entry)) []) phases
+        → r ≡ maskOf maxProcessors (waitsIn
+        (factsBy (now (rows .entry)) writes (now (requested .entry)) (now (earlier .entry))) phases p)) ⌝ }
 {
     let waiting = has32(phases.waiting, p);
     let entitled = has32(phases.entitled, p);
@@ -61,25 +61,25 @@ pub fn waits_from(
     let second = join_if(first, phases.entitled & writers, waiting & read);
     let third = join_if(second, phases.holding & !writers, entitled & write);
     let others = join_if(third, earlier[p as usize] & writers, waiting & write);
-    those_in(entry, row_of(rows, entry[p as usize]), others)
+    those_in(requested, row_of(rows, requested[p as usize]), others)
 }
 
 // The direct waits of processor p, a mask. A number past the processors waits for nobody.
 pub fn waits_of(
-    rows: &[u64; ENTRIES],
+    rows: &[u64; MAX_ENTRIES],
     writes: u64,
-    entry: &[u8; SLOTS],
-    earlier: &[u32; SLOTS],
+    requested: &[u8; MAX_PROCESSORS],
+    earlier: &[u32; MAX_PROCESSORS],
     phases: Phases,
     p: u32,
 ) -> u32
     ensures { λ r. ⌜ r ≡ waitsOf
-        (factsBy (now (rows .entry)) writes (now (entry .entry)) (now (earlier .entry)))
+        (factsBy (now (rows .entry)) writes (now (requested .entry)) (now (earlier .entry)))
         phases p ⌝ }
 {
     if p >= PLACES {
         return 0;
     }
-    let writers = writers_of(writes, entry, phases);
-    waits_from(rows, entry, earlier, phases, writers, p)
+    let writers = writers_of(writes, requested, phases);
+    waits_from(rows, requested, earlier, phases, writers, p)
 }

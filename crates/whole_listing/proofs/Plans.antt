@@ -9,15 +9,15 @@ use borrow.Author.Tests.{leb-true, le-leb, eqb-true, eqb-false, eq-eqb, ne-eqb}
 use lib.Dec.{leb, eqb, ltb, eqb·suc-zero}
 use lib.ListN.{length, getD, take, drop, length-append, length-drop, List·getD-append}
 use lib.Seq.{slice, take-append-le, drop-append-le}
-use Rattle.refusals.specs.Due.{Said, due, firstOf}
+use Rattle.refusals.specs.Due.{AsNumbers, due, firstOf}
 use Rattle.encoding.specs.Buffers.{shortFault}
 use Rattle.encoding.proofs.Room.{enough-at}
 use Rattle.plans.specs.declared.Entry.{Entry}
 use Rattle.plans.specs.declared.Plan.{Plan}
-use Rattle.plans.specs.Entries.{slots, mostResources, mostEntries, isRead, isWrite}
-use Rattle.plans.specs.Entries.{headSize, entrySize, entrySizeOf, largestEntry, sectionSize, countedEntries}
+use Rattle.plans.specs.Entries.{maxProcessors, maxResources, maxEntries, isRead, isWrite}
+use Rattle.plans.specs.Entries.{countsSize, entrySize, entrySizeOf, largestEntry, sectionSize, countedEntries}
 use Rattle.plans.specs.Acceptance.{within, processorsFault, resourcesFault, countFault, countsFault, kindFault, setFault, lengthFault, entryFault}
-use Rattle.plans.specs.Reading.{entryIn, entriesIn, sectionFault, readFault, blankPlan, planIn, readSays, planRead}
+use Rattle.plans.specs.Reading.{entryIn, entriesIn, sectionFault, readFault, blankPlan, planIn, readAsNumbers, planRead}
 use Rattle.plans.proofs.Sizes.{entry-size-least, entry-size-most, entry-size-due}
 use Rattle.plans.proofs.EntryBytes.{first-there, later-there}
 use Rattle.plans.proofs.PlanBytes.{counted-planIn}
@@ -120,11 +120,11 @@ full-plan s h = rw (ne-eqb (readFault s) 1 decided)
     decided e =
         let counts = countsFault (getD s 0 0) (getD s 1 0) (getD s 2 0) in
         first-not-short counts _
-        (first-not-short (processorsFault (getD s 0 0)) _ (due-not-short (within 1 slots (getD s 0 0)) 3 (omega arith))
-        (λ z. first-not-short (resourcesFault (getD s 1 0)) _ (due-not-short (within 1 mostResources (getD s 1 0)) 4 (omega arith))
-        (λ z′. due-not-short (within 1 mostEntries (getD s 2 0)) 5 (omega arith))))
-        (λ z. section-not-short (getD s 1 0) (getD s 2 0) (drop headSize s)
-        (omega (arith, length-drop headSize s, counts-at-most (getD s 0 0) (getD s 1 0) (getD s 2 0) z)))
+        (first-not-short (processorsFault (getD s 0 0)) _ (due-not-short (within 1 maxProcessors (getD s 0 0)) 3 (omega arith))
+        (λ z. first-not-short (resourcesFault (getD s 1 0)) _ (due-not-short (within 1 maxResources (getD s 1 0)) 4 (omega arith))
+        (λ z′. due-not-short (within 1 maxEntries (getD s 2 0)) 5 (omega arith))))
+        (λ z. section-not-short (getD s 1 0) (getD s 2 0) (drop countsSize s)
+        (omega (arith, length-drop countsSize s, counts-at-most (getD s 0 0) (getD s 1 0) (getD s 2 0) z)))
         (sym (read-fault s (omega arith)) ∙ e)
 
 module _ (s t : List ℕ) (decided : not (isShort s) ≡ true) where
@@ -143,13 +143,13 @@ module _ (s t : List ℕ) (decided : not (isShort s) ≡ true) where
       (λ z. due-same 2 s t _ _
       (λ two. rw (List·getD-append s t 0 1 two)
       (look-same (resourcesFault (getD s 1 0)) _ _
-      (λ z′. due-same headSize s t _ _
+      (λ z′. due-same countsSize s t _ _
       (λ three. rw (List·getD-append s t 0 2 three, drop-append-le 3 s t three)
       (look-same (countFault (getD s 2 0)) _ _ (λ z″. section-decided (getD s 1 0) (getD s 2 0) (drop 3 s) t)))))))))
       not-short
 
   module _ (e : readFault s ≡ 0) where
-    three : headSize ≤ length s
+    three : countsSize ≤ length s
     three = read-length s e
 
     -- The plan in the bytes is the same.
@@ -157,24 +157,24 @@ module _ (s t : List ℕ) (decided : not (isShort s) ≡ true) where
     unfolding planIn
     held =
         let there = taken s e .inside in
-        let size : sectionSize (countedEntries (planIn s)) ≡ sectionSize (entriesIn (getD s 2 0) (drop headSize s)) =
+        let size : sectionSize (countedEntries (planIn s)) ≡ sectionSize (entriesIn (getD s 2 0) (drop countsSize s)) =
         ap sectionSize (counted-planIn s)
         in
-        let inside : sectionSize (entriesIn (getD s 2 0) (drop headSize s)) ≤ length (drop headSize s) =
-        omega (arith, length-drop headSize s)
+        let inside : sectionSize (entriesIn (getD s 2 0) (drop countsSize s)) ≤ length (drop countsSize s) =
+        omega (arith, length-drop countsSize s)
         in
         rw (
           List·getD-append s t 0 2 three,
           List·getD-append s t 0 0 (omega (arith, three)),
           List·getD-append s t 0 1 (omega (arith, three)),
-          drop-append-le headSize s t three,
-          entries-in-front (getD s 2 0) (drop headSize s) t inside,
+          drop-append-le countsSize s t three,
+          entries-in-front (getD s 2 0) (drop countsSize s) t inside,
         )
 
-    pub size-decided : readSays (s ++ t) .value ≡ readSays s .value
+    pub size-decided : readAsNumbers (s ++ t) .value ≡ readAsNumbers s .value
     size-decided = rw (sym fault-decided ∙ e, e, held)
 
-    pub plan-inside : readSays s .value ≤ length s
+    pub plan-inside : readAsNumbers s .value ≤ length s
     plan-inside = rw e (taken s e .inside)
 
     pub plan-decided : planRead (s ++ t) ≡ planRead s

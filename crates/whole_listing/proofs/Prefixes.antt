@@ -10,7 +10,7 @@ use lib.Dec.{eqb, leb}
 use lib.ListN.{length, drop, length-append}
 use lib.Seq.{drop-append-le}
 use Rattle.encoding.proofs.Room.{enough-at}
-use Rattle.plans.specs.Reading.{readFault, readSays, planRead}
+use Rattle.plans.specs.Reading.{readFault, readAsNumbers, planRead}
 use Rattle.rules.specs.declared.states.Board.{Board}
 use Rattle.rules.specs.declared.states.State.{State}
 use Rattle.rules.specs.CallNumbers.{Fields, callOf}
@@ -89,7 +89,7 @@ listed-begin closed s u = go (planThere s) refl (eqb (readFault s) 0) refl
     alone x e = ap (listedBy false) (sym (append-nil s)) ∙ e
 
     rest : List ℕ
-    rest = drop (readSays s .value) s
+    rest = drop (readAsNumbers s .value) s
 
     board : Board
     board = boardOf (planRead s)

@@ -10,10 +10,10 @@ use lib.Dec.{leb, eqb}
 use lib.ListN.{length, take, drop, length-append, length-drop}
 use lib.Seq.{take-append-le, drop-append-le}
 use Rattle.masks.proofs.Truth.{or-right}
-use Rattle.refusals.specs.Due.{Said}
+use Rattle.refusals.specs.Due.{AsNumbers}
 use Rattle.encoding.proofs.Room.{enough-at}
 use Rattle.plans.specs.declared.Plan.{Plan}
-use Rattle.plans.specs.Reading.{readFault, readSays, planRead}
+use Rattle.plans.specs.Reading.{readFault, readAsNumbers, planRead}
 use Rattle.plans.proofs.RoundTrip.{read-is-accepted}
 use Rattle.rules.specs.declared.states.Board.{Board}
 use Rattle.rules.specs.declared.states.State.{State}
@@ -57,7 +57,7 @@ module _ (closed : Bool) (b : Board) (st : State) where
       ∙ ap (λ k. cond (eqb k 0) (callsBy closed b st (readCount s .value) (drop countSize (s ++ u))) (refusalLine k)) none
       ∙ ap (callsBy closed b st (readCount s .value)) (drop-append-le 2 s u two)
     where
-      by : Said → List ℕ → List ℕ
+      by : AsNumbers → List ℕ → List ℕ
       by x v = cond (eqb (x .number) 0) (callsBy closed b st (x .value) (drop countSize v)) (refusalLine (x .number))
 
   counted : (s : List ℕ) (t : List (List ℕ)) → length s ≤ blockRoom → countThere s ≡ true → fromCount closed b st s t ≡ countedBy closed b st (s ++ together t)
@@ -112,18 +112,18 @@ module _ (closed : Bool) (s : List ℕ) (t : List (List ℕ)) where
   written-after : readFault s ≡ 0
       → fromPlan closed s t
       ≡ firstLine (planRead s)
-      ++ waited closed countThere (fed blockRoom countThere (drop (readSays s .value) s) t)
+      ++ waited closed countThere (fed blockRoom countThere (drop (readAsNumbers s .value) s) t)
       (λ s′ t′. fromCount closed (boardOf (planRead s)) freshState s′ t′)
   unfolding freshBoard
   written-after none = rw (read-is-accepted s none, none)
 
   pub listed-after : (u : List ℕ) → planThere s ≡ true → readFault s ≡ 0
       → listedBy closed (s ++ u)
-      ≡ firstLine (planRead s) ++ countedBy closed (boardOf (planRead s)) freshState (drop (readSays s .value) s ++ u)
+      ≡ firstLine (planRead s) ++ countedBy closed (boardOf (planRead s)) freshState (drop (readAsNumbers s .value) s ++ u)
   unfolding listedBy
   listed-after u there none =
       let same : readFault (s ++ u) ≡ readFault s = sym (fault-decided s u there) in
-      let size = readSays s .value in
+      let size = readAsNumbers s .value in
       ap (λ c. cond c (cond (eqb (readFault (s ++ u)) 0) (acceptedBy closed (s ++ u)) (refusalLine (readFault (s ++ u)))) [])
       (or-right closed (planThere (s ++ u)) (ap (λ f. not (eqb f 1)) same ∙ there))
       ∙ ap (λ f. cond (eqb f 0) (acceptedBy closed (s ++ u)) (refusalLine f)) (same ∙ none)
@@ -137,7 +137,7 @@ module _ (closed : Bool) (s : List ℕ) (t : List (List ℕ)) where
 
   accepted : length s ≤ planRoom → planThere s ≡ true → readFault s ≡ 0 → fromPlan closed s t ≡ listedBy closed (s ++ together t)
   accepted holds there none =
-      let size = readSays s .value in
+      let size = readAsNumbers s .value in
       let fits : length (drop size s) ≤ blockRoom = omega (arith, length-drop size s) in
       written-after none
       ∙ ap (λ l. firstLine (planRead s) ++ l) (waits-for-count closed (boardOf (planRead s)) freshState (drop size s) t fits)

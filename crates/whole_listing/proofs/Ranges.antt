@@ -8,17 +8,17 @@ use borrow.Author.Tests.{eqb-true}
 use lib.Dec.{eqb}
 use lib.ListN.{length, take, drop, length-append}
 use lib.Seq.{length-take-le}
-use Rattle.refusals.specs.Due.{Said}
+use Rattle.refusals.specs.Due.{AsNumbers}
 use Rattle.encoding.specs.declared.Outcome.{Outcome}
-use Rattle.encoding.specs.Buffers.{roomFault, overwritten, outcomeSays}
+use Rattle.encoding.specs.Buffers.{roomFault, overwritten, outcomeAsNumbers}
 use Rattle.encoding.proofs.Room.{room-fits}
 use Rattle.encoding.proofs.Outcomes.{bytes-said}
-use Rattle.plans.specs.Reading.{readSays}
+use Rattle.plans.specs.Reading.{readAsNumbers}
 use Rattle.plans.proofs.RoundTrip.{read-inside}
 use Rattle.rules.specs.declared.states.Board.{Board}
 use Rattle.rules.specs.declared.states.State.{State}
 use Rattle.logs.specs.Records.{recordSize}
-use Rattle.listings.specs.PlainLines.{lineSays}
+use Rattle.listings.specs.PlainLines.{lineAsNumbers}
 use Rattle.replay.specs.declared.RanBlock.{RanBlock}
 use Rattle.replay.specs.Blocks.{ran, budget, ranBlock}
 use Rattle.replay.proofs.Records.{Found, found, stateIn, ran-call, ran-refused}
@@ -34,8 +34,8 @@ calls-within b (suc k) st s =
     ]
 
 -- A line takes no more bytes than the buffer has.
-pub line-within : (bytes : List ℕ) (size at : ℕ) (la : Outcome) → outcomeSays la ≡ lineSays bytes size at → outcomeSays la .value ≤ size
-line-within bytes size at la e = rw (ap (λ (x : Said). x .value) e) (go (eqb (roomFault (length bytes) size at) 0) refl)
+pub line-within : (bytes : List ℕ) (size at : ℕ) (la : Outcome) → outcomeAsNumbers la ≡ lineAsNumbers bytes size at → outcomeAsNumbers la .value ≤ size
+line-within bytes size at la e = rw (ap (λ (x : AsNumbers). x .value) e) (go (eqb (roomFault (length bytes) size at) 0) refl)
   where
     go : (t : Bool) → eqb (roomFault (length bytes) size at) 0 ≡ t → cond t (length bytes) 0 ≤ size
     go true h = omega (arith, room-fits (length bytes) size at (eqb-true _ 0 h))
@@ -59,7 +59,7 @@ module _ (b : Board) (st : State) (left size : ℕ) (s : List ℕ) (r : RanBlock
       omega (arith, ap (λ (x : RanBlock). x .written) e, ap length eo ∙ length-append lines (drop (0 + length lines) out))
 
 -- A plan ends within the bytes that were lent.
-pub plan-filled : (plan : List ℕ) (filled n : ℕ) (o : Outcome) → outcomeSays o ≡ readSays (take filled plan) → filled ≤ length plan
+pub plan-filled : (plan : List ℕ) (filled n : ℕ) (o : Outcome) → outcomeAsNumbers o ≡ readAsNumbers (take filled plan) → filled ≤ length plan
     → o ≡ Outcome.Bytes n
     → n ≤ filled
 plan-filled plan filled n o says h e =

@@ -12,7 +12,7 @@ use Rattle.encoding.specs.Buffers.{overwritten}
 use Rattle.encoding.proofs.Room.{fits-room}
 use Rattle.plans.specs.Reading.{readFault, planRead}
 use Rattle.logs.specs.Records.{readCount}
-use Rattle.listings.specs.PlainLines.{refusalLine, lineSays, lineBuffer}
+use Rattle.listings.specs.PlainLines.{refusalLine, lineAsNumbers, lineBuffer}
 use Rattle.listings.proofs.LongestFirst.{any-first}
 use Rattle.listings.proofs.LongestCall.{any-refusal}
 use Rattle.replay.specs.Blocks.{Ran, ranBlock}
@@ -22,7 +22,7 @@ use Rattle.whole_listing.specs.Rooms.{linesRoom}
 
 -- For a line that has room, the part that is shown is the line.
 pub shown-line : (line out : List ℕ) → length line ≤ length out
-    → take (lineSays line (length out) 0 .value) (lineBuffer line out 0) ≡ line
+    → take (lineAsNumbers line (length out) 0 .value) (lineBuffer line out 0) ≡ line
 shown-line line out h =
     let room : 0 + length line ≤ length out = omega arith in
     rw (fits-room (length line) (length out) 0 room) (take-append-seam line (drop (0 + length line) out))

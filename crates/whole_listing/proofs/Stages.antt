@@ -6,7 +6,7 @@ use mathlib.Core.Bool.{Bool, true, false, cond, not, _||_}
 use mathlib.Core.List.{List, [], _++_}
 use lib.Dec.{eqb, leb}
 use lib.ListN.{length, drop}
-use Rattle.plans.specs.Reading.{readFault, readSays, planRead}
+use Rattle.plans.specs.Reading.{readFault, readAsNumbers, planRead}
 use Rattle.rules.specs.declared.states.Board.{Board}
 use Rattle.rules.specs.declared.states.State.{State}
 use Rattle.boards.specs.Fresh.{boardOf, freshState}
@@ -28,7 +28,7 @@ countedBy closed b st s =
 
 abbrev pub acceptedBy : Bool → List ℕ → List ℕ
 acceptedBy closed s =
-    firstLine (planRead s) ++ countedBy closed (boardOf (planRead s)) freshState (drop (readSays s .value) s)
+    firstLine (planRead s) ++ countedBy closed (boardOf (planRead s)) freshState (drop (readAsNumbers s .value) s)
 
 unfoldable pub listedBy : Bool → List ℕ → List ℕ
 listedBy closed s =
@@ -37,7 +37,7 @@ listedBy closed s =
 pub closed-listing : (s : List ℕ) → listedBy true s ≡ listingOf s
 unfolding listedBy listingOf
 closed-listing s =
-    let rest = drop (readSays s .value) s in
+    let rest = drop (readAsNumbers s .value) s in
     rw (closed-calls (boardOf (planRead s)) (readCount rest .value) freshState (drop countSize rest))
 
 open-count : (b : Board) (st : State) (s : List ℕ) → countedBy false b st s ≡ countedSoFar b st s
@@ -49,7 +49,7 @@ open-count b st s = go (leb countSize (length s)) refl
 
 pub open-listing : (s : List ℕ) → listedBy false s ≡ listingSoFar s
 unfolding listedBy listingSoFar
-open-listing s = rw (open-count (boardOf (planRead s)) freshState (drop (readSays s .value) s)) (go (isShort s) _)
+open-listing s = rw (open-count (boardOf (planRead s)) freshState (drop (readAsNumbers s .value) s)) (go (isShort s) _)
   where
     go : (short : Bool) (x : List ℕ) → cond (not short) x [] ≡ cond short [] x
     go true x = refl

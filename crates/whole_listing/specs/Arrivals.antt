@@ -5,7 +5,7 @@ use mathlib.Core.Bool.{Bool, cond, not, _||_}
 use mathlib.Core.List.{List, [], _∷_, _++_}
 use lib.Dec.{eqb, leb}
 use lib.ListN.{length, take, drop}
-use Rattle.plans.specs.Reading.{readSays, planRead}
+use Rattle.plans.specs.Reading.{readAsNumbers, planRead}
 use Rattle.rules.specs.declared.states.Board.{Board}
 use Rattle.rules.specs.declared.states.State.{State}
 use Rattle.boards.specs.Fresh.{freshState, freshBoard}
@@ -90,8 +90,8 @@ fromCount closed b st s t =
 abbrev pub fromPlan : Bool → List ℕ → List (List ℕ) → List ℕ
 fromPlan closed s t =
     openingLine s
-    ++ cond (eqb (readSays s .number) 0)
-    (waited closed countThere (fed blockRoom countThere (drop (readSays s .value) s) t)
+    ++ cond (eqb (readAsNumbers s .number) 0)
+    (waited closed countThere (fed blockRoom countThere (drop (readAsNumbers s .value) s) t)
     (λ s′ t′. fromCount closed (freshBoard (planRead s)) freshState s′ t′))
     []
 

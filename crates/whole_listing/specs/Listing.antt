@@ -4,7 +4,7 @@ use mathlib.Core.Bool.{cond}
 use mathlib.Core.List.{List, _++_}
 use lib.Dec.{eqb}
 use lib.ListN.{drop}
-use Rattle.plans.specs.Reading.{readFault, readSays, planRead}
+use Rattle.plans.specs.Reading.{readFault, readAsNumbers, planRead}
 use Rattle.rules.specs.declared.states.Board.{Board}
 use Rattle.rules.specs.declared.states.State.{State}
 use Rattle.rules.specs.Calls.{answered}
@@ -35,5 +35,5 @@ countedListing b st s =
 unfoldable pub listingOf : List ℕ → List ℕ
 listingOf s =
     cond (eqb (readFault s) 0)
-    (firstLine (planRead s) ++ countedListing (boardOf (planRead s)) freshState (drop (readSays s .value) s))
+    (firstLine (planRead s) ++ countedListing (boardOf (planRead s)) freshState (drop (readAsNumbers s .value) s))
     (refusalLine (readFault s))

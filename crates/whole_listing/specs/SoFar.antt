@@ -5,7 +5,7 @@ use mathlib.Core.Bool.{cond}
 use mathlib.Core.List.{List, [], _++_}
 use lib.Dec.{eqb, leb}
 use lib.ListN.{length, drop}
-use Rattle.plans.specs.Reading.{readFault, readSays, planRead}
+use Rattle.plans.specs.Reading.{readFault, readAsNumbers, planRead}
 use Rattle.rules.specs.declared.states.Board.{Board}
 use Rattle.rules.specs.declared.states.State.{State}
 use Rattle.rules.specs.Calls.{answered}
@@ -44,5 +44,5 @@ unfoldable pub listingSoFar : List ℕ → List ℕ
 listingSoFar s =
     cond (isShort s) []
     (cond (eqb (readFault s) 0)
-    (firstLine (planRead s) ++ countedSoFar (boardOf (planRead s)) freshState (drop (readSays s .value) s))
+    (firstLine (planRead s) ++ countedSoFar (boardOf (planRead s)) freshState (drop (readAsNumbers s .value) s))
     (refusalLine (readFault s)))

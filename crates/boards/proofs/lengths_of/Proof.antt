@@ -6,7 +6,7 @@ use mathlib.Core.Path.{_≡_, refl, _∙_}
 use lib.ListN.{length, take, length-set}
 use borrow.Author.Needs.{needs}
 use Rattle.plans.specs.declared.Entry.{Entry}
-use Rattle.plans.specs.Entries.{mostEntries, entryAt}
+use Rattle.plans.specs.Entries.{maxEntries, entryAt}
 use Rattle.masks.specs.Tabulation.{tabulate}
 use Rattle.masks.proofs.Tabulate.{fill-more, filled-whole}
 use Rattle.boards.specs.Fresh.{boardOf}
@@ -15,10 +15,10 @@ use Rattle.boards.proofs.lengths_of.Statement.{statement}
 use Rattle.boards.proofs.lengths_of.Tie as tie
 
 abbrev Inv-loop : tie.InvT-loop
-Inv-loop plan out₀ i₀ out i = (i ≤ mostEntries) × (length out ≡ mostEntries) × (take i out ≡ tabulate i (λ i. entryAt plan i .length))
+Inv-loop plan out₀ i₀ out i = (i ≤ maxEntries) × (length out ≡ maxEntries) × (take i out ≡ tabulate i (λ i. entryAt plan i .length))
 
 abbrev μ-loop : tie.MeasureT-loop
-μ-loop plan out₀ i₀ out i = mostEntries - i
+μ-loop plan out₀ i₀ out i = maxEntries - i
 
 loop-holds : tie.Need-loop-holds Inv-loop μ-loop
 unfolding tabulate
@@ -35,8 +35,8 @@ loop-again c =
 returns : tie.Need-returns Inv-loop μ-loop
 unfolding boardOf
 returns c =
-    let last : c .before .loop .i ≡ mostEntries = omega arith in
-    filled-whole _ mostEntries _ (c .before .loop .inv .1) (rw last at (c .before .loop .inv .2))
+    let last : c .before .loop .i ≡ maxEntries = omega arith in
+    filled-whole _ maxEntries _ (c .before .loop .inv .1) (rw last at (c .before .loop .inv .2))
 
 pub lengths-of-spec : {M : Type 1} → statement M
 lengths-of-spec =

@@ -5,17 +5,17 @@ use native.Mathlib.Omega.{arith}
 use mathlib.Core.Path.{_≡_, refl}
 use borrow.Author.Needs.{needs}
 use Rattle.masks.specs.Sets.{maskOf}
-use Rattle.plans.specs.Entries.{mostEntries}
+use Rattle.plans.specs.Entries.{maxEntries}
 use Rattle.boards.specs.Fresh.{boardOf}
 use Rattle.boards.proofs.PlanEntries.{writesIn, writes-more}
 use Rattle.boards.proofs.writes_of.Statement.{statement}
 use Rattle.boards.proofs.writes_of.Tie as tie
 
 abbrev Inv-loop : tie.InvT-loop
-Inv-loop plan out₀ i₀ out i = (i ≤ mostEntries) × (out ≡ maskOf i (writesIn plan))
+Inv-loop plan out₀ i₀ out i = (i ≤ maxEntries) × (out ≡ maskOf i (writesIn plan))
 
 abbrev μ-loop : tie.MeasureT-loop
-μ-loop plan out₀ i₀ out i = mostEntries - i
+μ-loop plan out₀ i₀ out i = maxEntries - i
 
 loop-holds : tie.Need-loop-holds Inv-loop μ-loop
 unfolding maskOf
@@ -29,7 +29,7 @@ loop-again c =
 returns : tie.Need-returns Inv-loop μ-loop
 unfolding boardOf
 returns c =
-    let last : c .before .loop .i ≡ mostEntries = omega arith in
+    let last : c .before .loop .i ≡ maxEntries = omega arith in
     rw last at (c .before .loop .inv .1)
 
 pub writes-of-spec : {M : Type 1} → statement M

@@ -9,14 +9,14 @@ use Rattle.refusals.specs.declared.Refusal.{Refusal}
 use Rattle.refusals.specs.Number.{numberOf}
 use Rattle.refusals.proofs.Numbers.{refused-not-zero}
 use Rattle.rules.specs.declared.calls.Reply.{Reply}
-use Rattle.rules.specs.Replies.{replySays, refusedWith}
-use Rattle.rules.specs.declared.Changed.{Changed}
+use Rattle.rules.specs.Replies.{replyAsNumbers, refusedWith}
+use Rattle.rules.specs.declared.calls.Changed.{Changed}
 use Rattle.rules.specs.Calls.{Answer, ruled}
 use Rattle.rules.specs.InPlace.{stateBy, answerBy}
 use Rattle.rules.specs.declared.states.State.{State}
 use Rattle.rules.specs.declared.states.Moment.{Moment}
 use Rattle.c_boards.specs.Parts.{momentBy}
-use Rattle.c_calls.specs.declared.c_replies.Replied.{Replied}
+use Rattle.c_calls.specs.declared.c_replies.CReply.{CReply}
 use Rattle.c_calls.specs.Replies.{response, momentLeft, answerIn}
 
 -- The same with the moment that was read from the caller's memory.
@@ -52,15 +52,15 @@ moment-after x s stays changed entry since earlier is (Reply.Refused r) e =
     sym
     (ap (λ a. record { last = a .state .last; phases = a .state .phases }) is
     ∙ ap (λ a. record { last = a .last; phases = a .phases })
-    (stays r (ap (λ a. a .reply .number) (sym is) ∙ ap (λ a. replySays a .number) e)))
+    (stays r (ap (λ a. a .reply .number) (sym is) ∙ ap (λ a. replyAsNumbers a .number) e)))
 
 -- So the caller's memory contains the call's answer.
-pub answered : (x : Answer) (s : State) → Stays x s → (told : Replied) (changed : Changed) (last : ℕ)
-    (phases entry since earlier : List ℕ) → response told ≡ replySays (changed .reply)
+pub answered : (x : Answer) (s : State) → Stays x s → (told : CReply) (changed : Changed) (last : ℕ)
+    (phases entry since earlier : List ℕ) → response told ≡ replyAsNumbers (changed .reply)
     → momentBy last phases ≡ momentLeft (changed .reply) (changed .moment) (record { last = s .last; phases = s .phases })
     → answerBy changed entry since earlier ≡ x → answerIn told last phases entry since earlier ≡ x
 answered x s stays told changed last phases entry since earlier says left is =
     ap (λ a. record { reply = a; state = stateBy (momentBy last phases) entry since earlier }) says
-    ∙ ap (λ m. record { reply = replySays (changed .reply); state = stateBy m entry since earlier })
+    ∙ ap (λ m. record { reply = replyAsNumbers (changed .reply); state = stateBy m entry since earlier })
     (left ∙ moment-after x s stays changed entry since earlier is (changed .reply) refl)
     ∙ is

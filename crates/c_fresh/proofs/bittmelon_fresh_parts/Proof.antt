@@ -12,7 +12,7 @@ returns c =
     let read = board .before .before .before .before .before .before .before .before .before in
     let s = read .before .before .args .plan .now in
     let says = read .read .ensures .0 in (
-      c .told-bytes .ensures ∙ says,
+      c .bytes-for-c .ensures ∙ says,
       (
         board .store-board .ensures ∙ board-of-bytes s _ _ _ says (read .read .ensures .1),
         state .store-state .ensures ∙ state-of-bytes s _ _ says,

@@ -15,9 +15,9 @@ returns c =
     let read = listed .before .before in
     let a = read .before .before .before .args in
     let b = boardBy (termsBy (a .processors) (a .entries) (a .writes)) (a .rows .now) [] in (
-      c .told-bytes .ensures ∙ listed .list-board-in-place .ensures .0,
+      c .bytes-for-c .ensures ∙ listed .list-board-in-place .ensures .0,
       listed .list-board-in-place .ensures .1
-          ∙ ap (λ m. boardBuffer b (stateBy m (a .entry .now) (a .since .now) (a .earlier .now)) (a .buffer .now))
+          ∙ ap (λ m. boardBuffer b (stateBy m (a .requested .now) (a .since .now) (a .earlier .now)) (a .buffer .now))
           (read .moment-of .ensures),
     )
 

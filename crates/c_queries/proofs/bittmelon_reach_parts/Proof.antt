@@ -15,11 +15,11 @@ returns c =
     let a = read .before .before .before .args in
     let b = boardWith (termsBy (a .processors) (a .entries) (a .writes)) (a .rows .now) in
     let given = read .phases-of .ensures in (
-      c .told-mask .ensures
+      c .mask-for-c .ensures
           ∙ found .reach-in-place .ensures .0
-          ∙ ap (λ ph. reachQuery b (stateWith (a .entry .now) (a .earlier .now) ph) (a .processor) (a .scratch .now)) given,
+          ∙ ap (λ ph. reachQuery b (stateWith (a .requested .now) (a .earlier .now) ph) (a .processor) (a .scratch .now)) given,
       found .reach-in-place .ensures .1
-          ∙ ap (λ ph. reachScratch b (stateWith (a .entry .now) (a .earlier .now) ph) (a .processor) (a .scratch .now)) given,
+          ∙ ap (λ ph. reachScratch b (stateWith (a .requested .now) (a .earlier .now) ph) (a .processor) (a .scratch .now)) given,
     )
 
 pub bittmelon-reach-parts-spec : {M : Type 1} → statement M

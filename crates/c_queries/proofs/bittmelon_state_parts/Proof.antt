@@ -12,9 +12,9 @@ use Rattle.c_queries.proofs.bittmelon_state_parts.Tie as tie
 returns : tie.Need-returns
 returns c =
     let a = c .before .before .before .before .args in
-    c .told-phase .ensures
+    c .phase-for-c .ensures
     ∙ c .before .phase-in-place .ensures
-    ∙ ap (λ ph. phaseQuery (boardWith (termsBy (a .processors) (a .entries) 0) []) (stateWith (a .entry .now) [] ph) (a .processor))
+    ∙ ap (λ ph. phaseQuery (boardWith (termsBy (a .processors) (a .entries) 0) []) (stateWith (a .requested .now) [] ph) (a .processor))
     (c .before .before .phases-of .ensures)
 
 pub bittmelon-state-parts-spec : {M : Type 1} → statement M

@@ -12,9 +12,9 @@ returns : tie.Need-returns
 returns c =
     let a = c .before .before .before .before .args in
     let b = boardWith (termsBy (a .processors) (a .entries) (a .writes)) (a .rows .now) in
-    c .told-mask .ensures
+    c .mask-for-c .ensures
     ∙ c .before .direct-waits-in-place .ensures
-    ∙ ap (λ ph. waitsQuery b (stateWith (a .entry .now) (a .earlier .now) ph) (a .processor)) (c .before .before .phases-of .ensures)
+    ∙ ap (λ ph. waitsQuery b (stateWith (a .requested .now) (a .earlier .now) ph) (a .processor)) (c .before .before .phases-of .ensures)
 
 pub bittmelon-waits-parts-spec : {M : Type 1} → statement M
 bittmelon-waits-parts-spec = tie.close (tie.spec (λ c κs. search needs) (λ c κs. search needs) (λ c κs. search needs) returns)

@@ -6,7 +6,7 @@ use native.Mathlib.Omega.{arith}
 use borrow.Author.Needs.{needs}
 use lib.ListN.{length, take, length-set}
 use Rattle.masks.specs.Sets.{maskOf}
-use Rattle.plans.specs.Entries.{mostEntries}
+use Rattle.plans.specs.Entries.{maxEntries}
 use Rattle.conflicts.specs.Conflict.{inConflict, conflictsOf}
 use Rattle.masks.specs.Tabulation.{tabulate}
 use Rattle.masks.proofs.Tabulate.{fill-more, filled-whole}
@@ -16,10 +16,10 @@ use Rattle.conflicts.proofs.all_rows.Tie as tie
 
 abbrev Inv-loop : tie.InvT-loop
 Inv-loop plan widened rows₀ i₀ rows i =
-    (i ≤ mostEntries) × (length rows ≡ mostEntries) × (take i rows ≡ tabulate i (λ i. maskOf mostEntries (inConflict plan i)))
+    (i ≤ maxEntries) × (length rows ≡ maxEntries) × (take i rows ≡ tabulate i (λ i. maskOf maxEntries (inConflict plan i)))
 
 abbrev μ-loop : tie.MeasureT-loop
-μ-loop plan widened rows₀ i₀ rows i = mostEntries - i
+μ-loop plan widened rows₀ i₀ rows i = maxEntries - i
 
 loop-holds : tie.Need-loop-holds Inv-loop μ-loop
 unfolding tabulate
@@ -35,8 +35,8 @@ loop-again c = (
 returns : tie.Need-returns Inv-loop μ-loop
 unfolding conflictsOf
 returns c =
-    let last : c .before .loop .i ≡ mostEntries = omega arith in
-    filled-whole _ mostEntries _ (c .before .loop .inv .1) (rw last at (c .before .loop .inv .2))
+    let last : c .before .loop .i ≡ maxEntries = omega arith in
+    filled-whole _ maxEntries _ (c .before .loop .inv .1) (rw last at (c .before .loop .inv .2))
 
 pub all-rows-spec : {M : Type 1} → statement M
 all-rows-spec =

@@ -5,7 +5,7 @@ use native.Mathlib.Omega.{arith}
 use mathlib.Core.Path.{_≡_, refl, _∙_}
 use lib.ListN.{length, take, length-set}
 use borrow.Author.Needs.{needs}
-use Rattle.plans.specs.Entries.{mostEntries, entryAt}
+use Rattle.plans.specs.Entries.{maxEntries, entryAt}
 use Rattle.plans.specs.declared.Entry.{Entry}
 use Rattle.conflicts.specs.Conflict.{conflictsOf}
 use Rattle.masks.specs.Tabulation.{tabulate}
@@ -15,10 +15,10 @@ use Rattle.conflicts.proofs.names_of.Statement.{statement}
 use Rattle.conflicts.proofs.names_of.Tie as tie
 
 abbrev Inv-loop : tie.InvT-loop
-Inv-loop plan names₀ i₀ names i = (i ≤ mostEntries) × (length names ≡ mostEntries) × (take i names ≡ tabulate i (λ i. entryAt plan i .set))
+Inv-loop plan names₀ i₀ names i = (i ≤ maxEntries) × (length names ≡ maxEntries) × (take i names ≡ tabulate i (λ i. entryAt plan i .set))
 
 abbrev μ-loop : tie.MeasureT-loop
-μ-loop plan names₀ i₀ names i = mostEntries - i
+μ-loop plan names₀ i₀ names i = maxEntries - i
 
 loop-holds : tie.Need-loop-holds Inv-loop μ-loop
 unfolding tabulate
@@ -35,8 +35,8 @@ loop-again c =
 returns : tie.Need-returns Inv-loop μ-loop
 unfolding conflictsOf
 returns c =
-    let last : c .before .loop .i ≡ mostEntries = omega arith in
-    filled-whole _ mostEntries _ (c .before .loop .inv .1) (rw last at (c .before .loop .inv .2))
+    let last : c .before .loop .i ≡ maxEntries = omega arith in
+    filled-whole _ maxEntries _ (c .before .loop .inv .1) (rw last at (c .before .loop .inv .2))
 
 pub names-of-spec : {M : Type 1} → statement M
 names-of-spec =

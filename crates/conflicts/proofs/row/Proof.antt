@@ -5,7 +5,7 @@ use mathlib.Core.Path.{_≡_, refl}
 use native.Mathlib.Omega.{arith}
 use borrow.Author.Needs.{needs}
 use Rattle.masks.specs.Sets.{maskOf}
-use Rattle.plans.specs.Entries.{mostEntries}
+use Rattle.plans.specs.Entries.{maxEntries}
 use Rattle.conflicts.specs.Conflict.{inConflict}
 use Rattle.conflicts.proofs.Pairs.{row-next}
 use borrow.Author.Needs.{needs}
@@ -13,10 +13,10 @@ use Rattle.conflicts.proofs.row.Statement.{statement}
 use Rattle.conflicts.proofs.row.Tie as tie
 
 abbrev Inv-loop : tie.InvT-loop
-Inv-loop i plan widened count entry entry-widened out₀ j₀ out j = (j ≤ mostEntries) × (out ≡ maskOf j (inConflict plan i))
+Inv-loop i plan widened count entry entry-widened out₀ j₀ out j = (j ≤ maxEntries) × (out ≡ maskOf j (inConflict plan i))
 
 abbrev μ-loop : tie.MeasureT-loop
-μ-loop i plan widened count entry entry-widened out₀ j₀ out j = mostEntries - j
+μ-loop i plan widened count entry entry-widened out₀ j₀ out j = maxEntries - j
 
 loop-holds : tie.Need-loop-holds Inv-loop μ-loop
 unfolding maskOf
@@ -32,7 +32,7 @@ loop-again c = (
 
 returns : tie.Need-returns Inv-loop μ-loop
 returns c =
-    let last : c .before .loop .j ≡ mostEntries = omega arith in
+    let last : c .before .loop .j ≡ maxEntries = omega arith in
     rw last at (c .before .loop .inv .1)
 
 pub row-spec : {M : Type 1} → statement M

@@ -5,7 +5,7 @@ use mathlib.Core.Path.{_≡_, refl}
 use native.Mathlib.Omega.{arith}
 use borrow.Author.Needs.{needs}
 use lib.ListN.{length, take, length-set}
-use Rattle.plans.specs.Entries.{mostEntries}
+use Rattle.plans.specs.Entries.{maxEntries}
 use Rattle.conflicts.specs.Conflict.{conflictsOf}
 use Rattle.masks.specs.Tabulation.{tabulate}
 use Rattle.conflicts.proofs.WidenedSets.{widenedAt}
@@ -16,10 +16,10 @@ use Rattle.conflicts.proofs.widen_all.Tie as tie
 
 abbrev Inv-loop : tie.InvT-loop
 Inv-loop plan widened₀ i₀ widened i =
-    (i ≤ mostEntries) × (length widened ≡ mostEntries) × (take i widened ≡ tabulate i (widenedAt plan))
+    (i ≤ maxEntries) × (length widened ≡ maxEntries) × (take i widened ≡ tabulate i (widenedAt plan))
 
 abbrev μ-loop : tie.MeasureT-loop
-μ-loop plan widened₀ i₀ widened i = mostEntries - i
+μ-loop plan widened₀ i₀ widened i = maxEntries - i
 
 loop-holds : tie.Need-loop-holds Inv-loop μ-loop
 unfolding tabulate
@@ -35,8 +35,8 @@ loop-again c = (
 returns : tie.Need-returns Inv-loop μ-loop
 unfolding conflictsOf
 returns c =
-    let last : c .before .loop .i ≡ mostEntries = omega arith in
-    filled-whole _ mostEntries _ (c .before .loop .inv .1) (rw last at (c .before .loop .inv .2))
+    let last : c .before .loop .i ≡ maxEntries = omega arith in
+    filled-whole _ maxEntries _ (c .before .loop .inv .1) (rw last at (c .before .loop .inv .2))
 
 pub widen-all-spec : {M : Type 1} → statement M
 widen-all-spec =

@@ -7,7 +7,7 @@ use mathlib.Core.Path.{_≡_, ap, _∙_}
 use mathlib.Core.Bool.{Bool}
 use borrow.Author.Needs.{needs}
 use lib.ListN.{length, take, length-map}
-use Rattle.plans.specs.Entries.{mostEntries, isRead, isWrite, countedEntries}
+use Rattle.plans.specs.Entries.{maxEntries, isRead, isWrite, countedEntries}
 use Rattle.plans.specs.Figures.{longest, figuresOf}
 use Rattle.plans.specs.declared.Entry.{Entry}
 use Rattle.plans.specs.declared.Plan.{Plan}
@@ -16,10 +16,10 @@ use Rattle.figures.proofs.figures_of.Statement.{statement}
 use Rattle.figures.proofs.figures_of.Tie as tie
 
 -- Going through at most 64 entries finds the longest of the counted entries.
-of-counted : (test : Entry → Bool) (n r : ℕ) (p : Plan) → length (p .entries) ≡ mostEntries → n ≡ min (p .count) mostEntries
+of-counted : (test : Entry → Bool) (n r : ℕ) (p : Plan) → length (p .entries) ≡ maxEntries → n ≡ min (p .count) maxEntries
     → r ≡ longest test (take n (p .entries)) → r ≡ longest test (countedEntries p)
 of-counted test n r p full e found =
-    found ∙ ap (λ k. longest test (take k (p .entries))) e ∙ ap (longest test) (all-taken (p .count) mostEntries (p .entries) full)
+    found ∙ ap (λ k. longest test (take k (p .entries))) e ∙ ap (longest test) (all-taken (p .count) maxEntries (p .entries) full)
 
 product-small : (a b : ℕ) → a ≤ 255 → b ≤ 131070 → a * b < 2 ^ 32
 product-small a b h k = omega (arith, mul-le-mul h k)
@@ -30,7 +30,7 @@ mul-write c = record { fits = product-small _ _ (omega arith) (omega arith) }
 returns : tie.Need-returns
 unfolding figuresOf
 returns c =
-    let full : length (c .before .before .before .before .before .args .plan .entries) ≡ mostEntries =
+    let full : length (c .before .before .before .before .before .args .plan .entries) ≡ maxEntries =
     simp length-map at (c .before .before .before .before .before .good .0 .1 .1 .1 .1 .1 .0 .1 .0 .1) in
     let counted = c .before .before .before .counted-of .ensures in
     rw (

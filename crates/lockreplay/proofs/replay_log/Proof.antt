@@ -6,9 +6,9 @@ use mathlib.Core.List.{List}
 use native.Mathlib.Omega.{arith}
 use lib.ListN.{length}
 use Rattle.encoding.specs.declared.Outcome.{Outcome}
-use Rattle.encoding.specs.Buffers.{outcomeSays}
+use Rattle.encoding.specs.Buffers.{outcomeAsNumbers}
 use Rattle.encoding.proofs.Outcomes.{bytes-said}
-use Rattle.plans.specs.Reading.{readSays}
+use Rattle.plans.specs.Reading.{readAsNumbers}
 use Rattle.plans.proofs.RoundTrip.{read-inside}
 use Rattle.replay.specs.Openings.{openingLine}
 use Rattle.whole_listing.proofs.Ranges.{line-within}
@@ -16,7 +16,7 @@ use borrow.Author.Needs.{needs}
 use Rattle.lockreplay.proofs.replay_log.Statement.{statement}
 use Rattle.lockreplay.proofs.replay_log.Tie as tie
 
-inside : (plan : List ℕ) (n : ℕ) (o : Outcome) → outcomeSays o ≡ readSays plan → o ≡ Outcome.Bytes n → n ≤ length plan
+inside : (plan : List ℕ) (n : ℕ) (o : Outcome) → outcomeAsNumbers o ≡ readAsNumbers plan → o ≡ Outcome.Bytes n → n ≤ length plan
 inside plan n o says e =
     let read = bytes-said o _ _ says n e in
     omega (arith, read-inside plan (read .0), read .1)

@@ -11,7 +11,7 @@ use Rattle.refusals.specs.Due.{firstOf}
 use Rattle.refusals.proofs.Numbers.{first-accepted, first-assoc, first-of-four, first-accepts-verdict, first-refuses-verdict}
 use Rattle.encoding.specs.Buffers.{shortFault}
 use Rattle.encoding.proofs.Room.{enough-length}
-use Rattle.plans.specs.Entries.{mostEntries, headSize}
+use Rattle.plans.specs.Entries.{maxEntries, countsSize}
 use Rattle.plans.specs.Acceptance.{processorsFault, resourcesFault, countFault}
 use Rattle.plans.specs.Reading.{readFault}
 use Rattle.plans.proofs.Faults.{within-most}
@@ -22,7 +22,7 @@ module _ (s : List ℕ) where
   head-then-body : readFault s ≡ firstOf (headFault s) (bodyFault s)
   unfolding readFault headFault
   head-then-body =
-      let third = first-assoc (shortFault headSize s) (countFault (getD s 2 0)) (bodyFault s) in
+      let third = first-assoc (shortFault countsSize s) (countFault (getD s 2 0)) (bodyFault s) in
       let second = first-assoc (shortFault 2 s) (resourcesFault (getD s 1 0)) (firstOf (thirdCount s) (bodyFault s)) in
       let first = first-assoc (shortFault 1 s) (processorsFault (getD s 0 0)) (firstOf (secondCount s) (firstOf (thirdCount s) (bodyFault s))) in
       sym
@@ -44,5 +44,5 @@ module _ (s : List ℕ) where
     counts-there e =
         let rest = first-accepted (firstCount s) (firstOf (secondCount s) (thirdCount s)) (sym is ∙ ap verdictNumber e) .later in
         let last = first-accepted (secondCount s) (thirdCount s) rest .later in
-        let both = first-accepted (shortFault headSize s) (countFault (getD s 2 0)) last in
-        record { there = enough-length headSize s (both .first); held = within-most 1 mostEntries (getD s 2 0) 4 (both .later) }
+        let both = first-accepted (shortFault countsSize s) (countFault (getD s 2 0)) last in
+        record { there = enough-length countsSize s (both .first); held = within-most 1 maxEntries (getD s 2 0) 4 (both .later) }

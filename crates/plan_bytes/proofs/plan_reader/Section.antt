@@ -14,13 +14,13 @@ use lib.Seq.{drop-drop, set-at, take-all}
 use Rattle.refusals.specs.declared.Refusal.{Refusal}
 use Rattle.refusals.specs.declared.Verdict.{Verdict}
 use Rattle.refusals.specs.Number.{numberOf, verdictNumber}
-use Rattle.refusals.specs.Due.{firstOf, said}
+use Rattle.refusals.specs.Due.{firstOf, asNumbers}
 use Rattle.refusals.proofs.Numbers.{first-of-four, first-accepts-verdict, first-refuses-verdict}
-use Rattle.encoding.specs.Buffers.{outcomeSays}
+use Rattle.encoding.specs.Buffers.{outcomeAsNumbers}
 use Rattle.encoding.proofs.Room.{enough-at}
 use Rattle.plans.specs.declared.Entry.{Entry}
 use Rattle.plans.specs.declared.Read.{Read}
-use Rattle.plans.specs.Entries.{mostEntries, headSize, entrySize, entrySizeOf, sectionSize, planSize, blankEntry}
+use Rattle.plans.specs.Entries.{maxEntries, countsSize, entrySize, entrySizeOf, sectionSize, planSize, blankEntry}
 use Rattle.plans.specs.Acceptance.{kindFault, setFault, lengthFault, entryFault}
 use Rattle.plans.specs.Reading.{entryIn, entriesIn, sectionFault, blankPlan, planIn}
 use Rattle.plans.proofs.Sizes.{entry-size-due, section-size-append, section-size-one}
@@ -30,11 +30,11 @@ use Rattle.plan_bytes.specs.inner.Body.{bodyFault, wholeRead}
 
 -- The first i of n entries are read and have no fault. The next one stands at place `at` of the bytes.
 pub record SoFar (resources n : ℕ) (bytes : List ℕ) (entries : List Entry) (at i : ℕ) : Type 0 where
-  pub place : at ≡ headSize + sectionSize (entriesIn i (drop headSize bytes))
+  pub place : at ≡ countsSize + sectionSize (entriesIn i (drop countsSize bytes))
   pub inside : at ≤ length bytes
   pub counted : i ≤ n
-  pub fault : sectionFault resources n (drop headSize bytes) ≡ sectionFault resources (n - i) (drop at bytes)
-  pub filled : entries ≡ entriesIn i (drop headSize bytes) ++ replicate (mostEntries - i) blankEntry
+  pub fault : sectionFault resources n (drop countsSize bytes) ≡ sectionFault resources (n - i) (drop at bytes)
+  pub filled : entries ≡ entriesIn i (drop countsSize bytes) ++ replicate (maxEntries - i) blankEntry
 
 -- The entry behind the first i.
 abbrev entryAfter : ℕ → List ℕ → Entry
@@ -53,12 +53,12 @@ one-size-more i s =
     ∙ section-size-append (entriesIn i s) (entryAfter i s ∷ [])
     ∙ ap (λ k. sectionSize (entriesIn i s) + k) (section-size-one (entryAfter i s))
 
-store-next : (i : ℕ) (s : List ℕ) → i < mostEntries
-    → set (entriesIn i s ++ replicate (mostEntries - i) blankEntry) i (entryAfter i s)
-    ≡ entriesIn (suc i) s ++ replicate (mostEntries - suc i) blankEntry
+store-next : (i : ℕ) (s : List ℕ) → i < maxEntries
+    → set (entriesIn i s ++ replicate (maxEntries - i) blankEntry) i (entryAfter i s)
+    ≡ entriesIn (suc i) s ++ replicate (maxEntries - suc i) blankEntry
 store-next i s h =
-    let e : mostEntries - i ≡ suc (mostEntries - suc i) = omega arith in
-    let blank = replicate (mostEntries - suc i) blankEntry in
+    let e : maxEntries - i ≡ suc (maxEntries - suc i) = omega arith in
+    let blank = replicate (maxEntries - suc i) blankEntry in
     rw (
       e,
       set-at (entriesIn i s) blankEntry blank (entryAfter i s) i (length-entriesIn i s),
@@ -66,8 +66,8 @@ store-next i s h =
       append-assoc,
     )
 
-pub nothing-read : (resources n : ℕ) (bytes : List ℕ) → headSize ≤ length bytes
-    → SoFar resources n bytes (replicate mostEntries blankEntry) headSize 0
+pub nothing-read : (resources n : ℕ) (bytes : List ℕ) → countsSize ≤ length bytes
+    → SoFar resources n bytes (replicate maxEntries blankEntry) countsSize 0
 unfolding entriesIn sectionSize
 nothing-read resources n bytes h =
     let e : n - 0 ≡ n = omega arith in
@@ -92,7 +92,7 @@ module _
     (resources n : ℕ) (bytes : List ℕ) (entries : List Entry) (at i : ℕ) (h : SoFar resources n bytes entries at i)
   where
     -- The bytes end before the next entry does.
-    pub entry-missing : i < n → length bytes - at < entrySize → sectionFault resources n (drop headSize bytes) ≡ 1
+    pub entry-missing : i < n → length bytes - at < entrySize → sectionFault resources n (drop countsSize bytes) ≡ 1
     unfolding sectionFault
     entry-missing more few =
         let e : n - i ≡ suc (n - suc i) = omega arith in
@@ -112,7 +112,7 @@ module _
         abbrev later : ℕ
         later = sectionFault resources (n - suc i) (drop (at + entrySizeOf e) bytes)
 
-        entry-first : sectionFault resources n (drop headSize bytes)
+        entry-first : sectionFault resources n (drop countsSize bytes)
             ≡ firstOf (verdictNumber kind) (firstOf (setFault resources e) (firstOf (lengthFault e) later))
         unfolding sectionFault entryFault
         entry-first =
@@ -123,48 +123,48 @@ module _
             (sym (first-of-four (kindFault e) (setFault resources e) (lengthFault e) later))
 
         pub kind-refused : (r : Refusal) → kind ≡ Verdict.Refused r
-            → sectionFault resources n (drop headSize bytes) ≡ numberOf r
+            → sectionFault resources n (drop countsSize bytes) ≡ numberOf r
         kind-refused r f = entry-first ∙ first-refuses-verdict kind _ r f
 
         module _
             (kind-passes : kind ≡ Verdict.Accepted) (names : Verdict) (s : verdictNumber names ≡ setFault resources e)
           where
-            names-first : sectionFault resources n (drop headSize bytes)
+            names-first : sectionFault resources n (drop countsSize bytes)
                 ≡ firstOf (verdictNumber names) (firstOf (lengthFault e) later)
             names-first = entry-first ∙ first-accepts-verdict kind _ kind-passes ∙ rw s
 
             pub names-refused : (r : Refusal) → names ≡ Verdict.Refused r
-                → sectionFault resources n (drop headSize bytes) ≡ numberOf r
+                → sectionFault resources n (drop countsSize bytes) ≡ numberOf r
             names-refused r f = names-first ∙ first-refuses-verdict names _ r f
 
             module _
                 (names-pass : names ≡ Verdict.Accepted) (ticks : Verdict) (l : verdictNumber ticks ≡ lengthFault e)
               where
-                ticks-first : sectionFault resources n (drop headSize bytes) ≡ firstOf (verdictNumber ticks) later
+                ticks-first : sectionFault resources n (drop countsSize bytes) ≡ firstOf (verdictNumber ticks) later
                 ticks-first = names-first ∙ first-accepts-verdict names _ names-pass ∙ rw l
 
                 pub ticks-refused : (r : Refusal) → ticks ≡ Verdict.Refused r
-                    → sectionFault resources n (drop headSize bytes) ≡ numberOf r
+                    → sectionFault resources n (drop countsSize bytes) ≡ numberOf r
                 ticks-refused r f = ticks-first ∙ first-refuses-verdict ticks _ r f
 
                 -- The entry has no fault and is stored.
-                pub entry-passes : ticks ≡ Verdict.Accepted → n ≤ mostEntries → (size : ℕ) → size ≡ entrySizeOf e
+                pub entry-passes : ticks ≡ Verdict.Accepted → n ≤ maxEntries → (size : ℕ) → size ≡ entrySizeOf e
                     → SoFar resources n bytes (set entries i e) (at + size) (i + 1)
                 entry-passes a most size sized =
-                    let small : i < mostEntries = omega arith in
+                    let small : i < maxEntries = omega arith in
                     let reached : at ≤ length bytes = h .inside in
-                    let held : e ≡ entryAfter i (drop headSize bytes) =
+                    let held : e ≡ entryAfter i (drop countsSize bytes) =
                     entry-read
-                    ∙ rw (h .place, ← drop-drop (sectionSize (entriesIn i (drop headSize bytes))) headSize bytes)
+                    ∙ rw (h .place, ← drop-drop (sectionSize (entriesIn i (drop countsSize bytes))) countsSize bytes)
                     in
                     record {
                       place =
                           rw add-one
-                          (omega (arith, h .place, one-size-more i (drop headSize bytes), ap entrySizeOf held));
+                          (omega (arith, h .place, one-size-more i (drop countsSize bytes), ap entrySizeOf held));
                       inside = omega (arith, entry-size-due e);
                       counted = omega arith;
                       fault = ticks-first ∙ first-accepts-verdict ticks _ a ∙ rw (sized, add-one);
-                      filled = rw (h .filled, held, add-one) (store-next i (drop headSize bytes) small);
+                      filled = rw (h .filled, held, add-one) (store-next i (drop countsSize bytes) small);
                     }
 
 -- All entries are read: what is said, and the plan.
@@ -186,8 +186,8 @@ module _
     whole-plan = rw (h .filled, all-read)
 
     pub read-whole : (read : Read) → read ≡ wholeRead bytes entries at
-        → (outcomeSays (read .outcome) ≡ said (bodyFault bytes) (planSize (planIn bytes)))
+        → (outcomeAsNumbers (read .outcome) ≡ asNumbers (bodyFault bytes) (planSize (planIn bytes)))
         × (read .plan ≡ cond (eqb (bodyFault bytes) 0) (planIn bytes) blankPlan)
     read-whole read e =
         let size : at ≡ planSize (planIn bytes) = h .place ∙ rw (all-read, counted-planIn) in
-        rw (e, no-fault) (ap (said 0) size, whole-plan)
+        rw (e, no-fault) (ap (asNumbers 0) size, whole-plan)

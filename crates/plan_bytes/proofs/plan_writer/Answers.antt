@@ -7,13 +7,13 @@ use lib.ListN.{length}
 use Rattle.refusals.specs.declared.Refusal.{Refusal}
 use Rattle.refusals.specs.declared.Verdict.{Verdict}
 use Rattle.refusals.specs.Number.{numberOf, verdictNumber}
-use Rattle.refusals.specs.Due.{Said, firstOf, said}
+use Rattle.refusals.specs.Due.{AsNumbers, firstOf, asNumbers}
 use Rattle.refusals.proofs.Numbers.{number-not-zero}
 use Rattle.encoding.specs.Buffers.{roomFault, overwritten}
 use Rattle.plans.specs.declared.Plan.{Plan}
-use Rattle.plans.specs.Entries.{mostEntries, planSize}
+use Rattle.plans.specs.Entries.{maxEntries, planSize}
 use Rattle.plans.specs.Acceptance.{planFault}
-use Rattle.plans.specs.Writing.{planBytes, writeFault, writeSays, writtenBuffer}
+use Rattle.plans.specs.Writing.{planBytes, writeFault, writeAsNumbers, writtenBuffer}
 use Rattle.plans.proofs.Accepted.{accepted-count, accepted-fits, accepted-says, accepted-buffer}
 
 module _
@@ -27,20 +27,20 @@ module _
     none-due : v ≡ Verdict.Accepted → writeFault p (length buffer) at ≡ 0
     none-due e = sym is ∙ ap verdictNumber e
 
-    pub plan-fits : v ≡ Verdict.Accepted → (p .count ≤ mostEntries) × (at + planSize p ≤ length buffer)
+    pub plan-fits : v ≡ Verdict.Accepted → (p .count ≤ maxEntries) × (at + planSize p ≤ length buffer)
     plan-fits e =
         let fits = accepted-fits p buffer at (none-due e) in
         (accepted-count p (fits .0), fits .1)
 
     pub written-answer : v ≡ Verdict.Accepted → (after : List ℕ) → after ≡ overwritten buffer at (planBytes p)
-        → (said 0 n ≡ writeSays p buffer at) × (after ≡ writtenBuffer p buffer at)
+        → (asNumbers 0 n ≡ writeAsNumbers p buffer at) × (after ≡ writtenBuffer p buffer at)
     written-answer e after stored = (
-      ap (said 0) size ∙ sym (accepted-says p buffer at (none-due e)),
+      ap (asNumbers 0) size ∙ sym (accepted-says p buffer at (none-due e)),
       stored ∙ sym (accepted-buffer p buffer at (none-due e)),
     )
 
     pub refused-answer : (r : Refusal) → v ≡ Verdict.Refused r
-        → (_≡_ {A = Said} (record { number = numberOf r; value = 0 }) (writeSays p buffer at))
+        → (_≡_ {A = AsNumbers} (record { number = numberOf r; value = 0 }) (writeAsNumbers p buffer at))
         × (buffer ≡ writtenBuffer p buffer at)
     unfolding writtenBuffer
     refused-answer r e = rw (← is, e, number-not-zero r) (refl, refl)

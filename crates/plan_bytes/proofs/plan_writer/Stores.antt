@@ -11,7 +11,7 @@ use Rattle.encoding.proofs.Room.{stored-where-fits}
 use Rattle.encoding.proofs.Stores.{sets-append, sets-overwritten}
 use Rattle.plans.specs.declared.Entry.{Entry}
 use Rattle.plans.specs.declared.Plan.{Plan}
-use Rattle.plans.specs.Entries.{headSize, entrySizeOf, sectionSize, planSize, countedEntries}
+use Rattle.plans.specs.Entries.{countsSize, entrySizeOf, sectionSize, planSize, countedEntries}
 use Rattle.plans.specs.Writing.{entryBytes, sectionBytes, planBytes}
 use Rattle.plans.proofs.Counted.{none-left, next-left}
 use Rattle.plans.proofs.Sizes.{size-left}
@@ -58,11 +58,11 @@ abbrev pub countsStored : List ℕ → ℕ → Plan → List ℕ
 countsStored l at p = set (set (set l at (p .processors)) (at + 1) (p .resources)) (at + 2) (p .count)
 
 abbrev pub afterCounts : List ℕ → ℕ → Plan → ℕ
-afterCounts l at p = length (countsStored l at p) - (at + headSize)
+afterCounts l at p = length (countsStored l at p) - (at + countsSize)
 
 -- The stores of a plan: the counts, then the section into the rest of the buffer.
 pub plan-stores : (l : List ℕ) (at : ℕ) (p : Plan) → at + planSize p ≤ length l
-    → putMid (at + headSize) (afterCounts l at p) (countsStored l at p) (sets (midOf (at + headSize) (afterCounts l at p) (countsStored l at p)) 0 (sectionBytes (countedEntries p)))
+    → putMid (at + countsSize) (afterCounts l at p) (countsStored l at p) (sets (midOf (at + countsSize) (afterCounts l at p) (countsStored l at p)) 0 (sectionBytes (countedEntries p)))
     ≡ overwritten l at (planBytes p)
 unfolding planBytes
 plan-stores l at p h =
@@ -70,11 +70,11 @@ plan-stores l at p h =
     length-sectionBytes (countedEntries p)
     in
     let fits : length (sectionBytes (countedEntries p)) ≤ afterCounts l at p = simp length-set (omega arith) in
-    let room : at + headSize + afterCounts l at p ≤ length (countsStored l at p) = simp length-set (omega arith) in
+    let room : at + countsSize + afterCounts l at p ≤ length (countsStored l at p) = simp length-set (omega arith) in
     let whole : at + length (planBytes p) ≤ length l = omega arith in
     let one : at + 1 ≡ suc at = omega arith in
     let two : at + 2 ≡ suc (suc at) = omega arith in
-    let three : at + headSize ≡ suc (suc (suc at)) = omega arith in
-    part-stores (at + headSize) (afterCounts l at p) (countsStored l at p) (sectionBytes (countedEntries p)) fits room
+    let three : at + countsSize ≡ suc (suc (suc at)) = omega arith in
+    part-stores (at + countsSize) (afterCounts l at p) (countsStored l at p) (sectionBytes (countedEntries p)) fits room
     ∙ (rw (one, two, three) refl)
     ∙ sets-overwritten l at (planBytes p) whole

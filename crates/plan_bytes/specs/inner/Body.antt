@@ -5,17 +5,17 @@ use lib.ListN.{length, getD, drop}
 use Rattle.encoding.specs.declared.Outcome.{Outcome}
 use Rattle.plans.specs.declared.Entry.{Entry}
 use Rattle.plans.specs.declared.Read.{Read}
-use Rattle.plans.specs.Entries.{mostEntries, headSize}
+use Rattle.plans.specs.Entries.{maxEntries, countsSize}
 use Rattle.plans.specs.Reading.{sectionFault}
 
 -- The first fault of the counted entries.
 abbrev pub bodyFault : List ℕ → ℕ
-bodyFault s = sectionFault (getD s 1 0) (getD s 2 0) (drop headSize s)
+bodyFault s = sectionFault (getD s 1 0) (getD s 2 0) (drop countsSize s)
 
 -- The counts are there, and an array holds the entries.
 pub record CountsThere (s : List ℕ) : Type 0 where
-  pub there : headSize ≤ length s
-  pub held : getD s 2 0 ≤ mostEntries
+  pub there : countsSize ≤ length s
+  pub held : getD s 2 0 ≤ maxEntries
 
 -- Clause 2.8: the counts in the bytes s with these entries, which took so many bytes.
 abbrev pub wholeRead : List ℕ → List Entry → ℕ → Read

@@ -4,7 +4,7 @@ use mathlib.Core.List.{List}
 use lib.ListN.{getD}
 use Rattle.refusals.specs.Due.{firstOf}
 use Rattle.encoding.specs.Buffers.{shortFault}
-use Rattle.plans.specs.Entries.{headSize}
+use Rattle.plans.specs.Entries.{countsSize}
 use Rattle.plans.specs.Acceptance.{processorsFault, resourcesFault, countFault}
 
 -- Clauses 2.3 and 2.9: the count of processors, due (1) before it is looked at.
@@ -17,7 +17,7 @@ secondCount s = firstOf (shortFault 2 s) (resourcesFault (getD s 1 0))
 
 -- Clauses 2.5 and 2.9: the count of entries, likewise.
 abbrev pub thirdCount : List ℕ → ℕ
-thirdCount s = firstOf (shortFault headSize s) (countFault (getD s 2 0))
+thirdCount s = firstOf (shortFault countsSize s) (countFault (getD s 2 0))
 
 -- Clauses 2.9 and 8.2: the first fault of the three counts, in the order of their bytes.
 unfoldable pub headFault : List ℕ → ℕ

@@ -13,7 +13,7 @@ use Rattle.masks.proofs.Masks.{mask-agree}
 use Rattle.masks.proofs.Truth.{and-left, and-right}
 use Rattle.encoding.specs.Buffers.{overwritten, bufferAfter}
 use Rattle.encoding.proofs.Room.{fits-room}
-use Rattle.plans.specs.Entries.{slots, maskSizeFor}
+use Rattle.plans.specs.Entries.{maxProcessors, maskSizeFor}
 use Rattle.masks.specs.Tabulation.{tabulate}
 use Rattle.masks.proofs.Tabulate.{getD-tabulate, tabulate-agree}
 use Rattle.rules.specs.declared.states.Board.{Board}
@@ -31,7 +31,7 @@ use Rattle.queries.proofs.Chains.{chain-reaches, reaches-chain}
 
 -- All that each processor reaches.
 abbrev pub reachedRows : Board → State → List ℕ
-reachedRows b s = tabulate slots (λ p. maskOf slots (reaches b s p))
+reachedRows b s = tabulate maxProcessors (λ p. maskOf maxProcessors (reaches b s p))
 
 same-truth : (a b : Bool) → (a ≡ true → b ≡ true) → (b ≡ true → a ≡ true) → a ≡ b
 same-truth true b f g = sym (f refl)
@@ -49,9 +49,9 @@ module _ (b : Board) (s : State) where
 
   counted-listed : (p : ℕ) → Counted b s p → p < m
   counted-listed p e =
-      let slot : p < slots = ltb-true p slots (and-left (ltb p slots) (ltb p (b .terms .processors)) e) in
+      let slot : p < maxProcessors = ltb-true p maxProcessors (and-left (ltb p maxProcessors) (ltb p (b .terms .processors)) e) in
       let plans : p < b .terms .processors =
-      ltb-true p (b .terms .processors) (and-right (ltb p slots) (ltb p (b .terms .processors)) e) in
+      ltb-true p (b .terms .processors) (and-right (ltb p maxProcessors) (ltb p (b .terms .processors)) e) in
       omega arith
 
   -- A chain passes only these.
@@ -69,22 +69,22 @@ module _ (b : Board) (s : State) where
       → given ≡ directRows b s → rows ≡ rowsThrough (listedOf processors) given
       → rows ≡ reachedRows b s
   rows-reached processors same given rows are e =
-      let places : m ≤ slots = omega arith in
+      let places : m ≤ maxProcessors = omega arith in
       e
       ∙ ap (λ (x : ℕ). rowsThrough (listedOf x) given) same
       ∙ ap (rowsThrough m) are
       ∙ rows-via (waitsFor b s) m places
-      ∙ tabulate-agree slots (λ p. maskOf slots (via (waitsFor b s) m p)) (λ p. maskOf slots (reaches b s p))
-      (λ p l. mask-agree slots (via (waitsFor b s) m p) (reaches b s p) (λ q k. via-reaches p q))
+      ∙ tabulate-agree maxProcessors (λ p. maskOf maxProcessors (via (waitsFor b s) m p)) (λ p. maskOf maxProcessors (reaches b s p))
+      (λ p l. mask-agree maxProcessors (via (waitsFor b s) m p) (reaches b s p) (λ q k. via-reaches p q))
 
   -- The words of k bytes of all that each processor reaches.
   abbrev reachedWords : ℕ → List ℕ
-  reachedWords k = wordsOf k (wordCount k) (λ p. maskOf slots (reaches b s p))
+  reachedWords k = wordsOf k (wordCount k) (λ p. maskOf maxProcessors (reaches b s p))
 
   module _ (rows : List ℕ) (are : rows ≡ reachedRows b s) where
-    pub row-asked : (p : ℕ) → p < slots → getD rows p 0 ≡ maskOf slots (reaches b s p)
+    pub row-asked : (p : ℕ) → p < maxProcessors → getD rows p 0 ≡ maskOf maxProcessors (reaches b s p)
     row-asked p l =
-        ap (λ (xs : List ℕ). getD xs p 0) are ∙ getD-tabulate slots (λ q. maskOf slots (reaches b s q)) p 0 l
+        ap (λ (xs : List ℕ). getD xs p 0) are ∙ getD-tabulate maxProcessors (λ q. maskOf maxProcessors (reaches b s q)) p 0 l
 
     -- What `write_rows` leaves in a scratch with room. There are no more words than rows.
     pub words-stored : (m : ℕ) → m ≡ b .terms .processors → (scratch after : List ℕ) → scratchSize m ≤ length scratch
@@ -94,8 +94,8 @@ module _ (b : Board) (s : State) where
     words-stored m same scratch after room stored =
         let k : ℕ = maskSizeFor m in
         let fits : 0 + scratchSize m ≤ length scratch = omega (arith, room) in
-        let inside : (p : ℕ) → p < wordCount k → p < slots = λ p l. omega (arith, mask-size-small m) in
-        let words = words-agree k (wordCount k) (λ p. getD rows p 0) (λ p. maskOf slots (reaches b s p))
+        let inside : (p : ℕ) → p < wordCount k → p < maxProcessors = λ p l. omega (arith, mask-size-small m) in
+        let words = words-agree k (wordCount k) (λ p. getD rows p 0) (λ p. maskOf maxProcessors (reaches b s p))
         (λ p l. row-asked p (inside p l)) in
         rw (fits-room (scratchSize m) (length scratch) 0 fits) at stored
         ∙ ap (λ (bytes : List ℕ). overwritten scratch 0 bytes) words

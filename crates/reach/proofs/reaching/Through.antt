@@ -12,7 +12,7 @@ use lib.ListN.{getD}
 use Rattle.masks.specs.Sets.{bit, maskOf}
 use Rattle.masks.proofs.Masks.{bit-mask-at, mask-agree, mask-or}
 use Rattle.masks.proofs.Truth.{and-left, and-right, and-both, or-cases, or-left, or-right}
-use Rattle.plans.specs.Entries.{slots}
+use Rattle.plans.specs.Entries.{maxProcessors}
 use Rattle.masks.specs.Tabulation.{tabulate}
 use Rattle.masks.proofs.Tabulate.{getD-tabulate, tabulate-agree}
 use Rattle.reach.specs.Rows.{joinedRow, rowsThrough}
@@ -32,27 +32,27 @@ module _ (W : ℕ → ℕ → Bool) where
   -- ---- as rows
 
   abbrev pub viaRows : ℕ → List ℕ
-  viaRows k = tabulate slots (λ p. maskOf slots (via k p))
+  viaRows k = tabulate maxProcessors (λ p. maskOf maxProcessors (via k p))
 
-  row-joined : (k p : ℕ) → k < slots → p < slots → joinedRow (viaRows k) k p ≡ maskOf slots (via (suc k) p)
+  row-joined : (k p : ℕ) → k < maxProcessors → p < maxProcessors → joinedRow (viaRows k) k p ≡ maskOf maxProcessors (via (suc k) p)
   unfolding joinedRow via
   row-joined k p l m =
-      let mine : getD (viaRows k) p 0 ≡ maskOf slots (via k p) =
-      getD-tabulate slots (λ r. maskOf slots (via k r)) p 0 m in
-      let other : getD (viaRows k) k 0 ≡ maskOf slots (via k k) =
-      getD-tabulate slots (λ r. maskOf slots (via k r)) k 0 l in
+      let mine : getD (viaRows k) p 0 ≡ maskOf maxProcessors (via k p) =
+      getD-tabulate maxProcessors (λ r. maskOf maxProcessors (via k r)) p 0 m in
+      let other : getD (viaRows k) k 0 ≡ maskOf maxProcessors (via k k) =
+      getD-tabulate maxProcessors (λ r. maskOf maxProcessors (via k r)) k 0 l in
       ap₂ (λ (x y : ℕ). cond (bit x k) (bitOr x y) x) mine other
-      ∙ ap (λ t. cond t (bitOr (maskOf slots (via k p)) (maskOf slots (via k k))) (maskOf slots (via k p)))
-      (bit-mask-at slots (via k p) k l)
-      ∙ sym (join-if slots (via k p) (via k k) (via k p k))
+      ∙ ap (λ t. cond t (bitOr (maskOf maxProcessors (via k p)) (maskOf maxProcessors (via k k))) (maskOf maxProcessors (via k p)))
+      (bit-mask-at maxProcessors (via k p) k l)
+      ∙ sym (join-if maxProcessors (via k p) (via k k) (via k p k))
 
-  pub rows-via : (k : ℕ) → k ≤ slots → rowsThrough k (tabulate slots (λ p. maskOf slots (W p))) ≡ viaRows k
+  pub rows-via : (k : ℕ) → k ≤ maxProcessors → rowsThrough k (tabulate maxProcessors (λ p. maskOf maxProcessors (W p))) ≡ viaRows k
   unfolding rowsThrough via
   rows-via zero l = refl
   rows-via (suc k) l =
-      let before : k ≤ slots = omega arith in
-      ap (λ (rows : List ℕ). tabulate slots (joinedRow rows k)) (rows-via k before)
-      ∙ tabulate-agree slots (joinedRow (viaRows k) k) (λ p. maskOf slots (via (suc k) p)) (λ p m. row-joined k p l m)
+      let before : k ≤ maxProcessors = omega arith in
+      ap (λ (rows : List ℕ). tabulate maxProcessors (joinedRow rows k)) (rows-via k before)
+      ∙ tabulate-agree maxProcessors (joinedRow (viaRows k) k) (λ p. maskOf maxProcessors (via (suc k) p)) (λ p m. row-joined k p l m)
 
   -- ---- as paths
 

@@ -38,7 +38,7 @@ use denote.Triple.Clauses.{ensured, lasts}
 use denote.Exit.{yes}
 use Rattle.registers.specs.declared.Block.{Block}
 use Rattle.registers.specs.declared.ReadAnswer.{ReadAnswer}
-use Rattle.registers.specs.Registers.{registerRead, registerSays}
+use Rattle.registers.specs.Registers.{registerRead, registerAsNumbers}
 use Rattle.registers.proofs.Block as T
 use Rattle.registers.proofs.Block.Laws as T′
 use Rattle.registers.proofs.ReadAnswer as S
@@ -72,10 +72,10 @@ module _ {M : Type 1} (𝓤 : URA M) (H : Heap 𝓤) (A : Atoms 𝓤) (W : Given
   abbrev Post : Val → SProp 𝓤
   Post = walkOf 𝓤 H A here.ended stayed (here.clauses 𝓤 H A mem run) .post (((κ, tt), (q, tt), tt, x, at), tt)
 
-  abbrev Said : ReadAnswer → Type 0
-  Said r = registerSays r ≡ registerRead h n
+  abbrev AsNumbers : ReadAnswer → Type 0
+  AsNumbers r = registerAsNumbers r ≡ registerRead h n
 
-  exits : (r : ReadAnswer) (u : Val) → Said r
+  exits : (r : ReadAnswer) (u : Val) → AsNumbers r
       → ent 𝓤 (⋆ 𝓤 H A (‵ (S.the-row .own r (u ∷ [])) ∷ ‵ (flft κ q) ∷ ‵ (fres γ (T.the-row .coded .code h)) ∷ ‵ (fshr-bor κ (λ s. partAt T.the-row s h b o)) ∷ [])) (Post u)
   exits r u e =
       qed W (‵ (S.the-row .own r (u ∷ [])) ∷ ‵ (flft κ q) ∷ ‵ (fres γ (T.the-row .coded .code h)) ∷ ‵ (fshr-bor κ (λ s. partAt T.the-row s h b o)) ∷ []) ∵
@@ -91,8 +91,8 @@ module _ {M : Type 1} (𝓤 : URA M) (H : Heap 𝓤) (A : Atoms 𝓤) (W : Given
   goes-read = qed W (‵ ftrue ∷ ‵ (owns (T.the-row ∷ u8 ∷ []) (h, (n, tt)) (mach ∷ [], (vint w8 n ∷ [], tt))) ∷ []) ∵ join ! $ frame ! $ done !
 
   -- only the clause of `read`'s `ensured`: there is no `&mut`, so the part about last values is dropped
-  said-of : (r : ReadAnswer) → ent 𝓤 (ensured 𝓤 H A read.ended (read.clauses 𝓤 H A mem run) tt (h, (n, tt)) tt r) (fact 𝓤 (Said r))
-  said-of r = exE 𝓤 _ (λ ws. snd∗ 𝓤 (sem 𝓤 H A (lasts read.ended tt (h, (n, tt)) ws)) (fact 𝓤 (Said r)))
+  said-of : (r : ReadAnswer) → ent 𝓤 (ensured 𝓤 H A read.ended (read.clauses 𝓤 H A mem run) tt (h, (n, tt)) tt r) (fact 𝓤 (AsNumbers r))
+  said-of r = exE 𝓤 _ (λ ws. snd∗ 𝓤 (sem 𝓤 H A (lasts read.ended tt (h, (n, tt)) ws)) (fact 𝓤 (AsNumbers r)))
 
   module _ (C : Calls 𝓤 H) (Λ : Loops 𝓤 H) (fm : FmC 𝓤 H (W .laws) C) (known : Triple 𝓤 (C #registers·read) (Read 𝓤 H A mem run)) where
     walk : ent 𝓤 (onEntry 𝓤 H A here.signature (κ, tt) (q, tt) x at) (WpFn 𝓤 H C Λ code.function (vptr b o ∷ vint w8 n ∷ []) Post)
@@ -112,7 +112,7 @@ module _ {M : Type 1} (𝓤 : URA M) (H : Heap 𝓤) (A : Atoms 𝓤) (W : Given
         nothing ! $ use2 W (raw (Read 𝓤 H A mem run .pre to-read)) goes-read $
         calls-at ! fm (Read 𝓤 H A mem run) known to-read (and-then ! (load ! (from ! (stop !)) (look ! 6 refl)) (and-then ! (load ! (from ! (stop !)) (look ! 8 refl)) (no-more !))) (λ u.
         use1 W (later (some (λ (r : ReadAnswer). (‵ ftrue ⊛ ‵ (S.the-row .own r (u ∷ []))) ⊛ raw (ensured 𝓤 H A read.ended (read.clauses 𝓤 H A mem run) tt (h, (n, tt)) tt r)))) (id⊢ 𝓤 _) $ await ! tt $ pick ! (λ r.
-        split ! $ move ! (1 ∷ []) $ use1 W (raw (fact 𝓤 (Said r))) (said-of r) $ heard ! (Said r) (λ e. split ! $ drop ! $
+        split ! $ move ! (1 ∷ []) $ use1 W (raw (fact 𝓤 (AsNumbers r))) (said-of r) $ heard ! (AsNumbers r) (λ e. split ! $ drop ! $
         -- [the result; the token; the fractured borrow; true; res; the offset; _3; …; _2; …; _1; …; room for _0; …]
         peeks ! S.the-row (Is S.the-row) (shows 𝓤 H A S.the-row) r (u ∷ []) (λ is.
         land ! (from ! (stop !)) (init ! 12 refl (EL.lawful S.the-type S′.the-laws 𝓤 H A W tt .typed r _ is .0)) $

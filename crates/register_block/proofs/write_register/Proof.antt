@@ -46,7 +46,7 @@ use Rattle.rules.specs.declared.states.State.{State}
 use Rattle.rules.specs.InPlace.{boardBy}
 use Rattle.registers.specs.declared.Block.{Block}
 use Rattle.register_block.specs.declared.commands.Change.{Change}
-use Rattle.register_block.specs.Commands.{registerWrite, changeSays}
+use Rattle.register_block.specs.Commands.{registerWrite, changeAsNumbers}
 use Rattle.rules.proofs.states.Terms as TT
 use Rattle.rules.proofs.states.Terms.Laws as TT′
 use Rattle.rules.proofs.states.State as ST
@@ -134,21 +134,21 @@ module _ {M : Type 1} (𝓤 : URA M) (H : Heap 𝓤) (A : Atoms 𝓤) (W : Given
   abbrev Post : Val → SProp 𝓤
   Post = walkOf 𝓤 H A here.ended stayed (here.clauses 𝓤 H A at-mem run) .post (((κ₀, (κ₁, (κ₂, tt))), (q₀, (q₁, (q₂, tt))), tt, x, at), tt)
 
-  abbrev Said : Change → Type 0
-  Said r = changeSays r ≡ registerWrite (boardBy terms (rows .now) (lengths .now)) state h n v
+  abbrev AsNumbers : Change → Type 0
+  AsNumbers r = changeAsNumbers r ≡ registerWrite (boardBy terms (rows .now) (lengths .now)) state h n v
 
   goes-write : ent 𝓤 (sep 𝓤 (mean 𝓤 H A Tokens) (sem 𝓤 H A Passed)) (Write 𝓤 H A at-mem run .pre to-write)
   goes-write = qed W (Tokens ∷ ‵ Passed ∷ []) ∵ join ! $ frame ! $ done !
 
   -- only the clause of `write`'s `ensured`: there is no `&mut`, so the part about last values is dropped
-  said-of : (r : Change) → ent 𝓤 (ensured 𝓤 H A write.ended (write.clauses 𝓤 H A at-mem run) (κ₁, (κ₂, tt)) passed tt r) (fact 𝓤 (Said r))
-  said-of r = exE 𝓤 _ (λ ws. snd∗ 𝓤 (sem 𝓤 H A (lasts write.ended (κ₁, (κ₂, tt)) passed ws)) (fact 𝓤 (Said r)))
+  said-of : (r : Change) → ent 𝓤 (ensured 𝓤 H A write.ended (write.clauses 𝓤 H A at-mem run) (κ₁, (κ₂, tt)) passed tt r) (fact 𝓤 (AsNumbers r))
+  said-of r = exE 𝓤 _ (λ ws. snd∗ 𝓤 (sem 𝓤 H A (lasts write.ended (κ₁, (κ₂, tt)) passed ws)) (fact 𝓤 (AsNumbers r)))
 
   module _ (terms-is : Is TT.the-row terms (terms-val ∷ [])) (state-is : Is ST.the-row state (state-val ∷ [])) (n-fits : n < 2 ^ 8) (v-fits : v < 2 ^ 8) where
     abbrev written-val : Change → Val
     written-val r = LL.val R.the-type R′.the-laws (r .written)
 
-    exits : (r : Change) → Is R.the-row (r .written) (written-val r ∷ []) → Said r
+    exits : (r : Change) → Is R.the-row (r .written) (written-val r ∷ []) → AsNumbers r
         → ent 𝓤 (⋆ 𝓤 H A (‵ (fobs γ (B.the-row .coded .code (r .block))) ∷ ‵ (fbor κ₀ (Body (mem B.the-row) b o γ)) ∷ ‵ (flft κ₀ q₀) ∷ Tokens ∷ ‵ (Lengths .own lengths (ptr-vals lengths)) ∷ ‵ (Rows .own rows (ptr-vals rows)) ∷ [])) (Post (written-val r))
     exits r is e =
         qed W (‵ (fobs γ (B.the-row .coded .code (r .block))) ∷ ‵ (fbor κ₀ (Body (mem B.the-row) b o γ)) ∷ ‵ (flft κ₀ q₀) ∷ Tokens ∷ ‵ (Lengths .own lengths (ptr-vals lengths)) ∷ ‵ (Rows .own rows (ptr-vals rows)) ∷ []) ∵
@@ -200,7 +200,7 @@ module _ {M : Type 1} (𝓤 : URA M) (H : Heap 𝓤) (A : Atoms 𝓤) (W : Given
           (and-then ! (load ! (from ! (stop !)) (look ! 22 refl)) (and-then ! (load ! (from ! (stop !)) (look ! 20 refl)) (and-then ! (load ! (from ! (stop !)) (look ! 18 refl)) (and-then ! (load ! (from ! (stop !)) (look ! 16 refl))
           (and-then ! (load ! (from ! (stop !)) (look ! 8 refl)) (and-then ! (load ! (from ! (stop !)) (look ! 14 refl)) (and-then ! (load ! (from ! (stop !)) (look ! 12 refl)) (no-more !)))))))) (λ u.
           use1 W (later (some (λ (r : Change). (Tokens ⊛ ‵ (D.the-row .own r (u ∷ []))) ⊛ raw (ensured 𝓤 H A write.ended (write.clauses 𝓤 H A at-mem run) (κ₁, (κ₂, tt)) passed tt r)))) (id⊢ 𝓤 _) $ await ! tt $ pick ! (λ r.
-          split ! $ move ! (1 ∷ []) $ use1 W (raw (fact 𝓤 (Said r))) (said-of r) $ heard ! (Said r) (λ e. split ! $ move ! (1 ∷ []) $
+          split ! $ move ! (1 ∷ []) $ use1 W (raw (fact 𝓤 (AsNumbers r))) (said-of r) $ heard ! (AsNumbers r) (λ e. split ! $ move ! (1 ∷ []) $
           peeks ! D.the-row (Is D.the-row) (shows 𝓤 H A D.the-row) r (u ∷ []) (λ is.
           land ! (from ! (stop !)) (init ! 11 refl (LL.lawful D.the-type D′.the-laws 𝓤 H A W .typed r _ is .0)) $
           rewrite ! 11 (λ (w : Val). ‵ (fat fullShare D′.mir l₈ 0 w)) (ap only (LL.tells D.the-type D′.the-laws r _ is)) refl $

@@ -13,10 +13,10 @@ use Rattle.masks.specs.Sets.{bit, maskOf}
 use Rattle.masks.proofs.Places.{bit-or}
 use Rattle.masks.proofs.Tests.{Mask, agree-is, all-is, cut-is, any-and}
 use Rattle.masks.proofs.Stores.{stored-at}
-use Rattle.plans.specs.Entries.{slots}
+use Rattle.plans.specs.Entries.{maxProcessors}
 use Rattle.masks.specs.Tabulation.{tabulate}
 use Rattle.masks.proofs.Tabulate.{length-tabulate, getD-tabulate}
-use Rattle.rules.specs.declared.settling.Phases.{Phases}
+use Rattle.rules.specs.declared.states.Phases.{Phases}
 use Rattle.rules.specs.Requests.{active}
 use Rattle.rules.specs.Acts.{putLast}
 
@@ -30,39 +30,39 @@ is-tabulate n f xs full same =
 abbrev pub others : ℕ → ℕ → Bool
 others p q = not (eqb q p)
 
-active-is : (ph : Phases) → Mask slots (active ph) (bitAnd (bitOr (bitOr (ph .waiting) (ph .entitled)) (ph .holding)) (2 ^ slots - 1))
+active-is : (ph : Phases) → Mask maxProcessors (active ph) (bitAnd (bitOr (bitOr (ph .waiting) (ph .entitled)) (ph .holding)) (2 ^ maxProcessors - 1))
 active-is ph =
     agree-is (λ k l. bit-or (bitOr (ph .waiting) (ph .entitled)) (ph .holding) k
-    ∙ ap (λ t. t || bit (ph .holding) k) (bit-or (ph .waiting) (ph .entitled) k)) (cut-is slots _)
+    ∙ ap (λ t. t || bit (ph .holding) k) (bit-or (ph .waiting) (ph .entitled) k)) (cut-is maxProcessors _)
 
 -- All but a processor that a state has no place for are all.
-pub all-but-none : (p : ℕ) → slots ≤ p → 2 ^ slots - 1 ≡ maskOf slots (others p)
-all-but-none p h = agree-is (λ k l. ap not (sym (ne-eqb k p (λ e. omega (arith, e))))) (all-is slots) .is
+pub all-but-none : (p : ℕ) → maxProcessors ≤ p → 2 ^ maxProcessors - 1 ≡ maskOf maxProcessors (others p)
+all-but-none p h = agree-is (λ k l. ap not (sym (ne-eqb k p (λ e. omega (arith, e))))) (all-is maxProcessors) .is
 
-module _ (earlier kept : List ℕ) (ph : Phases) (p keep : ℕ) (ek : keep ≡ maskOf slots (others p))
-    (et : kept ≡ tabulate slots (λ q. bitAnd (getD earlier q 0) keep)) where
-  full : length kept ≡ slots
-  full = ap length et ∙ length-tabulate slots (λ q. bitAnd (getD earlier q 0) keep)
+module _ (earlier kept : List ℕ) (ph : Phases) (p keep : ℕ) (ek : keep ≡ maskOf maxProcessors (others p))
+    (et : kept ≡ tabulate maxProcessors (λ q. bitAnd (getD earlier q 0) keep)) where
+  full : length kept ≡ maxProcessors
+  full = ap length et ∙ length-tabulate maxProcessors (λ q. bitAnd (getD earlier q 0) keep)
 
   -- What is kept of the sets of others.
-  kept-at : (k : ℕ) → k < slots → getD kept k 0 ≡ maskOf slots (λ r. bit (getD earlier k 0) r && not (eqb r p))
+  kept-at : (k : ℕ) → k < maxProcessors → getD kept k 0 ≡ maskOf maxProcessors (λ r. bit (getD earlier k 0) r && not (eqb r p))
   kept-at k m =
-      ap (λ xs. getD xs k 0) et ∙ getD-tabulate slots (λ q. bitAnd (getD earlier q 0) keep) k 0 m
+      ap (λ xs. getD xs k 0) et ∙ getD-tabulate maxProcessors (λ q. bitAnd (getD earlier q 0) keep) k 0 m
       ∙ any-and (getD earlier k 0) (record { is = ek }) .is
 
-  pub last-put : p < slots
-      → set kept p (bitAnd (bitOr (bitOr (ph .waiting) (ph .entitled)) (ph .holding)) (2 ^ slots - 1)) ≡ putLast earlier ph p
+  pub last-put : p < maxProcessors
+      → set kept p (bitAnd (bitOr (bitOr (ph .waiting) (ph .entitled)) (ph .holding)) (2 ^ maxProcessors - 1)) ≡ putLast earlier ph p
   unfolding putLast
   last-put l =
-      is-tabulate slots _ _ (length-set kept p _ ∙ full)
+      is-tabulate maxProcessors _ _ (length-set kept p _ ∙ full)
       (λ k m. stored-at kept p _ k (omega (arith, full))
       ∙ ap₂ (λ (x y : ℕ). cond (eqb k p) x y) (active-is ph .is) (kept-at k m))
 
   -- A processor that a state has no place for is put in nowhere.
-  pub none-put : slots ≤ p → kept ≡ putLast earlier ph p
+  pub none-put : maxProcessors ≤ p → kept ≡ putLast earlier ph p
   unfolding putLast
   none-put l =
-      is-tabulate slots _ _ full
+      is-tabulate maxProcessors _ _ full
       (λ k m. kept-at k m
-      ∙ ap (λ t. cond t (maskOf slots (active ph)) (maskOf slots (λ r. bit (getD earlier k 0) r && not (eqb r p))))
+      ∙ ap (λ t. cond t (maskOf maxProcessors (active ph)) (maskOf maxProcessors (λ r. bit (getD earlier k 0) r && not (eqb r p))))
       (sym (ne-eqb k p (λ e. omega (arith, e)))))

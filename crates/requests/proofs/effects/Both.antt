@@ -7,23 +7,23 @@ use lib.Bits.{bitAnd, bitOr}
 use Rattle.masks.specs.Sets.{bit}
 use Rattle.masks.proofs.Places.{bit-or}
 use Rattle.masks.proofs.Tests.{Mask, agree-is, cut-is, any-and}
-use Rattle.plans.specs.Entries.{slots}
+use Rattle.plans.specs.Entries.{maxProcessors}
 use Rattle.rules.specs.Calls.{Answer, both}
 use Rattle.rules.specs.InPlace.{stateBy}
-use Rattle.requests.specs.declared.effects.Carried.{Carried}
-use Rattle.requests.specs.Carried.{carriedSays}
+use Rattle.requests.specs.declared.effects.Effect.{Effect}
+use Rattle.requests.specs.Effect.{effectAsNumbers}
 
-pub merged-both : (first second : Carried) (tick : ℕ) (entry entry₂ since since₂ earlier earlier₂ : List ℕ)
+pub merged-both : (first second : Effect) (tick : ℕ) (entry entry₂ since since₂ earlier earlier₂ : List ℕ)
     → _≡_ {A = Answer}
-    (carriedSays
+    (effectAsNumbers
     (record {
-      granted = bitAnd (bitOr (first .granted) (second .granted)) (2 ^ slots - 1);
-      entitled = bitAnd (bitOr (first .entitled) (second .entitled)) (bitAnd (second .phases .entitled) (2 ^ slots - 1));
+      granted = bitAnd (bitOr (first .granted) (second .granted)) (2 ^ maxProcessors - 1);
+      entitled = bitAnd (bitOr (first .entitled) (second .entitled)) (bitAnd (second .phases .entitled) (2 ^ maxProcessors - 1));
       late = first .late;
       phases = second .phases;
     })
     tick entry₂ since₂ earlier₂)
-    (both (carriedSays first tick entry since earlier) (carriedSays second tick entry₂ since₂ earlier₂))
+    (both (effectAsNumbers first tick entry since earlier) (effectAsNumbers second tick entry₂ since₂ earlier₂))
 unfolding both
 merged-both first second tick entry entry₂ since since₂ earlier earlier₂ =
     λ i. record {
@@ -31,11 +31,11 @@ merged-both first second tick entry entry₂ since since₂ earlier earlier₂ =
       state = stateBy (record { last = tick; phases = second .phases }) entry₂ since₂ earlier₂;
     }
   where
-    granted : Mask slots (λ q. bit (first .granted) q || bit (second .granted) q) (bitAnd (bitOr (first .granted) (second .granted)) (2 ^ slots - 1))
-    granted = agree-is (λ k l. bit-or (first .granted) (second .granted) k) (cut-is slots _)
+    granted : Mask maxProcessors (λ q. bit (first .granted) q || bit (second .granted) q) (bitAnd (bitOr (first .granted) (second .granted)) (2 ^ maxProcessors - 1))
+    granted = agree-is (λ k l. bit-or (first .granted) (second .granted) k) (cut-is maxProcessors _)
 
-    entitled : Mask slots (λ q. (bit (first .entitled) q || bit (second .entitled) q) && bit (second .phases .entitled) q)
-        (bitAnd (bitOr (first .entitled) (second .entitled)) (bitAnd (second .phases .entitled) (2 ^ slots - 1)))
+    entitled : Mask maxProcessors (λ q. (bit (first .entitled) q || bit (second .entitled) q) && bit (second .phases .entitled) q)
+        (bitAnd (bitOr (first .entitled) (second .entitled)) (bitAnd (second .phases .entitled) (2 ^ maxProcessors - 1)))
     entitled =
         agree-is (λ k l. ap (λ t. t && bit (second .phases .entitled) k) (bit-or (first .entitled) (second .entitled) k))
-        (any-and (bitOr (first .entitled) (second .entitled)) (cut-is slots (second .phases .entitled)))
+        (any-and (bitOr (first .entitled) (second .entitled)) (cut-is maxProcessors (second .phases .entitled)))

@@ -6,34 +6,34 @@ use mathlib.Core.List.{List}
 use lib.Dec.{ltb}
 use lib.ListN.{length, getD}
 use Rattle.masks.specs.Sets.{bit, maskOf}
-use Rattle.plans.specs.Entries.{slots, mostEntries}
-use Rattle.rules.specs.declared.settling.Phases.{Phases}
+use Rattle.plans.specs.Entries.{maxProcessors, maxEntries}
+use Rattle.rules.specs.declared.states.Phases.{Phases}
 use Rattle.rules.specs.Requests.{Facts, isEarlier, against}
 
 -- There is a row for each entry, and a place for each in a row.
 pub record Table (rows : List ℕ) : Type 0 where
-  pub count : length rows ≡ mostEntries
-  pub places : (e : ℕ) → getD rows e 0 < 2 ^ mostEntries
+  pub count : length rows ≡ maxEntries
+  pub places : (e : ℕ) → getD rows e 0 < 2 ^ maxEntries
 
 -- The processors whose requests' entries have a row. The others' are no writes and conflict with none.
 abbrev pub knownIn : List ℕ → ℕ
-knownIn entry = maskOf slots (λ p. ltb (getD entry p 0) mostEntries)
+knownIn requested = maskOf maxProcessors (λ p. ltb (getD requested p 0) maxEntries)
 
 -- A mask of such processors alone.
-pub record Known (entry : List ℕ) (among : ℕ) : Type 0 where
-  pub within : among < 2 ^ slots
-  pub entries : (p : ℕ) → bit among p ≡ true → getD entry p 0 < mostEntries
+pub record Known (requested : List ℕ) (among : ℕ) : Type 0 where
+  pub within : among < 2 ^ maxProcessors
+  pub entries : (p : ℕ) → bit among p ≡ true → getD requested p 0 < maxEntries
 
 -- The candidates whose requests conflict with that of none of the others, and with that of no earlier one of them.
 abbrev pub unopposedIn : Facts → ℕ → ℕ → ℕ
-unopposedIn f candidates others = maskOf slots (λ p. bit candidates p && not (against f p (bit others)))
+unopposedIn f candidates others = maskOf maxProcessors (λ p. bit candidates p && not (against f p (bit others)))
 
 abbrev pub firstInLine : Facts → ℕ → ℕ → ℕ
 firstInLine f candidates others =
-    maskOf slots (λ p. bit candidates p && not (against f p (λ q. isEarlier f q p && bit others q)))
+    maskOf maxProcessors (λ p. bit candidates p && not (against f p (λ q. isEarlier f q p && bit others q)))
 
 -- The three masks are those of the phases, for the processors that there are.
 pub record Follows (ph : Phases) (waiting entitled holding : ℕ) : Type 0 where
-  pub waits : waiting ≡ maskOf slots (bit (ph .waiting))
-  pub entitles : entitled ≡ maskOf slots (bit (ph .entitled))
-  pub holds : holding ≡ maskOf slots (bit (ph .holding))
+  pub waits : waiting ≡ maskOf maxProcessors (bit (ph .waiting))
+  pub entitles : entitled ≡ maskOf maxProcessors (bit (ph .entitled))
+  pub holds : holding ≡ maskOf maxProcessors (bit (ph .holding))

@@ -5,7 +5,7 @@ use mathlib.Core.Path.{_≡_}
 use mathlib.Core.Bool.{Bool, false, cond}
 use lib.ListN.{getD}
 use Rattle.masks.specs.Sets.{bit}
-use Rattle.plans.specs.Entries.{slots}
+use Rattle.plans.specs.Entries.{maxProcessors}
 use Rattle.rules.specs.Requests.{conflicts}
 use Rattle.rules.specs.declared.states.Board.{Board}
 use Rattle.rules.specs.declared.states.State.{State}
@@ -38,7 +38,7 @@ pub record Arbiter (b : Board) (group : ℕ → Bool) (Lr Lw : ℕ) : Type 1 whe
   pub safe-act : (s : State) (t : ℕ) (a : Act) → Clean b s → Safe s → Allowed b s t a → Safe (stateAfterAct b s t a)
   pub timed-act : (s : State) (t : ℕ) (a : Act) → Clean b s → Safe s → Timed s → Kept b group s t → Allowed b s t a
       → Timed (stateAfterAct b s t a)
-  pub exclusive : (s : State) (p q : ℕ) → Clean b s → Safe s → p < slots → q < slots → (p ≡ q → ⊥)
+  pub exclusive : (s : State) (p q : ℕ) → Clean b s → Safe s → p < maxProcessors → q < maxProcessors → (p ≡ q → ⊥)
       → phaseIn s p ≡ holding
       → phaseIn s q ≡ holding → conflicts (factsOf b s) p q ≡ false
   pub bounded : (s : State) (t : ℕ) → Clean b s → Safe s → Timed s → Kept b group s t

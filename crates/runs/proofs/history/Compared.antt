@@ -8,7 +8,7 @@ use lib.Dec.{eqb}
 use borrow.Author.Tests.{eq-eqb, ne-eqb}
 use Rattle.masks.specs.Sets.{bit}
 use Rattle.masks.proofs.Masks.{bit-mask-at}
-use Rattle.plans.specs.Entries.{slots}
+use Rattle.plans.specs.Entries.{maxProcessors}
 use Rattle.rules.specs.declared.states.Board.{Board}
 use Rattle.rules.specs.declared.states.State.{State}
 use Rattle.rules.specs.Acts.{began, became}
@@ -57,13 +57,13 @@ set-at-the-end false false false h = refl
 
 -- ---- one act
 
-module _ (b : Board) (s : State) (t : ℕ) (a : Act) (c : Clean b s) (k : Allowed b s t a) (q : ℕ) (l : q < slots) where
+module _ (b : Board) (s : State) (t : ℕ) (a : Act) (c : Clean b s) (k : Allowed b s t a) (q : ℕ) (l : q < maxProcessors) where
   granted-at : bit (grantsIn b s t a) q ≡ (holdsAt (stateAfterAct b s t a) q && not (holdsAt (startOf s t a) q))
-  granted-at = bit-mask-at slots (began (startOf s t a .phases) (phasesAfter b s t a)) q l
+  granted-at = bit-mask-at maxProcessors (began (startOf s t a .phases) (phasesAfter b s t a)) q l
 
   entitled-at : bit (entitlesIn b s t a) q
       ≡ (entitledAt (stateAfterAct b s t a) q && not (entitledAt (startOf s t a) q))
-  entitled-at = bit-mask-at slots (became (startOf s t a .phases) (phasesAfter b s t a)) q l
+  entitled-at = bit-mask-at maxProcessors (became (startOf s t a .phases) (phasesAfter b s t a)) q l
 
   own-rises : Rises (phaseIn (startOf s t a) q) (phaseIn (stateAfterAct b s t a) q)
   own-rises = settled-rises (factsOf b (startOf s t a)) everyEntry (startOf s t a .phases) (start-tidy b s t c a k) q l
@@ -111,7 +111,7 @@ module _ (b : Board) (s : State) (t p e late : ℕ) (c : Clean b s) (k : BothAll
 
   -- ---- another processor
 
-  module _ (q : ℕ) (l : q < slots) (other : q ≡ p → ⊥) where
+  module _ (q : ℕ) (l : q < maxProcessors) (other : q ≡ p → ⊥) where
     rises₁ : Rises (phaseIn s q) (phaseIn (stateAfterAct b s t (takes p)) q)
     rises₁ = other-rises b s t (takes p) c (k .first) q l other
 
@@ -131,7 +131,7 @@ module _ (b : Board) (s : State) (t p e late : ℕ) (c : Clean b s) (k : BothAll
     granted-other : bit (bothAnswer b s t p e late .reply .granted) q ≡ (holdsAt s₂ q && not (holdsAt s q))
     unfolding both
     granted-other =
-        bit-mask-at slots _ q l
+        bit-mask-at maxProcessors _ q l
         ∙ ap₂ _||_ (other-granted b s t (takes p) c (k .first) q l other)
         (other-granted b s₁ t (puts p e) clean₁ (k .second) q l other)
         ∙ set-by-either (holdsAt s q) (holdsAt s₁ q) (holdsAt s₂ q)
@@ -141,7 +141,7 @@ module _ (b : Board) (s : State) (t p e late : ℕ) (c : Clean b s) (k : BothAll
     entitled-other : bit (bothAnswer b s t p e late .reply .entitled) q ≡ (entitledAt s₂ q && not (entitledAt s q))
     unfolding both
     entitled-other =
-        bit-mask-at slots _ q l
+        bit-mask-at maxProcessors _ q l
         ∙ ap₂ (λ x y. (x || y) && entitledAt s₂ q) (other-entitled b s t (takes p) c (k .first) q l other)
         (other-entitled b s₁ t (puts p e) clean₁ (k .second) q l other)
         ∙ set-at-the-end (entitledAt s q) (entitledAt s₁ q) (entitledAt s₂ q) entitled-between
@@ -163,7 +163,7 @@ module _ (b : Board) (s : State) (t p e late : ℕ) (c : Clean b s) (k : BothAll
   granted-own : bit (bothAnswer b s t p e late .reply .granted) p ≡ holdsAt s₂ p
   unfolding both
   granted-own =
-      bit-mask-at slots _ p (k .first .below)
+      bit-mask-at maxProcessors _ p (k .first .below)
       ∙ ap₂ _||_
       (granted-at b s t (takes p) c (k .first) p (k .first .below)
       ∙ ap (λ x. x .2 && not (holdsAt (startOf s t (takes p)) p)) idle-between)
@@ -174,7 +174,7 @@ module _ (b : Board) (s : State) (t p e late : ℕ) (c : Clean b s) (k : BothAll
   entitled-own : bit (bothAnswer b s t p e late .reply .entitled) p ≡ entitledAt s₂ p
   unfolding both
   entitled-own =
-      bit-mask-at slots _ p (k .first .below)
+      bit-mask-at maxProcessors _ p (k .first .below)
       ∙ ap₂ (λ x y. (x || y) && entitledAt s₂ p)
       (entitled-at b s t (takes p) c (k .first) p (k .first .below)
       ∙ ap (λ x. x .1 && not (entitledAt (startOf s t (takes p)) p)) idle-between)
@@ -184,7 +184,7 @@ module _ (b : Board) (s : State) (t p e late : ℕ) (c : Clean b s) (k : BothAll
 
   -- ---- every processor
 
-  pub granted-by-both : (q : ℕ) → q < slots
+  pub granted-by-both : (q : ℕ) → q < maxProcessors
       → bit (bothAnswer b s t p e late .reply .granted) q
       ≡ (holdsAt (bothAnswer b s t p e late .state) q && (not (holdsAt s q) || eqb q p))
   unfolding both
@@ -200,7 +200,7 @@ module _ (b : Board) (s : State) (t p e late : ℕ) (c : Clean b s) (k : BothAll
       ∙ ap (λ x. holdsAt s₂ q && x)
       (sym (ap (λ x. not (holdsAt s q) || x) (ne-eqb q p other) ∙ or-false (not (holdsAt s q)))))
 
-  pub entitled-by-both : entitledAt s p ≡ false → (q : ℕ) → q < slots
+  pub entitled-by-both : entitledAt s p ≡ false → (q : ℕ) → q < maxProcessors
       → bit (bothAnswer b s t p e late .reply .entitled) q
       ≡ (entitledAt (bothAnswer b s t p e late .state) q && not (entitledAt s q))
   unfolding both

@@ -9,7 +9,7 @@ use lib.Dec.{eqb}
 use borrow.Author.Tests.{ne-eqb}
 use Rattle.masks.specs.Sets.{bit, maskOf}
 use Rattle.refusals.specs.Due.{due}
-use Rattle.plans.specs.Entries.{slots}
+use Rattle.plans.specs.Entries.{maxProcessors}
 use Rattle.rules.specs.declared.calls.Call.{Call}
 use Rattle.rules.specs.CallNumbers.{tickOf}
 use Rattle.rules.specs.Replies.{refusedWith}
@@ -39,7 +39,7 @@ module _ (number : ℕ) (s : State) (accepted : Answer) where
 
 -- The processors that become entitled in the act a, and are entitled once all is settled.
 abbrev pub entitlesIn : Board → State → ℕ → Act → ℕ
-entitlesIn b s t a = maskOf slots (became (startOf s t a .phases) (phasesAfter b s t a))
+entitlesIn b s t a = maskOf maxProcessors (became (startOf s t a .phases) (phasesAfter b s t a))
 
 -- The answer to an accepted call that carries out the act a.
 abbrev pub actAnswer : Board → State → ℕ → Act → ℕ → Answer

@@ -6,7 +6,7 @@ use mathlib.Core.Bool.{Bool, true, cond}
 use native.Mathlib.Nat.{le-trans}
 use native.Mathlib.Omega.{arith}
 use lib.ListN.{length}
-use Rattle.plans.specs.Entries.{slots}
+use Rattle.plans.specs.Entries.{maxProcessors}
 use Rattle.rules.specs.declared.states.State.{State}
 use Rattle.runs.specs.History.{When, never, at, happened, tickOr, Request, History, holdOf, waitOf}
 use Rattle.runs.specs.Claim.{request}
@@ -31,11 +31,11 @@ Waits bound group n h =
 -- The same for the state: its holders, and its unsatisfied requests.
 abbrev pub KeptTo : (ℕ → ℕ) → (ℕ → Bool) → State → ℕ → Type 0
 KeptTo length-of group s t =
-    (q : ℕ) → q < slots → phaseIn s q ≡ holding → group (entryFor s q) ≡ true → t ≤ sinceIn s q + length-of (entryFor s q)
+    (q : ℕ) → q < maxProcessors → phaseIn s q ≡ holding → group (entryFor s q) ≡ true → t ≤ sinceIn s q + length-of (entryFor s q)
 
 abbrev pub WaitsTo : (ℕ → ℕ) → (ℕ → Bool) → State → ℕ → Type 0
 WaitsTo bound group s t =
-    (q : ℕ) → q < slots → Unsatisfied (phaseIn s q) → group (entryFor s q) ≡ true → t ≤ sinceIn s q + bound (entryFor s q)
+    (q : ℕ) → q < maxProcessors → Unsatisfied (phaseIn s q) → group (entryFor s q) ≡ true → t ≤ sinceIn s q + bound (entryFor s q)
 
 -- ---- along the calls
 

@@ -8,7 +8,7 @@ use native.Mathlib.Nat.{le-trans, le-of-suc-le-suc, not-suc-le-zero, eq-or-lt-of
 use native.Mathlib.Omega.{arith}
 use lib.ListN.{length, length-map, List·getD-append}
 use lib.Seq.{getD-append-seam}
-use Rattle.plans.specs.Entries.{slots}
+use Rattle.plans.specs.Entries.{maxProcessors}
 use Rattle.rules.specs.declared.states.Board.{Board}
 use Rattle.rules.specs.declared.states.State.{State}
 use Rattle.boards.specs.Fresh.{freshState}
@@ -32,7 +32,7 @@ pub record Related (s : State) (h : History) : Type 0 where
   pub last : h .last ≡ s .last
   pub each : (i : ℕ) → i < length (h .requests) → Tied s (request h i)
   pub apart : (q i j : ℕ) → OpenOf h q i → OpenOf h q j → i ≡ j
-  pub present : (q : ℕ) → q < slots → (phaseIn s q ≡ idle → ⊥) → (i : ℕ) × OpenOf h q i
+  pub present : (q : ℕ) → q < maxProcessors → (phaseIn s q ≡ idle → ⊥) → (i : ℕ) × OpenOf h q i
 
 -- What counting at tick t does to a history.
 pub record Advanced (t : ℕ) (h h′ : History) : Type 0 where
@@ -69,7 +69,7 @@ record Changes (t : ℕ) (s s′ : State) (f : Request → Request) : Type 0 whe
   tied : (r : Request) → Tied s r → Tied s′ (f r)
   alike : (r : Request) → Alike t r (f r)
   stays-open : (r : Request) → (phaseIn s′ (r .processor) ≡ idle → ⊥) → r .end ≡ never → f r .end ≡ never
-  was-active : (q : ℕ) → q < slots → (phaseIn s′ q ≡ idle → ⊥) → phaseIn s q ≡ idle → ⊥
+  was-active : (q : ℕ) → q < maxProcessors → (phaseIn s′ q ≡ idle → ⊥) → phaseIn s q ≡ idle → ⊥
 
 module _ (t : ℕ) (s s′ : State) (f : Request → Request) (k : Changes t s s′ f) (h : History) (rel : Related s h)
     (now : t ≡ s′ .last) where
@@ -191,7 +191,7 @@ module _ (s x : State) (t p e : ℕ) (f : Begun s x t (puts p e)) (h : History) 
       (λ last. absurd (not-both q i j li last oi oj)))
       (λ last. place j (oj .listed) (λ lj. absurd (not-both q j i lj last oj oi)) (λ last′. last ∙ sym last′))
 
-  put-present : (q : ℕ) → q < slots → (phaseIn x q ≡ idle → ⊥) → (i : ℕ) × OpenOf h₁ q i
+  put-present : (q : ℕ) → q < maxProcessors → (phaseIn x q ≡ idle → ⊥) → (i : ℕ) × OpenOf h₁ q i
   put-present q l a =
       by-processor q p
       (λ same. (

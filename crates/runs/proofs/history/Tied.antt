@@ -7,7 +7,7 @@ use mathlib.Core.Logic.{_⊎_, inl, inr}
 use native.Mathlib.Omega.{arith}
 use lib.ListN.{getD}
 use borrow.Author.Tests.{eq-eqb, ne-eqb}
-use Rattle.plans.specs.Entries.{slots}
+use Rattle.plans.specs.Entries.{maxProcessors}
 use Rattle.rules.specs.declared.states.State.{State}
 use Rattle.runs.specs.History.{When, never, at, happened, Request, puts, takes, arrival, granting, ending}
 use Rattle.runs.specs.History
@@ -21,7 +21,7 @@ use Rattle.runs.proofs.refinement.Acts.{Same, Begun, Marked, begins, ke
 -- The request has no end, and it is the request of its processor in the state.
 pub record Open (s : State) (r : Request) : Type 0 where
   pub no-end : r .end ≡ never
-  pub below : r .processor < slots
+  pub below : r .processor < maxProcessors
   pub entry : entryFor s (r .processor) ≡ r .entry
 
 pub record Waiting (s : State) (r : Request) : Type 0 where

@@ -7,7 +7,7 @@ use mathlib.Core.List.{List, [], _∷_, _++_, map}
 use lib.Dec.{ltb}
 use Rattle.masks.specs.Sets.{bit, maskOf}
 use Rattle.masks.proofs.Masks.{bit-mask}
-use Rattle.plans.specs.Entries.{slots}
+use Rattle.plans.specs.Entries.{maxProcessors}
 use Rattle.rules.specs.declared.states.Board.{Board}
 use Rattle.rules.specs.declared.states.State.{State}
 use Rattle.runs.specs.History.{When, never, at, Request, History, Act, puts, takes, arrival, allActing, granting, ending}
@@ -19,7 +19,7 @@ use Rattle.runs.proofs.refinement.Acts.{grantsIn, stateAfterAct, Allowe
 
 -- The processors of either mask.
 abbrev pub either : ℕ → ℕ → ℕ
-either g₁ g₂ = maskOf slots (λ q. bit g₁ q || bit g₂ q)
+either g₁ g₂ = maskOf maxProcessors (λ q. bit g₁ q || bit g₂ q)
 
 -- Nothing is lost past the last processor, where the masks are empty.
 both-below : (l a b : Bool) → (l && ((l && a) || (l && b))) ≡ ((l && a) || (l && b))
@@ -27,11 +27,11 @@ both-below true a b = refl
 both-below false a b = refl
 
 pub bit-either : (f₁ f₂ : ℕ → Bool) (q : ℕ)
-    → bit (either (maskOf slots f₁) (maskOf slots f₂)) q ≡ (bit (maskOf slots f₁) q || bit (maskOf slots f₂) q)
+    → bit (either (maskOf maxProcessors f₁) (maskOf maxProcessors f₂)) q ≡ (bit (maskOf maxProcessors f₁) q || bit (maskOf maxProcessors f₂) q)
 bit-either f₁ f₂ q =
-    let in-either = bit-mask slots (λ q. bit (maskOf slots f₁) q || bit (maskOf slots f₂) q) q in
-    let masks = ap₂ _||_ (bit-mask slots f₁ q) (bit-mask slots f₂ q) in
-    in-either ∙ ap (λ u. ltb q slots && u) masks ∙ both-below (ltb q slots) (f₁ q) (f₂ q) ∙ sym masks
+    let in-either = bit-mask maxProcessors (λ q. bit (maskOf maxProcessors f₁) q || bit (maskOf maxProcessors f₂) q) q in
+    let masks = ap₂ _||_ (bit-mask maxProcessors f₁ q) (bit-mask maxProcessors f₂ q) in
+    in-either ∙ ap (λ u. ltb q maxProcessors && u) masks ∙ both-below (ltb q maxProcessors) (f₁ q) (f₂ q) ∙ sym masks
 
 module _ (g g₁ g₂ t : ℕ) (all : (q : ℕ) → bit g q ≡ (bit g₁ q || bit g₂ q)) where
   -- One request: what the first mask grants, the second does not grant again.

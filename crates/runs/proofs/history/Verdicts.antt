@@ -8,8 +8,8 @@ use borrow.Author.Tests.{ltb-true, leb-true, not-true}
 use Rattle.refusals.specs.Due.{due, firstOf}
 use Rattle.refusals.proofs.Numbers.{first-accepted, due-accepted}
 use Rattle.masks.proofs.Truth.{and-left, and-right}
-use Rattle.plans.specs.Entries.{slots}
-use Rattle.rules.specs.declared.settling.Phases.{Phases}
+use Rattle.plans.specs.Entries.{maxProcessors}
+use Rattle.rules.specs.declared.states.Phases.{Phases}
 use Rattle.rules.specs.Requests.{unsatisfied, active}
 use Rattle.rules.specs.declared.states.Terms.{Terms}
 use Rattle.rules.specs.CountedRequests.{hasProcessor}
@@ -18,7 +18,7 @@ use Rattle.rules.specs.Faults.{tickFault, processorFault, issueFault, takeFault
 -- What the checks of all calls show about their tick and processor.
 pub record Admissible (terms : Terms) (last p t : ℕ) : Type 0 where
   pub in-time : last ≤ t
-  pub in-state : p < slots
+  pub in-state : p < maxProcessors
   pub in-plan : p < terms .processors
 
 module _ (terms : Terms) (last : ℕ) (ph : Phases) (p t : ℕ) where
@@ -33,7 +33,7 @@ module _ (terms : Terms) (last : ℕ) (ph : Phases) (p t : ℕ) where
       record {
         in-time = leb-true _ _ (and-left _ _ tick);
         in-state = ltb-true _ _ (and-left _ _ place);
-        in-plan = ltb-true _ _ (and-right (ltb p slots) _ place);
+        in-plan = ltb-true _ _ (and-right (ltb p maxProcessors) _ place);
       }
 
   pub record IssueTaken (e : ℕ) : Type 0 where

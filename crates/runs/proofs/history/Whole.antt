@@ -6,7 +6,7 @@ use mathlib.Core.Bool.{Bool, true, false, cond}
 use mathlib.Core.List.{List}
 use native.Mathlib.Nat.{le-trans}
 use Rattle.plans.specs.declared.Plan.{Plan}
-use Rattle.plans.specs.Entries.{mostEntries, isWrite, entryAt}
+use Rattle.plans.specs.Entries.{maxEntries, isWrite, entryAt}
 use Rattle.plans.specs.Acceptance.{planFault}
 use Rattle.plans.proofs.Accepted.{accepted-count}
 use Rattle.rules.specs.declared.calls.Call.{Call}
@@ -22,7 +22,7 @@ cond-grows : (w : Bool) (a a′ b b′ : ℕ) → a ≤ a′ → b ≤ b′ → 
 cond-grows true a a′ b b′ h k = h
 cond-grows false a a′ b b′ h k = k
 
-module _ (p : Plan) (group : ℕ → Bool) (Lr Lw : ℕ) (few : p .count ≤ mostEntries) (read write : ℕ)
+module _ (p : Plan) (group : ℕ → Bool) (Lr Lw : ℕ) (few : p .count ≤ maxEntries) (read write : ℕ)
     (reads : Lr + Lw ≤ read)
     (writes : (p .processors - 1) * (Lr + Lw) ≤ write) where
   bound-on-board : (e : ℕ) → boundOn (boardOf p) Lr Lw e ≤ cond (isWrite (entryAt p e)) write read
@@ -50,7 +50,7 @@ pub whole-run : (p : Plan) (group : ℕ → Bool) (Lr Lw : ℕ) {read write : �
     → GroupRuns p group read write calls
 unfolding historyOf
 whole-run p group Lr Lw {read} {write} ok A reads writes calls =
-    let few : p .count ≤ mostEntries = accepted-count p ok in
+    let few : p .count ≤ maxEntries = accepted-count p ok in
     record {
       exclusive = λ i j li lj different hi hj.
           let end = run (boardOf p) group Lr Lw A calls freshState nothing (reached-fresh (boardOf p) group Lr Lw A) in

@@ -12,9 +12,9 @@ use borrow.Author.Tests.{eq-eqb, ne-eqb, not-true, not-false}
 use Rattle.masks.specs.Sets.{bit, maskOf}
 use Rattle.masks.proofs.Masks.{bit-mask-at}
 use Rattle.masks.proofs.Truth.{and-left, and-right}
-use Rattle.plans.specs.Entries.{slots}
+use Rattle.plans.specs.Entries.{maxProcessors}
 use Rattle.masks.proofs.Tabulate.{length-tabulate, getD-tabulate}
-use Rattle.rules.specs.declared.settling.Phases.{Phases}
+use Rattle.rules.specs.declared.states.Phases.{Phases}
 use Rattle.rules.specs.Requests.{Facts}
 use Rattle.rules.specs.Settling.{settled}
 use Rattle.rules.specs.declared.states.Board.{Board}
@@ -43,9 +43,9 @@ callerOf (takes p) = p
 -- count.
 abbrev pub startFrom : Phases → State → ℕ → Act → State
 startFrom ph s t (puts p e) =
-    record { last = t; phases = putIn ph p; since = set (s .since) p t; earlier = putLast (s .earlier) ph p; entry = set (s .entry) p e }
+    record { last = t; phases = putIn ph p; since = set (s .since) p t; earlier = putLast (s .earlier) ph p; requested = set (s .requested) p e }
 startFrom ph s t (takes p) =
-    record { last = t; phases = takenOut ph p; since = s .since; earlier = s .earlier; entry = s .entry }
+    record { last = t; phases = takenOut ph p; since = s .since; earlier = s .earlier; requested = s .requested }
 
 abbrev pub startOf : State → ℕ → Act → State
 startOf s t a = startFrom (s .phases) s t a
@@ -56,13 +56,13 @@ phasesAfter b s t a = settled (factsOf b (startOf s t a)) (startOf s t a .phases
 
 abbrev pub settledFrom : State → Phases → State
 settledFrom x ph =
-    record { last = x .last; phases = ph; since = stamped (x .since) (x .phases) ph (x .last); earlier = x .earlier; entry = x .entry }
+    record { last = x .last; phases = ph; since = stamped (x .since) (x .phases) ph (x .last); earlier = x .earlier; requested = x .requested }
 
 abbrev pub stateAfterAct : Board → State → ℕ → Act → State
 stateAfterAct b s t a = settledFrom (startOf s t a) (phasesAfter b s t a)
 
 abbrev pub grantsOf : State → Phases → ℕ
-grantsOf x ph = maskOf slots (began (x .phases) ph)
+grantsOf x ph = maskOf maxProcessors (began (x .phases) ph)
 
 abbrev pub grantsIn : Board → State → ℕ → Act → ℕ
 grantsIn b s t a = grantsOf (startOf s t a) (phasesAfter b s t a)
@@ -84,7 +84,7 @@ May b s (takes p) = MayTake s p
 
 pub record Allowed (b : Board) (s : State) (t : ℕ) (a : Act) : Type 0 where
   pub in-time : s .last ≤ t
-  pub below : callerOf a < slots
+  pub below : callerOf a < maxProcessors
   pub may : May b s a
 
 -- ---- the act is carried out
@@ -113,8 +113,8 @@ Own s x t (takes p) = GoneFrom s x p
 -- From s to x, with the act carried out at tick t.
 pub record Begun (s x : State) (t : ℕ) (a : Act) : Type 0 where
   pub last : x .last ≡ t
-  pub below : callerOf a < slots
-  pub others : (q : ℕ) → q < slots → (q ≡ callerOf a → ⊥) → Same s x q
+  pub below : callerOf a < maxProcessors
+  pub others : (q : ℕ) → q < maxProcessors → (q ≡ callerOf a → ⊥) → Same s x q
   pub own : Own s x t a
 
 module _ (b : Board) (s : State) (t : ℕ) (c : Clean b s) where
@@ -125,7 +125,7 @@ module _ (b : Board) (s : State) (t : ℕ) (c : Clean b s) where
         below = k .below;
         others = λ q l other.
             record {
-              entry = stored (s .entry) e q (c .entry-length) ∙ ap (λ u. cond u e (entryFor s q)) (ne-eqb q p other);
+              entry = stored (s .requested) e q (c .entry-length) ∙ ap (λ u. cond u e (entryFor s q)) (ne-eqb q p other);
               since = stored (s .since) t q (c .since-length) ∙ ap (λ u. cond u t (sinceIn s q)) (ne-eqb q p other);
               phase = kept moves q l (ne-eqb q p other);
             };
@@ -133,7 +133,7 @@ module _ (b : Board) (s : State) (t : ℕ) (c : Clean b s) where
             record {
               was-idle = k .may .was-idle;
               now-waiting = moved moves p (k .below) (eq-eqb p p refl);
-              entry = stored (s .entry) e p (c .entry-length) ∙ ap (λ u. cond u e (entryFor s p)) (eq-eqb p p refl);
+              entry = stored (s .requested) e p (c .entry-length) ∙ ap (λ u. cond u e (entryFor s p)) (eq-eqb p p refl);
               since = stored (s .since) t p (c .since-length) ∙ ap (λ u. cond u t (sinceIn s p)) (eq-eqb p p refl);
             };
       }
@@ -141,7 +141,7 @@ module _ (b : Board) (s : State) (t : ℕ) (c : Clean b s) where
       moves : Becomes waiting (λ q. eqb q p) (s .phases) (putIn (s .phases) p)
       moves = put-moves (s .phases) p (c .tidy) (k .may .was-idle)
 
-      stored : (l : List ℕ) (x q : ℕ) → length l ≡ slots → getD (set l p x) q 0 ≡ cond (eqb q p) x (getD l q 0)
+      stored : (l : List ℕ) (x q : ℕ) → length l ≡ maxProcessors → getD (set l p x) q 0 ≡ cond (eqb q p) x (getD l q 0)
       stored l x q full = getD-set l p x q 0 (omega (arith, k .below, full))
   begun (takes p) k =
       record {
@@ -156,8 +156,8 @@ module _ (b : Board) (s : State) (t : ℕ) (c : Clean b s) where
   start-tidy (puts p e) k = becomes-tidy (put-moves (s .phases) p (c .tidy) (k .may .was-idle)) (c .tidy)
   start-tidy (takes p) k = becomes-tidy (take-moves (s .phases) p) (c .tidy)
 
-  start-lengths : (a : Act) → (length (startOf s t a .entry) ≡ slots) × (length (startOf s t a .since) ≡ slots)
-  start-lengths (puts p e) = (length-set (s .entry) p e ∙ c .entry-length, length-set (s .since) p t ∙ c .since-length)
+  start-lengths : (a : Act) → (length (startOf s t a .requested) ≡ maxProcessors) × (length (startOf s t a .since) ≡ maxProcessors)
+  start-lengths (puts p e) = (length-set (s .requested) p e ∙ c .entry-length, length-set (s .since) p t ∙ c .since-length)
   start-lengths (takes p) = (c .entry-length, c .since-length)
 
   -- What `Clean` requires of the caller's own request.
@@ -169,13 +169,13 @@ module _ (b : Board) (s : State) (t : ℕ) (c : Clean b s) where
   own-counts (puts p e) x k o a = (k .may .in-plan, rw (o .entry) (k .may .listed), rw (o .since) (le-refl t))
   own-counts (takes p) x k o a = absurd (a (o .now-idle))
 
-  other-counts : (x : State) (q : ℕ) → s .last ≤ t → q < slots → Same s x q → (phaseIn x q ≡ idle → ⊥) → Counts x q
+  other-counts : (x : State) (q : ℕ) → s .last ≤ t → q < maxProcessors → Same s x q → (phaseIn x q ≡ idle → ⊥) → Counts x q
   other-counts x q in-time l o a =
       let before : phaseIn s q ≡ idle → ⊥ = λ k. a (o .phase ∙ k) in
       let plan = c .in-plan q l before in
       (plan .0, rw (o .entry) (plan .1), rw (o .since) (le-trans (c .dated q l before) in-time))
 
-  start-counts : (a : Act) (x : State) → Allowed b s t a → Begun s x t a → (q : ℕ) → q < slots
+  start-counts : (a : Act) (x : State) → Allowed b s t a → Begun s x t a → (q : ℕ) → q < maxProcessors
       → (phaseIn x q ≡ idle → ⊥) → Counts x q
   start-counts a x k begun q l active =
       by-processor q (callerOf a)
@@ -206,16 +206,16 @@ pub data Marked (x s′ : State) (g q : ℕ) : Type 0 where
 -- From x to s′ by the steps, with the mask g of grants.
 pub record Settles (x s′ : State) (g : ℕ) : Type 0 where
   pub last : s′ .last ≡ x .last
-  pub entry : s′ .entry ≡ x .entry
-  pub rises : (q : ℕ) → q < slots → Rises (phaseIn x q) (phaseIn s′ q)
-  pub marked : (q : ℕ) → q < slots → Marked x s′ g q
+  pub entry : s′ .requested ≡ x .requested
+  pub rises : (q : ℕ) → q < maxProcessors → Rises (phaseIn x q) (phaseIn s′ q)
+  pub marked : (q : ℕ) → q < maxProcessors → Marked x s′ g q
 
 module _ (f : Facts) (y : Phases) (tidy : Tidy y) where
   pub settled-tidy : Tidy (settled f y)
   unfolding settled
   settled-tidy = step4-tidy f _ (step3-tidy f _ (step2-tidy f _ (step1-tidy f y tidy)))
 
-pub settled-rises : (f : Facts) (G : ℕ → Bool) (x : Phases) → Tidy x → (q : ℕ) → q < slots
+pub settled-rises : (f : Facts) (G : ℕ → Bool) (x : Phases) → Tidy x → (q : ℕ) → q < maxProcessors
     → Rises (phaseOf x q) (phaseOf (settled f x) q)
 unfolding settled
 settled-rises f G x tidy q l =
@@ -226,20 +226,20 @@ settled-rises f G x tidy q l =
     (rises-rises (rises2 (second-step f G _ one q l))
     (rises-rises (rises3 (third-step f G _ two q l)) (rises4 (fourth-step f G _ three q l))))
 
-marked-at : (x : State) (ph : Phases) (q : ℕ) → q < slots → Marked x (settledFrom x ph) (grantsOf x ph) q
+marked-at : (x : State) (ph : Phases) (q : ℕ) → q < maxProcessors → Marked x (settledFrom x ph) (grantsOf x ph) q
 unfolding stamped
 marked-at x ph q l = go (began (x .phases) ph q) refl
   where
     since : sinceIn (settledFrom x ph) q ≡ cond (began (x .phases) ph q) (x .last) (sinceIn x q)
-    since = getD-tabulate slots (λ p. cond (began (x .phases) ph p) (x .last) (sinceIn x p)) q 0 l
+    since = getD-tabulate maxProcessors (λ p. cond (began (x .phases) ph p) (x .last) (sinceIn x p)) q 0 l
 
     go : (t : Bool) → began (x .phases) ph q ≡ t → Marked x (settledFrom x ph) (grantsOf x ph) q
     go true e =
-        begins (bit-mask-at slots (began (x .phases) ph) q l ∙ e) (held-phase ph q (and-left (bit (ph .holding) q) _ e))
+        begins (bit-mask-at maxProcessors (began (x .phases) ph) q l ∙ e) (held-phase ph q (and-left (bit (ph .holding) q) _ e))
         (λ k. true-not-false (held-bit (x .phases) q k) (not-true (bit (x .phases .holding) q) (and-right (bit (ph .holding) q) _ e)))
         (since ∙ ap (λ u. cond u (x .last) (sinceIn x q)) e)
     go false e =
-        keeps (bit-mask-at slots (began (x .phases) ph) q l ∙ e)
+        keeps (bit-mask-at maxProcessors (began (x .phases) ph) q l ∙ e)
         (λ k.
         held-phase (x .phases) q
         (not-false (bit (x .phases .holding) q) (second-fails (bit (ph .holding) q) _ e (held-bit ph q k))))
@@ -257,10 +257,10 @@ settles-clean b x ph g c tidy s =
       dated = λ q l a. go q (c .dated q l (active q l a)) (s .marked q l);
     }
   where
-    full : length (settledFrom x ph .since) ≡ slots
-    full = length-tabulate slots _
+    full : length (settledFrom x ph .since) ≡ maxProcessors
+    full = length-tabulate maxProcessors _
 
-    active : (q : ℕ) → q < slots → (phaseOf ph q ≡ idle → ⊥) → phaseIn x q ≡ idle → ⊥
+    active : (q : ℕ) → q < maxProcessors → (phaseOf ph q ≡ idle → ⊥) → phaseIn x q ≡ idle → ⊥
     active q l a k = a (idle-stays (s .rises q l) k)
 
     go : (q : ℕ) → sinceIn x q ≤ x .last → Marked x (settledFrom x ph) g q → sinceIn (settledFrom x ph) q ≤ x .last

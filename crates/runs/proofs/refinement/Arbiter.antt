@@ -6,7 +6,7 @@ use mathlib.Core.Path.{_≡_, refl, sym, subst}
 use mathlib.Core.Bool.{Bool, true, false, cond}
 use native.Mathlib.Nat.{le-trans}
 use Rattle.plans.specs.declared.Plan.{Plan}
-use Rattle.plans.specs.Entries.{slots}
+use Rattle.plans.specs.Entries.{maxProcessors}
 use Rattle.plans.specs.Acceptance.{planFault}
 use Rattle.rules.specs.Requests.{isWriter}
 use Rattle.rules.specs.declared.states.Board.{Board}
@@ -31,12 +31,12 @@ use Rattle.runs.proofs.refinement.Board.{reads-apart, lawful, active-be
 
 -- I1 to I7, the order of calls, and lawful conflict.
 abbrev pub Safe : Board → (ℕ → Bool) → State → Type 0
-Safe b G s = Standing slots (requestsOf (factsOf b s) G) (phaseIn s)
+Safe b G s = Standing maxProcessors (requestsOf (factsOf b s) G) (phaseIn s)
 
 -- T1 and T2, W1 and W2.
 record Timed (b : Board) (G : ℕ → Bool) (Lr Lw : ℕ) (s : State) : Type 0 where
-  pub reads : ReadTimed slots Lr (requestsOf (factsOf b s) G) (phaseIn s) (sinceIn s)
-  pub writes : WriteTimed slots (b .terms .processors) Lr Lw (requestsOf (factsOf b s) G) (phaseIn s) (sinceIn s)
+  pub reads : ReadTimed maxProcessors Lr (requestsOf (factsOf b s) G) (phaseIn s) (sinceIn s)
+  pub writes : WriteTimed maxProcessors (b .terms .processors) Lr Lw (requestsOf (factsOf b s) G) (phaseIn s) (sinceIn s)
 
 timed-fresh : (b : Board) (G : ℕ → Bool) (Lr Lw : ℕ) → Timed b G Lr Lw freshState
 timed-fresh b G Lr Lw =
@@ -73,7 +73,7 @@ module _ (p : Plan) (taken : planFault p ≡ 0) (G : ℕ → Bool) (closed : Clo
         → CallOf b G s t s′ → Timed b G Lr Lw s′
     timed-called s s′ t clean clean′ in-time safe timed kept c =
         let safe′ : Safe b G s′ = safe-called s s′ t safe c in
-        let past : (i : ℕ) → i < slots → (phaseIn s i ≡ idle → ⊥) → sinceIn s i ≤ t =
+        let past : (i : ℕ) → i < maxProcessors → (phaseIn s i ≡ idle → ⊥) → sinceIn s i ≤ t =
         λ i l a. le-trans (clean .dated i l a) in-time in
         let keeps = prompt p taken s clean G Lr Lw bounded t kept in
         record {

@@ -14,7 +14,7 @@ use Rattle.masks.proofs.Truth.{never-true}
 use Rattle.masks.proofs.Places.{bit-zero, bit-past}
 use Rattle.masks.proofs.Masks.{bit-mask}
 use Rattle.plans.specs.declared.Plan.{Plan}
-use Rattle.plans.specs.Entries.{mostEntries, blankEntry, isWrite, countedEntries, entryAt, slots, isRead}
+use Rattle.plans.specs.Entries.{maxEntries, blankEntry, isWrite, countedEntries, entryAt, maxProcessors, isRead}
 use Rattle.plans.specs.Acceptance.{planFault}
 use Rattle.plans.proofs.Accepted.{accepted-count}
 use Rattle.conflicts.specs.Conflict.{conflictsOf, inConflict}
@@ -36,7 +36,7 @@ use Rattle.runs.proofs.columns.Rank.{Below}
 use Rattle.runs.proofs.refinement.State.{requestsOf}
 use Rattle.runs.proofs.refinement.Clean.{phaseIn, entryFor, sinceIn, Clean}
 
-module _ (p : Plan) (few : p .count ≤ mostEntries) where
+module _ (p : Plan) (few : p .count ≤ maxEntries) where
   -- Past the count there is no entry.
   entry-past : (i : ℕ) → p .count ≤ i → entryAt p i ≡ blankEntry
   entry-past i l =
@@ -45,24 +45,24 @@ module _ (p : Plan) (few : p .count ≤ mostEntries) where
   pub length-on-board : (e : ℕ) → getD (boardOf p .lengths) e 0 ≡ entryAt p e .length
   unfolding boardOf
   length-on-board e =
-      below-or-past e mostEntries (λ l. getD-tabulate mostEntries (λ i. entryAt p i .length) e 0 l)
+      below-or-past e maxEntries (λ l. getD-tabulate maxEntries (λ i. entryAt p i .length) e 0 l)
       (λ l.
-      getD-tabulate-past mostEntries (λ i. entryAt p i .length) e 0 l
+      getD-tabulate-past maxEntries (λ i. entryAt p i .length) e 0 l
       ∙ sym (ap (λ x. x .length) (entry-past e (le-trans few l))))
 
   pub write-on-board : (e : ℕ) → bit (boardOf p .terms .writes) e ≡ isWrite (entryAt p e)
   unfolding boardOf
   write-on-board e =
-      bit-mask mostEntries (λ i. ltb i (p .count) && isWrite (entryAt p i)) e
+      bit-mask maxEntries (λ i. ltb i (p .count) && isWrite (entryAt p i)) e
       ∙ below-or-past e (p .count)
-      (λ l. ap₂ (λ t u. t && (u && isWrite (entryAt p e))) (lt-ltb e mostEntries (le-trans l few)) (lt-ltb e (p .count) l))
+      (λ l. ap₂ (λ t u. t && (u && isWrite (entryAt p e))) (lt-ltb e maxEntries (le-trans l few)) (lt-ltb e (p .count) l))
       (λ l.
-      ap (λ u. ltb e mostEntries && (u && isWrite (entryAt p e))) (le-ltb e (p .count) l)
-      ∙ and-false (ltb e mostEntries)
+      ap (λ u. ltb e maxEntries && (u && isWrite (entryAt p e))) (le-ltb e (p .count) l)
+      ∙ and-false (ltb e maxEntries)
       ∙ sym (ap isWrite (entry-past e l)))
 
   -- Past the last entry nothing conflicts.
-  none-past : (e f : ℕ) → (e < mostEntries → f < mostEntries → ⊥) → inConflict p e f ≡ false
+  none-past : (e f : ℕ) → (e < maxEntries → f < maxEntries → ⊥) → inConflict p e f ≡ false
   none-past e f past =
       never-true (inConflict p e f)
       (λ x. let both = both-counted p e f x in past (le-trans (both .0) few) (le-trans (both .1) few))
@@ -70,12 +70,12 @@ module _ (p : Plan) (few : p .count ≤ mostEntries) where
   pub conflict-on-board : (e f : ℕ) → bit (getD (boardOf p .rows) e 0) f ≡ inConflict p e f
   unfolding boardOf conflictsOf
   conflict-on-board e f =
-      below-or-past e mostEntries
+      below-or-past e maxEntries
       (λ l.
-      below-or-past f mostEntries (λ m. bit-row p e f l m)
-      (λ m. bit-past mostEntries _ f (row-below p e) m ∙ sym (none-past e f (λ k n. omega arith))))
+      below-or-past f maxEntries (λ m. bit-row p e f l m)
+      (λ m. bit-past maxEntries _ f (row-below p e) m ∙ sym (none-past e f (λ k n. omega arith))))
       (λ l.
-      ap (λ (row : ℕ). bit row f) (getD-tabulate-past mostEntries (λ i. maskOf mostEntries (inConflict p i)) e 0 l)
+      ap (λ (row : ℕ). bit row f) (getD-tabulate-past maxEntries (λ i. maskOf maxEntries (inConflict p i)) e 0 l)
       ∙ bit-zero f
       ∙ sym (none-past e f (λ k n. omega arith)))
 
@@ -83,7 +83,7 @@ module _ (p : Plan) (taken : planFault p ≡ 0) (s : State) where
   abbrev b : Board
   b = boardOf p
 
-  few : p .count ≤ mostEntries
+  few : p .count ≤ maxEntries
   few = accepted-count p taken
 
   plan-conflict : (i j : ℕ) → conflicts (factsOf b s) i j ≡ inConflict p (entryFor s i) (entryFor s j)
@@ -101,7 +101,7 @@ module _ (p : Plan) (taken : planFault p ≡ 0) (s : State) where
       plan-conflict i j ∙ reads-never-conflict p (entryFor s i) (entryFor s j) (plan-read i hi) (plan-read j hj)
 
   -- What is required of conflict holds whichever requests are active.
-  pub lawful : (G : ℕ → Bool) → Closed p G → Lawful slots (requestsOf (factsOf (boardOf p) s) G) (phaseIn s)
+  pub lawful : (G : ℕ → Bool) → Closed p G → Lawful maxProcessors (requestsOf (factsOf (boardOf p) s) G) (phaseIn s)
   lawful G closed =
       record {
         symmetric = λ i j hi hj x.
@@ -115,12 +115,12 @@ module _ (p : Plan) (taken : planFault p ≡ 0) (s : State) where
       }
 
   module _ (c : Clean (boardOf p) s) where
-    pub active-below : Below slots (boardOf p .terms .processors) (phaseIn s)
+    pub active-below : Below maxProcessors (boardOf p .terms .processors) (phaseIn s)
     active-below i l a = c .in-plan i l a .0
 
     module _ (G : ℕ → Bool) (Lr Lw : ℕ) (bounded : LengthsAtMost p G Lr Lw) where
       -- The length of an active request of the group.
-      length-at-most : (i : ℕ) (write : Bool) → i < slots → G (entryFor s i) ≡ true → (phaseIn s i ≡ idle → ⊥)
+      length-at-most : (i : ℕ) (write : Bool) → i < maxProcessors → G (entryFor s i) ≡ true → (phaseIn s i ≡ idle → ⊥)
           → isWriter (factsOf b s) i ≡ write → lengthOn b (entryFor s i) ≤ cond write Lw Lr
       unfolding boardOf
       length-at-most i write l g a w =
@@ -130,7 +130,7 @@ module _ (p : Plan) (taken : planFault p ≡ 0) (s : State) where
 
       -- Holders that keep to their lengths up to tick t, in columns.
       pub prompt : (t : ℕ) → Kept (boardOf p) G s t
-          → Prompt slots t Lr Lw (requestsOf (factsOf (boardOf p) s) G) (phaseIn s) (sinceIn s) (λ i. lengthOn (boardOf p) (entryFor s i))
+          → Prompt maxProcessors t Lr Lw (requestsOf (factsOf (boardOf p) s) G) (phaseIn s) (sinceIn s) (λ i. lengthOn (boardOf p) (entryFor s i))
       prompt t kept =
           record {
             kept = λ i l g k. kept i l k g;

@@ -2,8 +2,8 @@
 use Prim.Native.Nat.{ℕ, _<_}
 use mathlib.Core.Path.{_≡_, sym, subst, _∙_}
 use mathlib.Core.Bool.{Bool}
-use Rattle.plans.specs.Entries.{slots}
-use Rattle.rules.specs.declared.settling.Phases.{Phases}
+use Rattle.plans.specs.Entries.{maxProcessors}
+use Rattle.rules.specs.declared.states.Phases.{Phases}
 use Rattle.rules.specs.Requests.{Facts}
 use Rattle.rules.specs.Settling.{step1, step2, step3, settled}
 use Rattle.rules.specs.declared.states.Board.{Board}
@@ -23,7 +23,7 @@ use Rattle.runs.proofs.refinement.Acts.{callerOf, startOf, stateAfterAc
 
 -- ---- the ticks
 
-own-stamp : (s x s′ : State) (g t : ℕ) (a : Act) → x .last ≡ t → Own s x t a → callerOf a < slots → Settles x s′ g
+own-stamp : (s x s′ : State) (g t : ℕ) (a : Act) → x .last ≡ t → Own s x t a → callerOf a < maxProcessors → Settles x s′ g
     → Stamp t (phaseIn s (callerOf a)) (phaseIn s′ (callerOf a)) (sinceIn s (callerOf a)) (sinceIn s′ (callerOf a))
 own-stamp s x s′ g t (puts p e) now o l h = arrives (o .was-idle) (go (h .marked p l))
   where
@@ -38,7 +38,7 @@ own-stamp s x s′ g t (takes p) now o l h =
     go gone (begins m k d f) = absurd (clash gone k tt)
     go gone (keeps m k f) = f ∙ o .since
 
-other-stamp : (s x s′ : State) (g t q : ℕ) → x .last ≡ t → Same s x q → q < slots → Settles x s′ g
+other-stamp : (s x s′ : State) (g t q : ℕ) → x .last ≡ t → Same s x q → q < maxProcessors → Settles x s′ g
     → Stamp t (phaseIn s q) (phaseIn s′ q) (sinceIn s q) (sinceIn s′ q)
 other-stamp s x s′ g t q now o l h = go (h .marked q l)
   where
@@ -47,7 +47,7 @@ other-stamp s x s′ g t q now o l h = go (h .marked q l)
     go (keeps m k f) =
         Stamp.keeps (λ z. sym (o .phase) ∙ k z) (λ z. idle-stays (h .rises q l) (o .phase ∙ z)) (f ∙ o .since)
 
-stamps : (s x s′ : State) (g t : ℕ) (a : Act) → Begun s x t a → Settles x s′ g → (i : ℕ) → i < slots
+stamps : (s x s′ : State) (g t : ℕ) (a : Act) → Begun s x t a → Settles x s′ g → (i : ℕ) → i < maxProcessors
     → Stamp t (phaseIn s i) (phaseIn s′ i) (sinceIn s i) (sinceIn s′ i)
 stamps s x s′ g t a k h i l =
     by-processor i (callerOf a)
@@ -61,15 +61,15 @@ stamps s x s′ g t a k h i l =
 -- A call at t in the columns, from s to s′.
 abbrev pub CallOf : Board → (ℕ → Bool) → State → ℕ → State → Type 0
 CallOf b G s t s′ =
-    Called slots t (requestsOf (factsOf b s) G) (requestsOf (factsOf b s′) G) (phaseIn s) (phaseIn s′) (sinceIn s)
+    Called maxProcessors t (requestsOf (factsOf b s) G) (requestsOf (factsOf b s′) G) (phaseIn s) (phaseIn s′) (sinceIn s)
     (sinceIn s′)
 
 module _ (b : Board) (G : ℕ → Bool) (s : State) (t : ℕ) (c : Clean b s) where
   start : (a : Act) → Allowed b s t a
-      → Start slots (requestsOf (factsOf b s) G) (requestsOf (factsOf b (startOf s t a)) G) (phaseIn s) (phaseIn (startOf s t a))
+      → Start maxProcessors (requestsOf (factsOf b s) G) (requestsOf (factsOf b (startOf s t a)) G) (phaseIn s) (phaseIn (startOf s t a))
   start (puts p e) k =
       puts-in p
-      (put-in (b .rows) (b .terms .writes) (s .entry) (s .earlier) (s .phases) p e G (c .entry-length) (c .tidy) (k .below)
+      (put-in (b .rows) (b .terms .writes) (s .requested) (s .earlier) (s .phases) p e G (c .entry-length) (c .tidy) (k .below)
       (k .may .was-idle))
   start (takes p) k = takes-out p (taken-out (s .phases) p (requestsOf (factsOf b s) G) (k .below) (k .may .was-active))
 

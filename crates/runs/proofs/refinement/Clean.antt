@@ -8,7 +8,7 @@ use lib.Pow.{pow-pos}
 use borrow.Author.Tests.{lt-ltb}
 use Rattle.masks.proofs.Masks.{is-mask}
 use Rattle.masks.proofs.Places.{bit-zero}
-use Rattle.plans.specs.Entries.{slots}
+use Rattle.plans.specs.Entries.{maxProcessors}
 use Rattle.rules.specs.declared.states.Board.{Board}
 use Rattle.rules.specs.declared.states.State.{State}
 use Rattle.rules.specs.CountedRequests.{inPlan, isHolding, isEntitled, isWaiting, cleaned}
@@ -23,7 +23,7 @@ abbrev pub phaseIn : State → ℕ → Phase
 phaseIn s q = phaseOf (s .phases) q
 
 abbrev pub entryFor : State → ℕ → ℕ
-entryFor s q = getD (s .entry) q 0
+entryFor s q = getD (s .requested) q 0
 
 abbrev pub sinceIn : State → ℕ → ℕ
 sinceIn s q = getD (s .since) q 0
@@ -32,11 +32,11 @@ sinceIn s q = getD (s .since) q 0
 -- lengths, and no tick after the last accepted one.
 pub record Clean (b : Board) (s : State) : Type 0 where
   pub tidy : Tidy (s .phases)
-  pub in-plan : (q : ℕ) → q < slots → (phaseIn s q ≡ idle → ⊥)
+  pub in-plan : (q : ℕ) → q < maxProcessors → (phaseIn s q ≡ idle → ⊥)
       → (q < b .terms .processors) × (entryFor s q < b .terms .count)
-  pub entry-length : length (s .entry) ≡ slots
-  pub since-length : length (s .since) ≡ slots
-  pub dated : (q : ℕ) → q < slots → (phaseIn s q ≡ idle → ⊥) → sinceIn s q ≤ s .last
+  pub entry-length : length (s .requested) ≡ maxProcessors
+  pub since-length : length (s .since) ≡ maxProcessors
+  pub dated : (q : ℕ) → q < maxProcessors → (phaseIn s q ≡ idle → ⊥) → sinceIn s q ≤ s .last
 
 -- ---- every request counts
 
@@ -55,23 +55,23 @@ unfolding cleaned isHolding isEntitled isWaiting
 clean-phases b s c =
     λ i. record {
       waiting =
-          sym (is-mask slots (s .phases .waiting) _ (c .tidy .waiting-below) (λ q l. ap (λ b. b .0) (same q l))) i;
+          sym (is-mask maxProcessors (s .phases .waiting) _ (c .tidy .waiting-below) (λ q l. ap (λ b. b .0) (same q l))) i;
       entitled =
-          sym (is-mask slots (s .phases .entitled) _ (c .tidy .entitled-below) (λ q l. ap (λ b. b .1) (same q l))) i;
+          sym (is-mask maxProcessors (s .phases .entitled) _ (c .tidy .entitled-below) (λ q l. ap (λ b. b .1) (same q l))) i;
       holding =
-          sym (is-mask slots (s .phases .holding) _ (c .tidy .holding-below) (λ q l. ap (λ b. b .2) (same q l))) i;
+          sym (is-mask maxProcessors (s .phases .holding) _ (c .tidy .holding-below) (λ q l. ap (λ b. b .2) (same q l))) i;
     }
   where
-    counts : (q : ℕ) → q < slots → (phaseIn s q ≡ idle → ⊥) → inPlan (b .terms) (s .entry) q ≡ true
+    counts : (q : ℕ) → q < maxProcessors → (phaseIn s q ≡ idle → ⊥) → inPlan (b .terms) (s .requested) q ≡ true
     counts q l a =
         let p = c .in-plan q l a in
-        ap₂ _&&_ (ap₂ _&&_ (lt-ltb q slots l) (lt-ltb q (b .terms .processors) (p .0)))
+        ap₂ _&&_ (ap₂ _&&_ (lt-ltb q maxProcessors l) (lt-ltb q (b .terms .processors) (p .0)))
         (lt-ltb (entryFor s q) (b .terms .count) (p .1))
 
-    same : (q : ℕ) → q < slots → bitsAt (s .phases) q ≡ counted (inPlan (b .terms) (s .entry) q) (bitsAt (s .phases) q)
+    same : (q : ℕ) → q < maxProcessors → bitsAt (s .phases) q ≡ counted (inPlan (b .terms) (s .requested) q) (bitsAt (s .phases) q)
     same q l =
         let is = c .tidy .bits q l in
-        is ∙ all-counted (phaseIn s q) _ (counts q l) ∙ ap (counted (inPlan (b .terms) (s .entry) q)) (sym is)
+        is ∙ all-counted (phaseIn s q) _ (counts q l) ∙ ap (counted (inPlan (b .terms) (s .requested) q)) (sym is)
 
 -- ---- the fresh state
 
@@ -83,9 +83,9 @@ fresh-clean b =
     record {
       tidy =
           record {
-            waiting-below = pow-pos slots;
-            entitled-below = pow-pos slots;
-            holding-below = pow-pos slots;
+            waiting-below = pow-pos maxProcessors;
+            entitled-below = pow-pos maxProcessors;
+            holding-below = pow-pos maxProcessors;
             bits = λ q l. ap (λ u. three u u u) (bit-zero q) ∙ ap bitsOf (sym (fresh-idle q));
           };
       in-plan = λ q l a. absurd (a (fresh-idle q));

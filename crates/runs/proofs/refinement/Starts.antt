@@ -9,9 +9,9 @@ use lib.ListN.{length, getD, set}
 use borrow.Author.Tests.{eqb-true, eq-eqb, ne-eqb}
 use Rattle.masks.specs.Sets.{bit, maskOf}
 use Rattle.masks.proofs.Masks.{mask-below, bit-mask-at}
-use Rattle.plans.specs.Entries.{slots}
+use Rattle.plans.specs.Entries.{maxProcessors}
 use Rattle.masks.proofs.Tabulate.{getD-tabulate}
-use Rattle.rules.specs.declared.settling.Phases.{Phases}
+use Rattle.rules.specs.declared.states.Phases.{Phases}
 use Rattle.rules.specs.Requests.{Facts, factsBy, isEarlier, active}
 use Rattle.rules.specs.Acts.{putIn, putLast, takenOut}
 use Rattle.runs.proofs.history.Cases.{by-processor, getD-set}
@@ -31,38 +31,38 @@ module _ (ph : Phases) (p : ℕ) (c : Tidy ph) (was-idle : phaseOf ph p ≡ idle
   put-moves =
       let w : ℕ → Bool = λ q. bit (ph .waiting) q || eqb q p in
       record {
-        waiting-below = mask-below slots w;
+        waiting-below = mask-below maxProcessors w;
         entitled-below = c .entitled-below;
         holding-below = c .holding-below;
         bits = λ q l.
-            ap (λ u. three u (bit (ph .entitled) q) (bit (ph .holding) q)) (bit-mask-at slots w q l)
+            ap (λ u. three u (bit (ph .entitled) q) (bit (ph .holding) q)) (bit-mask-at maxProcessors w q l)
             ∙ put-bits _ _ _ (eqb q p) (λ t. bits-in ph q c l idle (ap (phaseOf ph) (eqb-true q p t) ∙ was-idle));
       }
 
 -- Which requests are earlier than q's: for the new one all that are active, for another the same as before without p's.
-module _ (earlier : List ℕ) (ph : Phases) (p j q : ℕ) (lj : j < slots) (lq : q < slots) where
+module _ (earlier : List ℕ) (ph : Phases) (p j q : ℕ) (lj : j < maxProcessors) (lq : q < maxProcessors) where
   abbrev new : ℕ
-  new = maskOf slots (active ph)
+  new = maskOf maxProcessors (active ph)
 
   abbrev old : ℕ
-  old = maskOf slots (λ r. bit (getD earlier q 0) r && not (eqb r p))
+  old = maskOf maxProcessors (λ r. bit (getD earlier q 0) r && not (eqb r p))
 
   put-earlier : getD (putLast earlier ph p) q 0 ≡ cond (eqb q p) new old
   unfolding putLast
   put-earlier =
-      getD-tabulate slots
-      (λ q. cond (eqb q p) (maskOf slots (active ph)) (maskOf slots (λ r. bit (getD earlier q 0) r && not (eqb r p)))) q 0 lq
+      getD-tabulate maxProcessors
+      (λ q. cond (eqb q p) (maskOf maxProcessors (active ph)) (maskOf maxProcessors (λ r. bit (getD earlier q 0) r && not (eqb r p)))) q 0 lq
 
   put-earlier-new : q ≡ p → bit (getD (putLast earlier ph p) q 0) j ≡ active ph j
   put-earlier-new same =
       ap (λ (m : ℕ). bit m j) (put-earlier ∙ ap (λ u. cond u new old) (eq-eqb q p same))
-      ∙ bit-mask-at slots (active ph) j lj
+      ∙ bit-mask-at maxProcessors (active ph) j lj
 
   put-earlier-other : (q ≡ p → ⊥)
       → bit (getD (putLast earlier ph p) q 0) j ≡ (bit (getD earlier q 0) j && not (eqb j p))
   put-earlier-other other =
       ap (λ (m : ℕ). bit m j) (put-earlier ∙ ap (λ u. cond u new old) (ne-eqb q p other))
-      ∙ bit-mask-at slots (λ r. bit (getD earlier q 0) r && not (eqb r p)) j lj
+      ∙ bit-mask-at maxProcessors (λ r. bit (getD earlier q 0) r && not (eqb r p)) j lj
 
 module _ (rows : List ℕ) (writes : ℕ) (entry earlier : List ℕ) (ph : Phases) (p e : ℕ) (G : ℕ → Bool) where
   abbrev before : Facts
@@ -71,8 +71,8 @@ module _ (rows : List ℕ) (writes : ℕ) (entry earlier : List ℕ) (ph : Phase
   abbrev after : Facts
   after = factsBy rows writes (set entry p e) (putLast earlier ph p)
 
-  pub put-in : length entry ≡ slots → Tidy ph → p < slots → phaseOf ph p ≡ idle
-      → PutIn slots (requestsOf (factsBy rows writes entry earlier) G)
+  pub put-in : length entry ≡ maxProcessors → Tidy ph → p < maxProcessors → phaseOf ph p ≡ idle
+      → PutIn maxProcessors (requestsOf (factsBy rows writes entry earlier) G)
       (requestsOf (factsBy rows writes (set entry p e) (putLast earlier ph p)) G) (phaseOf ph) (phaseOf (putIn ph p)) p
   put-in full c below was-idle =
       record {
@@ -108,20 +108,20 @@ module _ (ph : Phases) (p : ℕ) where
   unfolding takenOut
   take-moves =
       let left : ℕ → ℕ → Bool = λ mask q. bit mask q && not (eqb q p) in
-      let at : (mask q : ℕ) → q < slots → bit (maskOf slots (left mask)) q ≡ left mask q =
-      λ mask. bit-mask-at slots (left mask) in
+      let at : (mask q : ℕ) → q < maxProcessors → bit (maskOf maxProcessors (left mask)) q ≡ left mask q =
+      λ mask. bit-mask-at maxProcessors (left mask) in
       record {
-        waiting-below = mask-below slots (left (ph .waiting));
-        entitled-below = mask-below slots (left (ph .entitled));
-        holding-below = mask-below slots (left (ph .holding));
+        waiting-below = mask-below maxProcessors (left (ph .waiting));
+        entitled-below = mask-below maxProcessors (left (ph .entitled));
+        holding-below = mask-below maxProcessors (left (ph .holding));
         bits = λ q l.
             ap₂ (λ u v. three u v (bit (takenOut ph p .holding) q)) (at (ph .waiting) q l) (at (ph .entitled) q l)
             ∙ ap (three (left (ph .waiting) q) (left (ph .entitled) q)) (at (ph .holding) q l)
             ∙ take-bits _ _ _ (eqb q p);
       }
 
-  pub taken-out : (R : Requests) → p < slots → (phaseOf ph p ≡ idle → ⊥)
-      → TakenOut slots R R (phaseOf ph) (phaseOf (takenOut ph p)) p
+  pub taken-out : (R : Requests) → p < maxProcessors → (phaseOf ph p ≡ idle → ⊥)
+      → TakenOut maxProcessors R R (phaseOf ph) (phaseOf (takenOut ph p)) p
   taken-out R below was-active =
       record {
         below = below;

@@ -6,8 +6,8 @@ use mathlib.Core.Bool.{Bool, true, false, cond, _||_, true≢false, false≢true
 use mathlib.Core.Logic.{inl, inr, ⊎-elim}
 use Rattle.masks.specs.Sets.{bit}
 use Rattle.masks.proofs.Truth.{or-cases, or-left, or-right}
-use Rattle.plans.specs.Entries.{slots}
-use Rattle.rules.specs.declared.settling.Phases.{Phases}
+use Rattle.plans.specs.Entries.{maxProcessors}
+use Rattle.rules.specs.declared.states.Phases.{Phases}
 use Rattle.rules.specs.Requests.{Facts, entryOf, isWriter, isEarlier, conflicts, unsatisfied, active}
 use Rattle.runs.proofs.columns.Columns.{Phase, Requests}
 use Rattle.runs.proofs.columns.Phases.{clash, Unsatisfied}
@@ -47,10 +47,10 @@ bitsOf Phase.holding = three false false true
 
 -- Phases processor by processor, with nothing past the last processor.
 pub record Tidy (ph : Phases) : Type 0 where
-  pub waiting-below : ph .waiting < 2 ^ slots
-  pub entitled-below : ph .entitled < 2 ^ slots
-  pub holding-below : ph .holding < 2 ^ slots
-  pub bits : (q : ℕ) → q < slots → bitsAt ph q ≡ bitsOf (phaseOf ph q)
+  pub waiting-below : ph .waiting < 2 ^ maxProcessors
+  pub entitled-below : ph .entitled < 2 ^ maxProcessors
+  pub holding-below : ph .holding < 2 ^ maxProcessors
+  pub bits : (q : ℕ) → q < maxProcessors → bitsAt ph q ≡ bitsOf (phaseOf ph q)
 
 -- ---- three bits
 
@@ -124,7 +124,7 @@ module _ (ph : Phases) (i : ℕ) where
   pub held-bit : phaseOf ph i ≡ Phase.holding → bit (ph .holding) i ≡ true
   held-bit k = sym (holding-bit w e h) ∙ ap (λ a. bitsOf a .2) k
 
-  module _ (c : Tidy ph) (l : i < slots) where
+  module _ (c : Tidy ph) (l : i < maxProcessors) where
     pub bits-in : (a : Phase) → phaseOf ph i ≡ a → bitsAt ph i ≡ bitsOf a
     bits-in a k = c .bits i l ∙ ap bitsOf k
 
@@ -143,8 +143,8 @@ module _ (ph : Phases) (i : ℕ) where
 
 -- The processors of the mask are those in the phase.
 pub record Marks (ph : Phases) (mask : ℕ) (phase : Phase) : Type 0 where
-  pub into : (i : ℕ) → i < slots → bit mask i ≡ true → phaseOf ph i ≡ phase
-  pub from : (i : ℕ) → i < slots → phaseOf ph i ≡ phase → bit mask i ≡ true
+  pub into : (i : ℕ) → i < maxProcessors → bit mask i ≡ true → phaseOf ph i ≡ phase
+  pub from : (i : ℕ) → i < maxProcessors → phaseOf ph i ≡ phase → bit mask i ≡ true
 
 pub marks-holding : (ph : Phases) → Marks ph (ph .holding) Phase.holding
 marks-holding ph = record { into = λ i l. held-phase ph i; from = λ i l. held-bit ph i }
@@ -160,22 +160,22 @@ marks-waiting ph c =
 -- ---- the processors that pass a test move to one phase
 
 pub record Becomes (a : Phase) (test : ℕ → Bool) (ph ph′ : Phases) : Type 0 where
-  pub waiting-below : ph′ .waiting < 2 ^ slots
-  pub entitled-below : ph′ .entitled < 2 ^ slots
-  pub holding-below : ph′ .holding < 2 ^ slots
-  pub bits : (q : ℕ) → q < slots → bitsAt ph′ q ≡ cond (test q) (bitsOf a) (bitsAt ph q)
+  pub waiting-below : ph′ .waiting < 2 ^ maxProcessors
+  pub entitled-below : ph′ .entitled < 2 ^ maxProcessors
+  pub holding-below : ph′ .holding < 2 ^ maxProcessors
+  pub bits : (q : ℕ) → q < maxProcessors → bitsAt ph′ q ≡ cond (test q) (bitsOf a) (bitsAt ph q)
 
 module _ {a : Phase} {test : ℕ → Bool} {ph ph′ : Phases} (m : Becomes a test ph ph′) where
-  bits-moved : (q : ℕ) → q < slots → test q ≡ true → bitsAt ph′ q ≡ bitsOf a
+  bits-moved : (q : ℕ) → q < maxProcessors → test q ≡ true → bitsAt ph′ q ≡ bitsOf a
   bits-moved q l t = m .bits q l ∙ ap (λ u. cond u (bitsOf a) (bitsAt ph q)) t
 
-  bits-kept : (q : ℕ) → q < slots → test q ≡ false → bitsAt ph′ q ≡ bitsAt ph q
+  bits-kept : (q : ℕ) → q < maxProcessors → test q ≡ false → bitsAt ph′ q ≡ bitsAt ph q
   bits-kept q l t = m .bits q l ∙ ap (λ u. cond u (bitsOf a) (bitsAt ph q)) t
 
-  pub moved : (q : ℕ) → q < slots → test q ≡ true → phaseOf ph′ q ≡ a
+  pub moved : (q : ℕ) → q < maxProcessors → test q ≡ true → phaseOf ph′ q ≡ a
   moved q l t = ap (λ b. phaseBy (b .0) (b .1) (b .2)) (bits-moved q l t) ∙ phase-of-bits a
 
-  pub kept : (q : ℕ) → q < slots → test q ≡ false → phaseOf ph′ q ≡ phaseOf ph q
+  pub kept : (q : ℕ) → q < maxProcessors → test q ≡ false → phaseOf ph′ q ≡ phaseOf ph q
   kept q l t = ap (λ b. phaseBy (b .0) (b .1) (b .2)) (bits-kept q l t)
 
   pub becomes-tidy : Tidy ph → Tidy ph′
@@ -187,6 +187,6 @@ module _ {a : Phase} {test : ℕ → Bool} {ph ph′ : Phases} (m : Becomes a te
         bits = λ q l. go q l (test q) refl;
       }
     where
-      go : (q : ℕ) → q < slots → (t : Bool) → test q ≡ t → bitsAt ph′ q ≡ bitsOf (phaseOf ph′ q)
+      go : (q : ℕ) → q < maxProcessors → (t : Bool) → test q ≡ t → bitsAt ph′ q ≡ bitsOf (phaseOf ph′ q)
       go q l true t = bits-moved q l t ∙ ap bitsOf (sym (moved q l t))
       go q l false t = bits-kept q l t ∙ c .bits q l ∙ ap bitsOf (sym (kept q l t))

@@ -9,8 +9,8 @@ use Rattle.masks.specs.Sets.{bit, maskOf}
 use Rattle.masks.proofs.Masks.{mask-below, bit-mask-at}
 use Rattle.masks.proofs.Some.{some-found, some-none-at}
 use Rattle.masks.proofs.Truth.{and-left, and-right, and-both, or-cases, or-left, or-right}
-use Rattle.plans.specs.Entries.{slots}
-use Rattle.rules.specs.declared.settling.Phases.{Phases}
+use Rattle.plans.specs.Entries.{maxProcessors}
+use Rattle.rules.specs.declared.states.Phases.{Phases}
 use Rattle.rules.specs.Requests.{Facts, isEarlier, isWriter, conflicts, against, unsatisfied, unsatisfiedWrite, holdingRead, holdingWrite, entitledRead, entitledWrite, waitingRead, waitingWrite}
 use Rattle.rules.specs.Settling.{hold, entitle, test1, test2, test3, test4, step1, step2, step3, step4}
 use Rattle.runs.proofs.columns.Columns.{Phase, waiting, entitled, holding, Requests, Exists, None, In, EarlierUnsatisfied, Step1, Step2, Step3, Step4}
@@ -22,20 +22,20 @@ use Rattle.runs.proofs.refinement.State.{requestsOf, phaseOf, three, bi
 
 -- P means that the request conflicts with p's and passes the test.
 pub record Says (f : Facts) (p : ℕ) (test : ℕ → Bool) (P : ℕ → Type 0) : Type 0 where
-  pub into : (q : ℕ) → q < slots → test q ≡ true → conflicts f p q ≡ true → P q
-  pub passes : (q : ℕ) → q < slots → P q → test q ≡ true
-  pub conflict : (q : ℕ) → q < slots → P q → conflicts f p q ≡ true
+  pub into : (q : ℕ) → q < maxProcessors → test q ≡ true → conflicts f p q ≡ true → P q
+  pub passes : (q : ℕ) → q < maxProcessors → P q → test q ≡ true
+  pub conflict : (q : ℕ) → q < maxProcessors → P q → conflicts f p q ≡ true
 
 module _ {f : Facts} {p : ℕ} {test : ℕ → Bool} {P : ℕ → Type 0} (says : Says f p test P) where
-  pub found : against f p test ≡ true → Exists slots P
+  pub found : against f p test ≡ true → Exists maxProcessors P
   found h =
-      let r = some-found slots (λ q. test q && conflicts f p q) h in
+      let r = some-found maxProcessors (λ q. test q && conflicts f p q) h in
       (r .0, r .1, says .into (r .0) (r .1) (and-left (test (r .0)) _ (r .2)) (and-right (test (r .0)) _ (r .2)))
 
-  pub not-found : against f p test ≡ false → None slots P
+  pub not-found : against f p test ≡ false → None maxProcessors P
   not-found h q l x =
       true-not-false (and-both (test q) (conflicts f p q) (says .passes q l x) (says .conflict q l x))
-      (some-none-at slots (λ q. test q && conflicts f p q) q h l)
+      (some-none-at maxProcessors (λ q. test q && conflicts f p q) q h l)
 
 module _ (f : Facts) (G : ℕ → Bool) (ph : Phases) (p : ℕ) where
   says-write : (mask : ℕ) (phase : Phase) → Marks ph mask phase
@@ -111,26 +111,26 @@ module _ (ph : Phases) (test : ℕ → Bool) (c : Tidy ph) where
       let e : ℕ → Bool = λ p. bit (ph .entitled) p && not (test p) in
       let h : ℕ → Bool = λ p. bit (ph .holding) p || test p in
       record {
-        waiting-below = mask-below slots w;
-        entitled-below = mask-below slots e;
-        holding-below = mask-below slots h;
+        waiting-below = mask-below maxProcessors w;
+        entitled-below = mask-below maxProcessors e;
+        holding-below = mask-below maxProcessors h;
         bits = λ q l.
-            ap₂ (λ u v. three u v (bit (maskOf slots h) q)) (bit-mask-at slots w q l) (bit-mask-at slots e q l)
-            ∙ ap (three (w q) (e q)) (bit-mask-at slots h q l)
+            ap₂ (λ u v. three u v (bit (maskOf maxProcessors h) q)) (bit-mask-at maxProcessors w q l) (bit-mask-at maxProcessors e q l)
+            ∙ ap (three (w q) (e q)) (bit-mask-at maxProcessors h q l)
             ∙ hold-bits _ _ _ (test q);
       }
 
-  entitled-by : ((q : ℕ) → q < slots → test q ≡ true → phaseOf ph q ≡ waiting)
+  entitled-by : ((q : ℕ) → q < maxProcessors → test q ≡ true → phaseOf ph q ≡ waiting)
       → Becomes entitled test ph (entitle ph test)
   entitled-by from =
       let w : ℕ → Bool = λ p. bit (ph .waiting) p && not (test p) in
       let e : ℕ → Bool = λ p. bit (ph .entitled) p || test p in
       record {
-        waiting-below = mask-below slots w;
-        entitled-below = mask-below slots e;
+        waiting-below = mask-below maxProcessors w;
+        entitled-below = mask-below maxProcessors e;
         holding-below = c .holding-below;
         bits = λ q l.
-            ap₂ (λ u v. three u v (bit (ph .holding) q)) (bit-mask-at slots w q l) (bit-mask-at slots e q l)
+            ap₂ (λ u v. three u v (bit (ph .holding) q)) (bit-mask-at maxProcessors w q l) (bit-mask-at maxProcessors e q l)
             ∙ entitle-bits _ _ _ (test q) (λ t. bits-in ph q c l waiting (from q l t));
       }
 
@@ -179,11 +179,11 @@ one-fails false b h = inl refl
 
 -- ---- the steps
 
-module _ (f : Facts) (G : ℕ → Bool) (ph : Phases) (c : Tidy ph) (i : ℕ) (l : i < slots) where
+module _ (f : Facts) (G : ℕ → Bool) (ph : Phases) (c : Tidy ph) (i : ℕ) (l : i < maxProcessors) where
   abbrev R : Requests
   R = requestsOf f G
 
-  pub first-step : Step1 slots R (phaseOf ph) (phaseOf (step1 f ph)) i
+  pub first-step : Step1 maxProcessors R (phaseOf ph) (phaseOf (step1 f ph)) i
   unfolding step1 test1
   first-step = go (test1 f ph i) refl
     where
@@ -194,7 +194,7 @@ module _ (f : Facts) (G : ℕ → Bool) (ph : Phases) (c : Tidy ph) (i : ℕ) (l
       next = against f i (entitledWrite f ph)
 
       grants : test1 f ph i ≡ true → (entitledRead f ph i ≡ true) ⊎ ((waitingRead f ph i && not next) ≡ true)
-          → Step1 slots R (phaseOf ph) (phaseOf (step1 f ph)) i
+          → Step1 maxProcessors R (phaseOf ph) (phaseOf (step1 f ph)) i
       grants e (inl r) =
           Step1.grants (not-true _ (and-right (bit (ph .entitled) i) _ r))
           (entitled-phase ph i c l (and-left (bit (ph .entitled) i) _ r))
@@ -208,7 +208,7 @@ module _ (f : Facts) (G : ℕ → Bool) (ph : Phases) (c : Tidy ph) (i : ℕ) (l
           (not-found (says-entitled-write f G ph i c) (not-true _ (and-right (waitingRead f ph i) _ r)))
           (moved (step1-moves f ph c) i l e)
 
-      go : (t : Bool) → test1 f ph i ≡ t → Step1 slots R (phaseOf ph) (phaseOf (step1 f ph)) i
+      go : (t : Bool) → test1 f ph i ≡ t → Step1 maxProcessors R (phaseOf ph) (phaseOf (step1 f ph)) i
       go true e = grants e (or-cases (entitledRead f ph i) _ (and-left (entitledRead f ph i || waitingRead f ph i && not next) _ e))
       go false e =
           Step1.stays
@@ -220,14 +220,14 @@ module _ (f : Facts) (G : ℕ → Bool) (ph : Phases) (c : Tidy ph) (i : ℕ) (l
           (kept (step1-moves f ph c) i l e)
 
   -- What a read that step 1 leaves waiting waits for.
-  pub first-leaves : isWriter f i ≡ false → phaseOf (step1 f ph) i ≡ waiting → Stopped slots R (phaseOf ph) i
+  pub first-leaves : isWriter f i ≡ false → phaseOf (step1 f ph) i ≡ waiting → Stopped maxProcessors R (phaseOf ph) i
   unfolding test1
   first-leaves read w = go (test1 f ph i) refl
     where
       next : Bool
       next = against f i (entitledWrite f ph)
 
-      reason : waitingRead f ph i ≡ true → test1 f ph i ≡ false → (t : Bool) → next ≡ t → Stopped slots R (phaseOf ph) i
+      reason : waitingRead f ph i ≡ true → test1 f ph i ≡ false → (t : Bool) → next ≡ t → Stopped maxProcessors R (phaseOf ph) i
       reason r e true k = inr (found (says-entitled-write f G ph i c) k)
       reason r e false k =
           inl
@@ -236,13 +236,13 @@ module _ (f : Facts) (G : ℕ → Bool) (ph : Phases) (c : Tidy ph) (i : ℕ) (l
           (second-fails (entitledRead f ph i || waitingRead f ph i && not next) _ e
           (or-right (entitledRead f ph i) _ (and-both _ _ r (ap not k))))))
 
-      go : (t : Bool) → test1 f ph i ≡ t → Stopped slots R (phaseOf ph) i
+      go : (t : Bool) → test1 f ph i ≡ t → Stopped maxProcessors R (phaseOf ph) i
       go true e = absurd (clash (moved (step1-moves f ph c) i l e) w tt)
       go false e =
           let waits = sym (kept (step1-moves f ph c) i l e) ∙ w in
           reason (and-both _ _ (marks-waiting ph c .from i l waits) (ap not read)) e next refl
 
-  pub second-step : Step2 slots R (phaseOf ph) (phaseOf (step2 f ph)) i
+  pub second-step : Step2 maxProcessors R (phaseOf ph) (phaseOf (step2 f ph)) i
   unfolding step2 test2
   second-step = go (test2 f ph i) refl
     where
@@ -256,8 +256,8 @@ module _ (f : Facts) (G : ℕ → Bool) (ph : Phases) (c : Tidy ph) (i : ℕ) (l
       read = against f i (entitledRead f ph)
 
       reason : (not earlier && (not held && not read)) ≡ false
-          → Exists slots (EarlierUnsatisfied R (phaseOf ph) i)
-          ⊎ (Exists slots (In R (phaseOf ph) holding true i) ⊎ Exists slots (In R (phaseOf ph) entitled false i))
+          → Exists maxProcessors (EarlierUnsatisfied R (phaseOf ph) i)
+          ⊎ (Exists maxProcessors (In R (phaseOf ph) holding true i) ⊎ Exists maxProcessors (In R (phaseOf ph) entitled false i))
       reason e =
           ⊎-elim (λ h. inl (found (says-earlier f G ph i c) (not-false _ h)))
           (λ h.
@@ -266,7 +266,7 @@ module _ (f : Facts) (G : ℕ → Bool) (ph : Phases) (c : Tidy ph) (i : ℕ) (l
           (λ k. inr (found (says-entitled-read f G ph i c) (not-false _ k))) (one-fails (not held) (not read) h)))
           (one-fails (not earlier) (not held && not read) e)
 
-      go : (t : Bool) → test2 f ph i ≡ t → Step2 slots R (phaseOf ph) (phaseOf (step2 f ph)) i
+      go : (t : Bool) → test2 f ph i ≡ t → Step2 maxProcessors R (phaseOf ph) (phaseOf (step2 f ph)) i
       go true e =
           let w = and-left (waitingWrite f ph i) _ e in
           let k = waiting-phase ph i c l (and-left (bit (ph .waiting) i) _ w) in
@@ -281,11 +281,11 @@ module _ (f : Facts) (G : ℕ → Bool) (ph : Phases) (c : Tidy ph) (i : ℕ) (l
           Step2.stays (λ k w. reason (second-fails (waitingWrite f ph i) _ e (and-both _ _ (marks-waiting ph c .from i l k) w)))
           (kept (step2-moves f ph c) i l e)
 
-  pub third-step : Step3 slots R (phaseOf ph) (phaseOf (step3 f ph)) i
+  pub third-step : Step3 maxProcessors R (phaseOf ph) (phaseOf (step3 f ph)) i
   unfolding step3 test3
   third-step = go (test3 f ph i) refl
     where
-      go : (t : Bool) → test3 f ph i ≡ t → Step3 slots R (phaseOf ph) (phaseOf (step3 f ph)) i
+      go : (t : Bool) → test3 f ph i ≡ t → Step3 maxProcessors R (phaseOf ph) (phaseOf (step3 f ph)) i
       go true e =
           let w = and-left (entitledWrite f ph i) _ e in
           Step3.grants (and-right (bit (ph .entitled) i) _ w)
@@ -299,7 +299,7 @@ module _ (f : Facts) (G : ℕ → Bool) (ph : Phases) (c : Tidy ph) (i : ℕ) (l
           (not-false _ (second-fails (entitledWrite f ph i) _ e (and-both _ _ (marks-entitled ph c .from i l k) w))))
           (kept (step3-moves f ph c) i l e)
 
-  pub fourth-step : Step4 slots R (phaseOf ph) (phaseOf (step4 f ph)) i
+  pub fourth-step : Step4 maxProcessors R (phaseOf ph) (phaseOf (step4 f ph)) i
   unfolding step4 test4
   fourth-step = go (test4 f ph i) refl
     where
@@ -310,11 +310,11 @@ module _ (f : Facts) (G : ℕ → Bool) (ph : Phases) (c : Tidy ph) (i : ℕ) (l
       next = against f i (entitledWrite f ph)
 
       reason : (held ≡ false) ⊎ (not next ≡ false)
-          → None slots (In R (phaseOf ph) holding true i) ⊎ Exists slots (In R (phaseOf ph) entitled true i)
+          → None maxProcessors (In R (phaseOf ph) holding true i) ⊎ Exists maxProcessors (In R (phaseOf ph) entitled true i)
       reason (inl h) = inl (not-found (says-holding-write f G ph i c) h)
       reason (inr h) = inr (found (says-entitled-write f G ph i c) (not-false _ h))
 
-      go : (t : Bool) → test4 f ph i ≡ t → Step4 slots R (phaseOf ph) (phaseOf (step4 f ph)) i
+      go : (t : Bool) → test4 f ph i ≡ t → Step4 maxProcessors R (phaseOf ph) (phaseOf (step4 f ph)) i
       go true e =
           let r = and-left (waitingRead f ph i) _ e in
           let k = waiting-phase ph i c l (and-left (bit (ph .waiting) i) _ r) in

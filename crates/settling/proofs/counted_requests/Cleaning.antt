@@ -11,20 +11,20 @@ use borrow.Author.Tests.{lt-ltb}
 use Rattle.masks.specs.Sets.{bit, without, maskOf}
 use Rattle.masks.proofs.Places.{bit-or, bit-without, or-below}
 use Rattle.masks.proofs.Tests.{Mask, bit-is, agree-is, first-is, and-any}
-use Rattle.plans.specs.Entries.{slots}
-use Rattle.rules.specs.declared.settling.Phases.{Phases}
+use Rattle.plans.specs.Entries.{maxProcessors}
+use Rattle.rules.specs.declared.states.Phases.{Phases}
 use Rattle.rules.specs.declared.states.Terms.{Terms}
 use Rattle.rules.specs.CountedRequests.{hasProcessor, inPlan, isWaiting, isEntitled, isHolding, cleaned}
 
 -- The first n places, where the first m are meant.
-pub processors-are : (terms : Terms) (n : ℕ) → n ≤ slots → ((k : ℕ) → k < slots → ltb k n ≡ ltb k (terms .processors))
-    → 2 ^ n - 1 ≡ maskOf slots (hasProcessor terms)
+pub processors-are : (terms : Terms) (n : ℕ) → n ≤ maxProcessors → ((k : ℕ) → k < maxProcessors → ltb k n ≡ ltb k (terms .processors))
+    → 2 ^ n - 1 ≡ maskOf maxProcessors (hasProcessor terms)
 processors-are terms n h same =
-    agree-is (λ k l. same k l ∙ ap (λ t. t && ltb k (terms .processors)) (sym (lt-ltb k slots l))) (first-is slots n h) .is
+    agree-is (λ k l. same k l ∙ ap (λ t. t && ltb k (terms .processors)) (sym (lt-ltb k maxProcessors l))) (first-is maxProcessors n h) .is
 
 module _ (terms : Terms) (entry : List ℕ) (ph : Phases) where
   pub cleaned-masks : ph .waiting < 2 ^ 32 → ph .entitled < 2 ^ 32 → ph .holding < 2 ^ 32 → (first among waiting entitled : ℕ)
-      → first ≡ maskOf slots (hasProcessor terms) → among ≡ maskOf slots (λ p. bit first p && ltb (getD entry p 0) (terms .count))
+      → first ≡ maskOf maxProcessors (hasProcessor terms) → among ≡ maskOf maxProcessors (λ p. bit first p && ltb (getD entry p 0) (terms .count))
       → waiting ≡ without 32 (ph .waiting) (bitOr (ph .entitled) (ph .holding)) → entitled ≡ without 32 (ph .entitled) (ph .holding)
       → _≡_ {A = Phases}
       (record { waiting = bitAnd among waiting; entitled = bitAnd among entitled; holding = bitAnd among (ph .holding) })
@@ -33,18 +33,18 @@ module _ (terms : Terms) (entry : List ℕ) (ph : Phases) where
   cleaned-masks hw he hh first among waiting entitled ef ea ew ee =
       λ i. record { waiting = w .is i; entitled = e .is i; holding = and-any counted (ph .holding) .is i }
     where
-      counted : Mask slots (inPlan terms entry) among
+      counted : Mask maxProcessors (inPlan terms entry) among
       counted =
           agree-is (λ k l. ap (λ t. t && ltb (getD entry k 0) (terms .count)) (bit-is (record { is = ef }) k l)) (record { is = ea })
 
-      kept : (n : ℕ) (Q : ℕ → Bool) → ((k : ℕ) → bit n k ≡ Q k) → Mask slots (λ k. inPlan terms entry k && Q k) (bitAnd among n)
+      kept : (n : ℕ) (Q : ℕ → Bool) → ((k : ℕ) → bit n k ≡ Q k) → Mask maxProcessors (λ k. inPlan terms entry k && Q k) (bitAnd among n)
       kept n Q same = agree-is (λ k l. ap (λ t. inPlan terms entry k && t) (same k)) (and-any counted n)
 
-      w : Mask slots (isWaiting terms entry ph) (bitAnd among waiting)
+      w : Mask maxProcessors (isWaiting terms entry ph) (bitAnd among waiting)
       w =
           kept waiting _
           (λ k. ap (λ (x : ℕ). bit x k) ew ∙ bit-without 32 (ph .waiting) (bitOr (ph .entitled) (ph .holding)) k hw (or-below 32 (ph .entitled) (ph .holding) he hh)
           ∙ ap (λ t. bit (ph .waiting) k && not t) (bit-or (ph .entitled) (ph .holding) k))
 
-      e : Mask slots (isEntitled terms entry ph) (bitAnd among entitled)
+      e : Mask maxProcessors (isEntitled terms entry ph) (bitAnd among entitled)
       e = kept entitled _ (λ k. ap (λ (x : ℕ). bit x k) ee ∙ bit-without 32 (ph .entitled) (ph .holding) k he hh)

@@ -12,31 +12,31 @@ use Rattle.masks.proofs.Places.{bit-zero, bit-first}
 use Rattle.masks.proofs.Masks.{mask-agree}
 use Rattle.masks.proofs.Walks.{Kept, left-first}
 use Rattle.masks.proofs.Tests.{all-is, any-and, agree-is, bit-is}
-use Rattle.plans.specs.Entries.{slots}
+use Rattle.plans.specs.Entries.{maxProcessors}
 
 -- A mask of processors fits the code's word.
-pub fit : slots ≤ 32
+pub fit : maxProcessors ≤ 32
 fit = omega arith
 
 -- The walk through those of a mask that there are places for.
-pub kept-cut : (P : ℕ → Bool) (among : ℕ) → Kept slots 32 P among (bitAnd among (2 ^ slots - 1)) 0
+pub kept-cut : (P : ℕ → Bool) (among : ℕ) → Kept maxProcessors 32 P among (bitAnd among (2 ^ maxProcessors - 1)) 0
 kept-cut P among =
     record {
       walk = left-first fit among;
-      width = pow-pos slots;
+      width = pow-pos maxProcessors;
       places = λ k l.
-          ap (λ t. t || bit (bitAnd among (2 ^ slots - 1)) k && P k) (bit-zero k) ∙ ap (λ t. t && P k) (bit-first slots among k l);
+          ap (λ t. t || bit (bitAnd among (2 ^ maxProcessors - 1)) k && P k) (bit-zero k) ∙ ap (λ t. t && P k) (bit-first maxProcessors among k l);
     }
 
 -- Where the largest entry is below the count, all are.
-module _ (f : ℕ → ℕ) (most count : ℕ) (bound : (k : ℕ) → k < slots → f k ≤ most) (below : most < count) where
-  pub among-below : (among : ℕ) → bitAnd among (2 ^ slots - 1) ≡ maskOf slots (λ k. bit among k && ltb (f k) count)
+module _ (f : ℕ → ℕ) (most count : ℕ) (bound : (k : ℕ) → k < maxProcessors → f k ≤ most) (below : most < count) where
+  pub among-below : (among : ℕ) → bitAnd among (2 ^ maxProcessors - 1) ≡ maskOf maxProcessors (λ k. bit among k && ltb (f k) count)
   among-below among =
-      agree-is (λ k l. ap (λ t. bit among k && t) (sym (lt-ltb (f k) count (omega (arith, bound k l))))) (any-and among (all-is slots)) .is
+      agree-is (λ k l. ap (λ t. bit among k && t) (sym (lt-ltb (f k) count (omega (arith, bound k l))))) (any-and among (all-is maxProcessors)) .is
 
-  pub everyone-below : 2 ^ slots - 1 ≡ maskOf slots (λ k. ltb (f k) count)
-  everyone-below = agree-is (λ k l. sym (lt-ltb (f k) count (omega (arith, bound k l)))) (all-is slots) .is
+  pub everyone-below : 2 ^ maxProcessors - 1 ≡ maskOf maxProcessors (λ k. ltb (f k) count)
+  everyone-below = agree-is (λ k l. sym (lt-ltb (f k) count (omega (arith, bound k l)))) (all-is maxProcessors) .is
 
 -- Those of all the processors.
-pub of-all : (P : ℕ → Bool) → maskOf slots (λ k. bit (2 ^ slots - 1) k && P k) ≡ maskOf slots P
-of-all P = mask-agree slots _ _ (λ k l. ap (λ t. t && P k) (bit-is (all-is slots) k l))
+pub of-all : (P : ℕ → Bool) → maskOf maxProcessors (λ k. bit (2 ^ maxProcessors - 1) k && P k) ≡ maskOf maxProcessors P
+of-all P = mask-agree maxProcessors _ _ (λ k l. ap (λ t. t && P k) (bit-is (all-is maxProcessors) k l))

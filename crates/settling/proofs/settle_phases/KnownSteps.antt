@@ -6,26 +6,26 @@ use lib.Bits.{bitAnd, bitOr}
 use lib.Dec.{ltb}
 use Rattle.masks.specs.Sets.{bit, without, maskOf}
 use Rattle.masks.proofs.Tests.{and-is}
-use Rattle.plans.specs.Entries.{slots, mostEntries}
+use Rattle.plans.specs.Entries.{maxProcessors, maxEntries}
 use Rattle.rules.specs.Requests.{Facts, entryOf, isWriter, active}
 use Rattle.rules.specs.Settling.{step1, step2, step3, step4}
 use Rattle.rules.specs.inner.Moves.{Table, Known, knownIn, unopposedIn, firstInLine, Follows}
-use Rattle.rules.specs.declared.settling.Phases.{Phases}
+use Rattle.rules.specs.declared.states.Phases.{Phases}
 use Rattle.rules.proofs.FourSteps.{activeWrite, At, at-first, after1, after2, after3, after4}
 use Rattle.rules.proofs.Known.{unknown-read, known-writers, known1, known2, known3, known4, known-all, known-kept, and-known}
 
 -- The writes among the known processors of a mask.
-pub known-writes : (f : Facts) {k w : ℕ} (a : ℕ) → k ≡ knownIn (f .entry) → w ≡ maskOf slots (λ p. bit (bitAnd a k) p && isWriter f p)
-    → Known (f .entry) w
+pub known-writes : (f : Facts) {k w : ℕ} (a : ℕ) → k ≡ knownIn (f .requested) → w ≡ maskOf maxProcessors (λ p. bit (bitAnd a k) p && isWriter f p)
+    → Known (f .requested) w
 known-writes f a all are = known-kept _ (and-known a (known-all all)) are
 
-module _ (f : Facts) (small : f .writes < 2 ^ mostEntries) (table : Table (f .rows)) {k : ℕ} (all : k ≡ knownIn (f .entry)) where
+module _ (f : Facts) (small : f .writes < 2 ^ maxEntries) (table : Table (f .rows)) {k : ℕ} (all : k ≡ knownIn (f .requested)) where
   pub at-known : {ph : Phases} {w x e h : ℕ} → Follows ph x e h
-      → w ≡ maskOf slots (λ p. bit (bitAnd (bitOr (bitOr x e) h) k) p && isWriter f p) → At f ph w x e h
+      → w ≡ maskOf maxProcessors (λ p. bit (bitAnd (bitOr (bitOr x e) h) k) p && isWriter f p) → At f ph w x e h
   at-known {x = x} {e} {h} given are = at-first given (are ∙ known-writers f small (bitOr (bitOr x e) h) all)
 
   module _ {ph : Phases} {w x e h : ℕ} (at : At f ph w x e h) where
-    none : (p : ℕ) → ltb (entryOf f p) mostEntries ≡ false → activeWrite f ph p ≡ false
+    none : (p : ℕ) → ltb (entryOf f p) maxEntries ≡ false → activeWrite f ph p ≡ false
     none p n = ap (λ t. active ph p && t) (unknown-read f small p n) ∙ and-false (active ph p)
 
     pub known-after1 : {o g : ℕ} → o ≡ unopposedIn f (bitAnd x (without 32 k w)) (bitAnd e w)

@@ -14,10 +14,10 @@ use Rattle.masks.proofs.Places.{bit-or}
 use Rattle.masks.proofs.Masks.{mask-none, mask-agree}
 use Rattle.masks.proofs.Walks.{Left, left-more, lowest-place, bit-left, at-lowest, bit-none}
 use Rattle.masks.proofs.Stores.{stored-at}
-use Rattle.plans.specs.Entries.{slots}
+use Rattle.plans.specs.Entries.{maxProcessors}
 use Rattle.masks.specs.Tabulation.{tabulate}
 use Rattle.masks.proofs.Tabulate.{length-tabulate, getD-tabulate}
-use Rattle.rules.specs.declared.settling.Phases.{Phases}
+use Rattle.rules.specs.declared.states.Phases.{Phases}
 use Rattle.rules.specs.Requests.{Facts, active, isEarlier, isWriter, conflicts, holdingRead, holdingWrite, entitledWrite}
 use Rattle.waits.specs.Waits.{waitsIn}
 
@@ -36,37 +36,37 @@ getD-zeros (suc n) (suc p) = getD-zeros n p
 module _ (f : Facts) (ph : Phases) where
   -- All masks are filled in but those of what is left of the processors.
   pub record Filled (left : ℕ) (out : List ℕ) : Type 0 where
-    pub walk : Left slots 32 left
-    pub full : length out ≡ slots
-    pub masks : (k : ℕ) → k < slots → bit left k ≡ false → getD out k 0 ≡ maskOf slots (waitsIn f ph k)
+    pub walk : Left maxProcessors 32 left
+    pub full : length out ≡ maxProcessors
+    pub masks : (k : ℕ) → k < maxProcessors → bit left k ≡ false → getD out k 0 ≡ maskOf maxProcessors (waitsIn f ph k)
 
-  nobody : (k : ℕ) → (bit (ph .waiting) k || bit (ph .entitled) k) ≡ false → 0 ≡ maskOf slots (waitsIn f ph k)
+  nobody : (k : ℕ) → (bit (ph .waiting) k || bit (ph .entitled) k) ≡ false → 0 ≡ maskOf maxProcessors (waitsIn f ph k)
   unfolding waitsIn
   nobody k e =
-      sym (mask-none slots)
-      ∙ mask-agree slots _ _
+      sym (mask-none maxProcessors)
+      ∙ mask-agree maxProcessors _ _
       (λ q l. sym (neither-waits (bit (ph .waiting) k) (bit (ph .entitled) k) (isWriter f k)
       (holdingWrite f ph q && conflicts f k q) (entitledWrite f ph q && conflicts f k q) (holdingRead f ph q && conflicts f k q)
       (isEarlier f q k && (active ph q && isWriter f q) && conflicts f k q) e))
 
-  pub filled-first : Left slots 32 (bitOr (ph .waiting) (ph .entitled)) → length {A = ℕ} (replicate slots 0) ≡ slots
-      → Filled (bitOr (ph .waiting) (ph .entitled)) (replicate slots 0)
+  pub filled-first : Left maxProcessors 32 (bitOr (ph .waiting) (ph .entitled)) → length {A = ℕ} (replicate maxProcessors 0) ≡ maxProcessors
+      → Filled (bitOr (ph .waiting) (ph .entitled)) (replicate maxProcessors 0)
   filled-first walk full =
       record {
         walk = walk;
         full = full;
-        masks = λ k l e. getD-zeros slots k ∙ nobody k (sym (bit-or (ph .waiting) (ph .entitled) k) ∙ e);
+        masks = λ k l e. getD-zeros maxProcessors k ∙ nobody k (sym (bit-or (ph .waiting) (ph .entitled) k) ∙ e);
       }
 
   module _ {left : ℕ} {out : List ℕ} (new : ℕ) (some-left : 0 < left) (h : Filled left out)
-      (e : new ≡ maskOf slots (waitsIn f ph (trailingZeros 32 left))) where
+      (e : new ≡ maskOf maxProcessors (waitsIn f ph (trailingZeros 32 left))) where
     abbrev low : ℕ
     low = trailingZeros 32 left
 
-    at-place : (k : ℕ) → k < slots → (t : Bool) → eqb k low ≡ t → (bit left k && not t) ≡ false
-        → cond t new (getD out k 0) ≡ maskOf slots (waitsIn f ph k)
+    at-place : (k : ℕ) → k < maxProcessors → (t : Bool) → eqb k low ≡ t → (bit left k && not t) ≡ false
+        → cond t new (getD out k 0) ≡ maskOf maxProcessors (waitsIn f ph k)
     at-place k l true same none =
-        e ∙ ap (λ (x : ℕ). maskOf slots (waitsIn f ph x)) (sym (at-lowest (h .walk) some-left k same .0))
+        e ∙ ap (λ (x : ℕ). maskOf maxProcessors (waitsIn f ph x)) (sym (at-lowest (h .walk) some-left k same .0))
     at-place k l false same none = h .masks k l (sym (and-true (bit left k)) ∙ none)
 
     pub filled-more : Filled (bitAnd left (left - 1)) (set out low new)
@@ -79,8 +79,8 @@ module _ (f : Facts) (ph : Phases) where
               ∙ at-place k l (eqb k low) refl (sym (bit-left (h .walk) some-left k) ∙ none);
         }
 
-  pub filled-last : {left : ℕ} {out : List ℕ} → left ≡ 0 → Filled left out → out ≡ tabulate slots (λ p. maskOf slots (waitsIn f ph p))
+  pub filled-last : {left : ℕ} {out : List ℕ} → left ≡ 0 → Filled left out → out ≡ tabulate maxProcessors (λ p. maskOf maxProcessors (waitsIn f ph p))
   filled-last {left} {out} e h =
-      ext-getD 0 out _ (h .full ∙ sym (length-tabulate slots _))
-      (λ k l. let here : k < slots = omega (arith, h .full) in
-      h .masks k here (bit-none left k e) ∙ sym (getD-tabulate slots (λ p. maskOf slots (waitsIn f ph p)) k 0 here))
+      ext-getD 0 out _ (h .full ∙ sym (length-tabulate maxProcessors _))
+      (λ k l. let here : k < maxProcessors = omega (arith, h .full) in
+      h .masks k here (bit-none left k e) ∙ sym (getD-tabulate maxProcessors (λ p. maskOf maxProcessors (waitsIn f ph p)) k 0 here))

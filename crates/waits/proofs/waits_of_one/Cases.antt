@@ -7,8 +7,8 @@ use lib.ListN.{getD}
 use Rattle.masks.specs.Sets.{bit, without, maskOf}
 use Rattle.masks.proofs.Places.{bit-zero, bit-and, bit-or, bit-or-if, bit-without}
 use Rattle.masks.proofs.Masks.{bit-mask-at, mask-agree}
-use Rattle.plans.specs.Entries.{slots}
-use Rattle.rules.specs.declared.settling.Phases.{Phases}
+use Rattle.plans.specs.Entries.{maxProcessors}
+use Rattle.rules.specs.declared.states.Phases.{Phases}
 use Rattle.rules.specs.Requests.{Facts, active, isEarlier, isWriter, entryOf, conflicts}
 use Rattle.rules.proofs.Active.{waiting-active, entitled-active, holding-active, within-and, within-not}
 use Rattle.waits.specs.Waits.{waitsIn}
@@ -48,10 +48,10 @@ active-sides ep wp ap eq hq aq Wp Wq before k e w f h =
       within-and eq aq Wq f,
     )
 
-module _ (f : Facts) (ph : Phases) (writers p : ℕ) (are : writers ≡ writersIn f ph) (below : p < slots)
+module _ (f : Facts) (ph : Phases) (writers p : ℕ) (are : writers ≡ writersIn f ph) (below : p < maxProcessors)
     (h : ph .holding < 2 ^ 32) (hw : writers < 2 ^ 32) where
-  is-writer : (k : ℕ) → k < slots → bit writers k ≡ (active ph k && isWriter f k)
-  is-writer k l = ap (λ (x : ℕ). bit x k) are ∙ bit-mask-at slots (λ q. active ph q && isWriter f q) k l
+  is-writer : (k : ℕ) → k < maxProcessors → bit writers k ≡ (active ph k && isWriter f k)
+  is-writer k l = ap (λ (x : ℕ). bit x k) are ∙ bit-mask-at maxProcessors (λ q. active ph q && isWriter f q) k l
 
   module _ (first second third others : ℕ) (waiting entitled write : Bool)
       (ew : waiting ≡ bit (ph .waiting) p) (ee : entitled ≡ bit (ph .entitled) p) (er : write ≡ bit writers p)
@@ -77,7 +77,7 @@ module _ (f : Facts) (ph : Phases) (writers p : ℕ) (are : writers ≡ writersI
         (entitled && write && (bit (ph .holding) q && not (bit writers q)))
         (waiting && write && (isEarlier f q p && bit writers q))
 
-    waits-place : (q : ℕ) → q < slots → (bit others q && conflicts f p q) ≡ waitsIn f ph p q
+    waits-place : (q : ℕ) → q < maxProcessors → (bit others q && conflicts f p q) ≡ waitsIn f ph p q
     unfolding waitsIn
     waits-place q l =
         ap (λ t. t && conflicts f p q) (bit-others q)
@@ -88,8 +88,8 @@ module _ (f : Facts) (ph : Phases) (writers p : ℕ) (are : writers ≡ writersI
         (isWriter f p) (isWriter f q) (isEarlier f q p) (conflicts f p q) (entitled-active ph p) (waiting-active ph p) (entitled-active ph q)
         (holding-active ph q))
 
-    pub waits-mask : (row r : ℕ) → row ≡ getD (f .rows) (entryOf f p) 0 → r ≡ maskOf slots (λ q. bit others q && bit row (entryOf f q))
-        → r ≡ maskOf slots (waitsIn f ph p)
+    pub waits-mask : (row r : ℕ) → row ≡ getD (f .rows) (entryOf f p) 0 → r ≡ maskOf maxProcessors (λ q. bit others q && bit row (entryOf f q))
+        → r ≡ maskOf maxProcessors (waitsIn f ph p)
     waits-mask row r conflicting e =
         e
-        ∙ mask-agree slots _ _ (λ q l. ap (λ (x : ℕ). bit others q && bit x (entryOf f q)) conflicting ∙ waits-place q l)
+        ∙ mask-agree maxProcessors _ _ (λ q l. ap (λ (x : ℕ). bit others q && bit x (entryOf f q)) conflicting ∙ waits-place q l)

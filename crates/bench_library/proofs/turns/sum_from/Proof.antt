@@ -20,12 +20,12 @@ place-requires c κs =
 
 loop-less : tie.Need-loop-less Inv-loop μ-loop
 loop-less c =
-    let completes = c .before .before .before .before .before .before .before .before .before in
+    let completes = c .before .before .before .before .before .before .before .before .before .before in
     omega (arith, completes .before .before .before .before .before .before .before .before .before .loop-test .taken)
 
 loop-again : tie.Need-loop-again Inv-loop μ-loop
 loop-again c =
-    let completes = c .before .before .before .before .before .before .before .before .before in
+    let completes = c .before .before .before .before .before .before .before .before .before .before in
     omega (arith, completes .before .before .before .before .before .before .before .before .before .loop-test .taken)
 
 pub sum-from-spec : {M : Type 1} → statement M

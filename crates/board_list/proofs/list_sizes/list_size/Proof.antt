@@ -1,7 +1,7 @@
 -- `list_size` meets its contract: the sizes are small, so nothing overflows. Assumes nothing.
 use Prim.Native.Nat.{_≤_}
 use native.Mathlib.Omega.{arith}
-use Rattle.plans.specs.Entries.{slots}
+use Rattle.plans.specs.Entries.{maxProcessors}
 use Rattle.board_list.proofs.Sizes.{mask-size-small, list-small}
 use borrow.Author.Needs.{needs}
 use Rattle.board_list.proofs.list_sizes.list_size.Statement.{statement}
@@ -15,7 +15,7 @@ mul-result c =
     let masked = c .before in
     let few : masked .mask-size .result ≤ 4 =
     omega (arith, masked .mask-size .ensures, mask-size-small (masked .before .args .processors)) in
-    let places : c .listed .result ≤ slots = omega (arith, c .listed .ensures) in
+    let places : c .listed .result ≤ maxProcessors = omega (arith, c .listed .ensures) in
     omega (arith, list-small (masked .mask-size .result) (c .listed .result) few places)
 
 add-result-2 : tie.Need-add-result-2
@@ -23,7 +23,7 @@ add-result-2 c =
     let masked = c .before in
     let few : masked .mask-size .result ≤ 4 =
     omega (arith, masked .mask-size .ensures, mask-size-small (masked .before .args .processors)) in
-    let places : c .listed .result ≤ slots = omega (arith, c .listed .ensures) in
+    let places : c .listed .result ≤ maxProcessors = omega (arith, c .listed .ensures) in
     omega (arith, list-small (masked .mask-size .result) (c .listed .result) few places)
 
 returns : tie.Need-returns

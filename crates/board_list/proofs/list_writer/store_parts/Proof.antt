@@ -4,7 +4,7 @@ use Prim.Native.Nat.{_-_, _≤_, _<_}
 use native.Mathlib.Omega.{arith}
 use lib.ListN.{length}
 use lib.Seq.{sets}
-use Rattle.plans.specs.Entries.{slots}
+use Rattle.plans.specs.Entries.{maxProcessors}
 use Rattle.board_list.specs.Fields.{entryShown, waitedIn}
 use Rattle.board_list.specs.Sizes.{partSize, listSize}
 use Rattle.encoding.specs.InTurn.{inTurn}
@@ -40,7 +40,7 @@ loop-again c =
     let a = start .args in
     let low : loop .i < a .count = omega arith in
     let next = turn-stores (partSize (a .size))
-    (partIn (a .size) (a .phases) (a .last) (a .entries .now) (a .since .now) (a .waits .now))
+    (partIn (a .size) (a .phases) (a .last) (a .requested .now) (a .since .now) (a .waits .now))
     (λ p. length-part (a .size) _ _ _ _) 1 (a .count) (loop .i) (a .buffer .now) (loop .buffer) _ low
     (start .pre .2) (loop .inv .1) (loop .inv .2)
     (rw (state .state-at .ensures, entry .entry-at .ensures, waited .waited-at .ensures) at (stored .store-part .ensures)) in
@@ -50,7 +50,7 @@ mul-store-part-2 : tie.Need-mul-store-part-2 Inv-loop μ-loop
 mul-store-part-2 c =
     let loop = c .before .before .before .before .before .before .before .before .loop in
     let a = c .before .before .before .before .before .before .before .before .before .before .args in
-    let below : loop .i ≤ slots = omega arith in
+    let below : loop .i ≤ maxProcessors = omega arith in
     let small : a .size ≤ 4 = omega arith in
     omega (arith, list-small (a .size) (loop .i) small below)
 
@@ -58,7 +58,7 @@ add-store-part-2 : tie.Need-add-store-part-2 Inv-loop μ-loop
 add-store-part-2 c =
     let loop = c .before .before .before .before .before .before .before .before .loop in
     let a = c .before .before .before .before .before .before .before .before .before .before .args in
-    let below : loop .i ≤ slots = omega arith in
+    let below : loop .i ≤ maxProcessors = omega arith in
     let small : a .size ≤ 4 = omega arith in
     omega (arith, list-small (a .size) (loop .i) small below)
 

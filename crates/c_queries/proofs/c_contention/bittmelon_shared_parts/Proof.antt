@@ -5,7 +5,7 @@ use Rattle.c_queries.proofs.c_contention.bittmelon_shared_parts.Stateme
 use Rattle.c_queries.proofs.c_contention.bittmelon_shared_parts.Tie as tie
 
 returns : tie.Need-returns
-returns c = c .told-shared .ensures ∙ c .before .shared-on .ensures
+returns c = c .shared-for-c .ensures ∙ c .before .shared-on .ensures
 
 pub bittmelon-shared-parts-spec : {M : Type 1} → statement M
 bittmelon-shared-parts-spec = tie.close (tie.spec (λ c κs. search needs) (λ c κs. search needs) returns)

@@ -2,13 +2,13 @@
 use mathlib.Core.Path.{_∙_}
 use Prim.Native.Nat.{_<_}
 use borrow.Author.Needs.{needs}
-use Rattle.plans.specs.Entries.{slots}
+use Rattle.plans.specs.Entries.{maxProcessors}
 use Rattle.calls_in_place.proofs.Verdicts.{complete-refused, complete-counted, complete-done}
 use Rattle.calls_in_place.proofs.completing.complete_in_place.Statement.{statement}
 use Rattle.calls_in_place.proofs.completing.complete_in_place.Tie as tie
 
 -- The processor of an accepted completion has a place in a state.
-counted : (c : tie.After-enum-told) → c .before .before .before .before .before .before .args .processor < slots
+counted : (c : tie.After-enum-told) → c .before .before .before .before .before .before .args .processor < maxProcessors
 counted c = complete-counted _ _ _ _ _ _ (c .enum-told .given .1) (c .before .before .check-complete .ensures)
 
 returns : tie.Need-returns

@@ -4,13 +4,13 @@
 use mathlib.Core.Path.{_∙_}
 use Prim.Native.Nat.{_<_}
 use borrow.Author.Needs.{needs}
-use Rattle.plans.specs.Entries.{slots}
+use Rattle.plans.specs.Entries.{maxProcessors}
 use Rattle.calls_in_place.proofs.Verdicts.{handover-refused, handover-counted, handover-done}
 use Rattle.calls_in_place.proofs.handing_over.handover_in_place.Statement.{statement}
 use Rattle.calls_in_place.proofs.handing_over.handover_in_place.Tie as tie
 
 -- The processor of an accepted handover has a place in a state.
-counted : (c : tie.After-enum-told) → c .before .before .before .before .before .before .args .processor < slots
+counted : (c : tie.After-enum-told) → c .before .before .before .before .before .before .args .processor < maxProcessors
 counted c = handover-counted _ _ _ _ _ _ (c .enum-told .given .1) _ (c .before .before .check-handover .ensures)
 
 refused-requires : tie.Need-refused-requires

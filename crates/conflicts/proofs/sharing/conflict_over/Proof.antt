@@ -3,7 +3,7 @@ use native.Mathlib.Omega.{arith}
 use Prim.Native.Nat.{_<_}
 use lib.Count.{ones-le, leading-le}
 use Rattle.masks.proofs.Lowest.{lowest-below}
-use Rattle.plans.specs.Entries.{mostResources}
+use Rattle.plans.specs.Entries.{maxResources}
 use Rattle.conflicts.proofs.Over.{over-none, over-some}
 use Rattle.conflicts.proofs.sharing.conflict_over.Statement.{statement}
 use Rattle.conflicts.proofs.sharing.conflict_over.Tie as tie
@@ -22,6 +22,6 @@ conflict-over-spec =
     tie.close
     (tie.spec
     returns
-    (λ c. omega (arith, lowest-below mostResources _ (some c) (c .before .fits .set .fits), leading-le mostResources (c .before .args .set)))
-    (λ c. omega (arith, ones-le mostResources _ (c .before .fits .set .fits)))
+    (λ c. omega (arith, lowest-below maxResources _ (some c) (c .before .fits .set .fits), leading-le maxResources (c .before .args .set)))
+    (λ c. omega (arith, ones-le maxResources _ (c .before .fits .set .fits)))
     returns-2)

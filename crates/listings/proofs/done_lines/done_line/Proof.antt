@@ -60,7 +60,7 @@ returns-2 c =
     rw (done-parts (a .letter) (a .processor) (a .tick) (a .pairs .now) (maskSizeFor (a .processors)) (a .granted) (a .entitled) (a .late))
     (whole-line (callLead (a .letter) (a .processor) (a .tick)) (doneTail (a .pairs .now) (maskSizeFor (a .processors)) (a .granted) (a .entitled) (a .late)) (a .buffer .now) (a .at) _ _ (some-lead (a .letter) (a .processor) (a .tick)) (done-tail-length (a .pairs .now) (maskSizeFor (a .processors)) _ (a .granted) (a .entitled) (a .late) _ (led .before .before .before .mask-size .ensures) (led .before .before .byte-digits .ensures .0)) (led .put-lead .ensures .0) (c .before .before .before .before .before .before .before .before .before .if1 .left) _ (led .put-lead .ensures .1) _ _
     (fields-stored (maskFields (a .pairs .now) (maskSizeFor (a .processors)) (a .granted) (a .entitled)) (lastField (32 ∷ []) (a .late)) _ _
-    rest (masks .put-masks .ensures .0) (masks .put-masks .ensures .1 .0) (c .before .before .put-last .ensures .0) (c .before .before .put-last .ensures .1)))
+    rest (masks .put-masks .ensures .0) (masks .put-masks .ensures .1 .0) (c .before .before .put-line-end .ensures .0) (c .before .before .put-line-end .ensures .1)))
 
 pub done-line-spec : {M : Type 1} → statement M
 done-line-spec =

@@ -24,7 +24,7 @@ returns c =
     let second = c .before .before .before .before .before .before .before in
     rw (figures-parts (a .count) (a .read) (a .write))
     (three-stored (entriesField (a .count)) (readField (a .read)) (writeField (a .write)) (a .buffer .now) (a .at) (omega (arith, figures-length (a .count) (a .read) (a .write), c .before .before .before .before .before .before .before .before .before .before .before .before .before .before .before .before .pre)) (first .put-labelled .ensures .0) (first .put-labelled .ensures .1) (second .put-labelled2 .ensures .0) (second .put-labelled2 .ensures .1)
-    (c .before .before .put-last .ensures .0) (c .before .before .put-last .ensures .1))
+    (c .before .before .put-line-end .ensures .0) (c .before .before .put-line-end .ensures .1))
 
 pub write-figures-spec : {M : Type 1} → statement M
 write-figures-spec =

@@ -16,8 +16,8 @@ returns c =
     (no-line (callLead (a .letter) (a .processor) (a .tick)) (refusedTail (a .number)) (a .buffer .now) (a .at) _ _ (some-lead (a .letter) (a .processor) (a .tick))
     (refused-tail-length (a .number) _ (led .before .before .byte-digits .ensures .0)) (led .put-lead .ensures .0) (c .if1 .taken) _ (led .put-lead .ensures .1))
 
-add-put-last : tie.Need-add-put-last
-add-put-last c =
+add-put-line-end : tie.Need-add-put-line-end
+add-put-line-end c =
     let led = c .before .before .before .before .before in
     let a = led .before .before .before .before .args in
     omega (
@@ -47,7 +47,7 @@ returns-2 c =
     rw (refused-parts (a .letter) (a .processor) (a .tick) (a .number))
     (whole-line (callLead (a .letter) (a .processor) (a .tick)) (refusedTail (a .number)) (a .buffer .now) (a .at) _ _ (some-lead (a .letter) (a .processor) (a .tick))
     (refused-tail-length (a .number) _ (led .before .before .byte-digits .ensures .0)) (led .put-lead .ensures .0) (c .before .before .before .before .before .if1 .left) _ (led .put-lead .ensures .1)
-    _ _ (field-stored (refusedTail (a .number)) _ _ rest (c .before .before .put-last .ensures .0) (c .before .before .put-last .ensures .1)))
+    _ _ (field-stored (refusedTail (a .number)) _ _ rest (c .before .before .put-line-end .ensures .0) (c .before .before .put-line-end .ensures .1)))
 
 pub refused-line-spec : {M : Type 1} → statement M
 refused-line-spec =
@@ -60,7 +60,7 @@ refused-line-spec =
     (λ c. search needs)
     returns
     (λ c. search needs)
-    add-put-last
+    add-put-line-end
     (λ c κs. search needs)
     add-t10
     (λ c. search needs)

@@ -5,7 +5,7 @@ use native.Mathlib.Omega.{arith}
 use mathlib.Core.Path.{_≡_, refl, sym, _∙_}
 use lib.ListN.{length, take, drop}
 use lib.Seq.{sets}
-use Rattle.plans.specs.Entries.{mostEntries, sectionSize}
+use Rattle.plans.specs.Entries.{maxEntries, sectionSize}
 use Rattle.plans.specs.Writing.{sectionBytes}
 use Rattle.plans.proofs.Sizes.{sized-most, size-added}
 use Rattle.plan_bytes.proofs.plan_writer.Stores.{section-turn, section-end}
@@ -38,7 +38,7 @@ loop-again c =
     let written = c .before .before .before in
     let turn = written .before .before .before in
     let inv = turn .before .loop .inv in
-    let full : length (turn .before .before .before .args .t1) ≡ mostEntries = search needs in (
+    let full : length (turn .before .before .before .args .t1) ≡ maxEntries = search needs in (
       omega arith,
       (
         written .write-entry .kept .1 .0 ∙ inv .1 .0,

@@ -5,7 +5,7 @@ use native.Mathlib.Omega.{arith}
 use mathlib.Core.Path.{_≡_, refl, ap, _∙_}
 use borrow.Author.Needs.{needs}
 use lib.ListN.{length, take, drop, length-map}
-use Rattle.plans.specs.Entries.{mostEntries, headSize, largestEntry, sectionSize}
+use Rattle.plans.specs.Entries.{maxEntries, countsSize, largestEntry, sectionSize}
 use Rattle.plans.proofs.Counted.{all-taken}
 use Rattle.plans.proofs.Sizes.{sized-most, size-added, no-size-left}
 use Rattle.plans.proofs.plan_sizes.plan_size.Statement.{statement}
@@ -14,8 +14,8 @@ use Rattle.plans.proofs.plan_sizes.plan_size.Tie as tie
 abbrev Inv-loop : tie.InvT-loop
 Inv-loop entries count size₀ i₀ size i =
     (i ≤ count)
-    × ((size ≤ headSize + largestEntry * i)
-    × (size + sectionSize (drop i (take count entries)) ≡ headSize + sectionSize (take count entries)))
+    × ((size ≤ countsSize + largestEntry * i)
+    × (size + sectionSize (drop i (take count entries)) ≡ countsSize + sectionSize (take count entries)))
 
 abbrev μ-loop : tie.MeasureT-loop
 μ-loop entries count size₀ i₀ size i = count - i
@@ -30,7 +30,7 @@ loop-again : tie.Need-loop-again Inv-loop μ-loop
 loop-again c =
     let looped = c .before .before .before in
     let start = looped .before .before .before in
-    let full : length (start .args .plan .entries) ≡ mostEntries =
+    let full : length (start .args .plan .entries) ≡ maxEntries =
     simp length-map at (start .good .0 .1 .1 .1 .1 .1 .0 .1 .0 .1) in (
       omega arith,
       (
@@ -43,13 +43,13 @@ loop-again c =
 returns : tie.Need-returns Inv-loop μ-loop
 returns c =
     let start = c .before .before .before .before in
-    let full : length (start .args .plan .entries) ≡ mostEntries =
+    let full : length (start .args .plan .entries) ≡ maxEntries =
     simp length-map at (start .good .0 .1 .1 .1 .1 .1 .0 .1 .0 .1) in
     omega (
       arith,
       c .before .loop .inv .1 .1,
       no-size-left _ (c .before .loop .i) (start .args .plan .entries) (c .loop-test .left),
-      ap sectionSize (all-taken (start .args .plan .count) mostEntries (start .args .plan .entries) full),
+      ap sectionSize (all-taken (start .args .plan .count) maxEntries (start .args .plan .entries) full),
       ap (λ n. sectionSize (take n (start .args .plan .entries))) (c .before .before .counted-of .ensures),
     )
 

@@ -16,7 +16,7 @@ returns c =
     let cleaned = found .before in
     let a = cleaned .before .before .before .before .args in
     let b = boardBy (a .terms) (a .rows .now) [] in
-    let s = stateBy (a .moment) (a .entries .now) (a .since .now) (a .earlier .now) in
+    let s = stateBy (a .moment) (a .requested .now) (a .since .now) (a .earlier .now) in
     let counted = cleaned .clean .ensures in (
       written .write .ensures .0,
       written .write .ensures .1

@@ -8,7 +8,7 @@ use Rattle.queries.proofs.wait_queries.direct_rows.Tie as tie
 returns : tie.Need-returns
 returns c =
     let a = c .before .before .before .args in
-    rows-counted (boardWith (a .terms) (a .rows .now)) (stateWith (a .entry .now) (a .earlier .now) (a .phases)) _
+    rows-counted (boardWith (a .terms) (a .rows .now)) (stateWith (a .requested .now) (a .earlier .now) (a .phases)) _
     (c .before .clean .ensures) _ (c .waits-of-all .ensures)
 
 pub direct-rows-spec : {M : Type 1} → statement M

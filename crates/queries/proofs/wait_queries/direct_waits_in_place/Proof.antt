@@ -15,7 +15,7 @@ returns c =
     let a = cleaned .before .before .before .args in
     let below = processor-below (a .terms) (a .processor) (sym checked ∙ ap verdictNumber (told .enum-told .given .1)) in
     accepted-says _ _ _ _ checked (told .enum-told .given .1)
-    (waits-counted (boardWith (a .terms) (a .rows .now)) (stateWith (a .entry .now) (a .earlier .now) (a .phases)) _
+    (waits-counted (boardWith (a .terms) (a .rows .now)) (stateWith (a .requested .now) (a .earlier .now) (a .phases)) _
     (cleaned .clean .ensures) _ _ below (c .waits-of .ensures))
 
 returns-2 : tie.Need-returns-2

@@ -3,7 +3,7 @@ use mathlib.Core.Path.{_≡_, refl}
 use Prim.Native.Nat.{_<_, _≤_, _-_}
 use native.Mathlib.Omega.{arith}
 use lib.ListN.{length, take, length-set}
-use Rattle.plans.specs.Entries.{slots}
+use Rattle.plans.specs.Entries.{maxProcessors}
 use Rattle.masks.specs.Tabulation.{tabulate}
 use Rattle.masks.proofs.Tabulate.{fill-more, filled-whole}
 use Rattle.reach.specs.Rows.{joinedRow}
@@ -13,10 +13,10 @@ use Rattle.reach.proofs.reaching.join_through.Tie as tie
 
 abbrev Inv-loop : tie.InvT-loop
 Inv-loop k rows row next₀ p₀ next p =
-    (p ≤ slots) × (length next ≡ slots) × (take p next ≡ tabulate p (joinedRow rows k))
+    (p ≤ maxProcessors) × (length next ≡ maxProcessors) × (take p next ≡ tabulate p (joinedRow rows k))
 
 abbrev μ-loop : tie.MeasureT-loop
-μ-loop k rows row next₀ p₀ next p = slots - p
+μ-loop k rows row next₀ p₀ next p = maxProcessors - p
 
 loop-holds : tie.Need-loop-holds Inv-loop μ-loop
 unfolding tabulate
@@ -34,8 +34,8 @@ loop-again c =
 
 returns : tie.Need-returns Inv-loop μ-loop
 returns c =
-    let last : c .before .loop .p ≡ slots = omega arith in
-    filled-whole _ slots _ (c .before .loop .inv .1) (rw last at (c .before .loop .inv .2))
+    let last : c .before .loop .p ≡ maxProcessors = omega arith in
+    filled-whole _ maxProcessors _ (c .before .loop .inv .1) (rw last at (c .before .loop .inv .2))
 
 pub join-through-spec : {M : Type 1} → statement M
 join-through-spec =

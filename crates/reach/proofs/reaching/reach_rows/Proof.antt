@@ -4,7 +4,7 @@ use mathlib.Core.List.{List}
 use Prim.Native.Nat.{ℕ, _≤_, _-_}
 use native.Mathlib.Numerals.{add-one}
 use native.Mathlib.Omega.{arith}
-use Rattle.plans.specs.Entries.{slots}
+use Rattle.plans.specs.Entries.{maxProcessors}
 use Rattle.masks.specs.Tabulation.{tabulate}
 use Rattle.reach.specs.Rows.{joinedRow, rowsThrough}
 use borrow.Author.Needs.{needs}
@@ -31,7 +31,7 @@ loop-again c =
     let direct : List ℕ = c .before .before .before .before .args .direct in (
       omega arith,
       c .join-through .ensures
-          ∙ ap (λ (xs : List ℕ). tabulate slots (joinedRow xs (loop .k))) (loop .inv .1)
+          ∙ ap (λ (xs : List ℕ). tabulate maxProcessors (joinedRow xs (loop .k))) (loop .inv .1)
           ∙ ap (λ (n : ℕ). rowsThrough n direct) (sym (add-one (loop .k))),
     )
 

@@ -41,7 +41,7 @@ use denote.Triple.Clauses.{ensured, lasts}
 use denote.Exit.{yes}
 use Rattle.registers.specs.declared.Block.{Block}
 use Rattle.registers.specs.declared.ReadAnswer.{ReadAnswer}
-use Rattle.registers.specs.Registers.{registerRead, registerSays}
+use Rattle.registers.specs.Registers.{registerRead, registerAsNumbers}
 use Rattle.registers.proofs.Block as B
 use Rattle.registers.proofs.Block.Laws as B′
 use Rattle.registers.proofs.ReadAnswer as S
@@ -76,10 +76,10 @@ module _ {M : Type 1} (𝓤 : URA M) (H : Heap 𝓤) (A : Atoms 𝓤) (W : Given
   abbrev Post : Val → SProp 𝓤
   Post = walkOf 𝓤 H A here.ended stayed (here.clauses 𝓤 H A mem run) .post ((tt, tt, tt, (h, (n, tt)), (mach ∷ [], (vint w8 n ∷ [], tt))), tt)
 
-  abbrev Said : ReadAnswer → Type 0
-  Said r = registerSays r ≡ registerRead h n
+  abbrev AsNumbers : ReadAnswer → Type 0
+  AsNumbers r = registerAsNumbers r ≡ registerRead h n
 
-  exits : (r : ReadAnswer) (u : Val) → Said r → ent 𝓤 (sem 𝓤 H A (S.the-row .own r (u ∷ []))) (Post u)
+  exits : (r : ReadAnswer) (u : Val) → AsNumbers r → ent 𝓤 (sem 𝓤 H A (S.the-row .own r (u ∷ []))) (Post u)
   exits r u e =
       qed W (‵ (S.the-row .own r (u ∷ [])) ∷ []) ∵
       suffices ! _ (ends-at 𝓤 H A here.ended stayed (here.clauses 𝓤 H A mem run) W ((tt, tt, tt, (h, (n, tt)), (mach ∷ [], (vint w8 n ∷ [], tt))), tt) u r (tt, (tt, tt)) (tt, (tt, tt))) $ says ! e $
@@ -96,8 +96,8 @@ module _ {M : Type 1} (𝓤 : URA M) (H : Heap 𝓤) (A : Atoms 𝓤) (W : Given
   goes-read l γ ν = qed W ((‵ (flft (ν ∷ []) fullShare) ⊛ ‵ ftrue) ∷ ‵ (owns (ShrRef (named 0) (ν ∷ []) B.the-row ∷ u8 ∷ []) (lent l γ, (n, tt)) (vptr l 0 ∷ [], (vint w8 n ∷ [], tt))) ∷ []) ∵ join ! $ frame ! $ done !
 
   -- only the clause of `read_register`'s `ensured`: there is no `&mut`, so the part about last values is dropped
-  said-of : (l : ℕ) (γ : GName) (ν : ℕ) (r : ReadAnswer) → ent 𝓤 (ensured 𝓤 H A read.ended (read.clauses 𝓤 H A mem run) (ν ∷ [], tt) (lent l γ, (n, tt)) tt r) (fact 𝓤 (Said r))
-  said-of l γ ν r = exE 𝓤 _ (λ ws. snd∗ 𝓤 (sem 𝓤 H A (lasts read.ended (ν ∷ [], tt) (lent l γ, (n, tt)) ws)) (fact 𝓤 (Said r)))
+  said-of : (l : ℕ) (γ : GName) (ν : ℕ) (r : ReadAnswer) → ent 𝓤 (ensured 𝓤 H A read.ended (read.clauses 𝓤 H A mem run) (ν ∷ [], tt) (lent l γ, (n, tt)) tt r) (fact 𝓤 (AsNumbers r))
+  said-of l γ ν r = exE 𝓤 _ (λ ws. snd∗ 𝓤 (sem 𝓤 H A (lasts read.ended (ν ∷ [], tt) (lent l γ, (n, tt)) ws)) (fact 𝓤 (AsNumbers r)))
 
   module _ (C : Calls 𝓤 H) (Λ : Loops 𝓤 H) (fm : FmC 𝓤 H (W .laws) C) (known : Triple 𝓤 (C #register_block·read-register) (Read 𝓤 H A mem run)) where
     walk : ent 𝓤 (onEntry 𝓤 H A here.signature tt tt (h, (n, tt)) (mach ∷ [], (vint w8 n ∷ [], tt))) (WpFn 𝓤 H C Λ code.function (mach ∷ vint w8 n ∷ []) Post)
@@ -119,7 +119,7 @@ module _ {M : Type 1} (𝓤 : URA M) (H : Heap 𝓤) (A : Atoms 𝓤) (W : Given
         use2 W (raw (Read 𝓤 H A mem run .pre (to-read l₃ γ ν))) (goes-read l₃ γ ν) $
         calls-at ! fm (Read 𝓤 H A mem run) known (to-read l₃ γ ν) (and-then ! (load ! (from ! (stop !)) (look ! 3 refl)) (and-then ! (load ! (from ! (stop !)) (look ! 6 refl)) (no-more !))) (λ u.
         use1 W (later (some (λ (r : ReadAnswer). ((‵ (flft (ν ∷ []) fullShare) ⊛ ‵ ftrue) ⊛ ‵ (S.the-row .own r (u ∷ []))) ⊛ raw (ensured 𝓤 H A read.ended (read.clauses 𝓤 H A mem run) (ν ∷ [], tt) (lent l₃ γ, (n, tt)) tt r)))) (id⊢ 𝓤 _) $ await ! tt $ pick ! (λ r.
-        split ! $ move ! (1 ∷ []) $ use1 W (raw (fact 𝓤 (Said r))) (said-of l₃ γ ν r) $ heard ! (Said r) (λ e. split ! $ move ! (1 ∷ []) $
+        split ! $ move ! (1 ∷ []) $ use1 W (raw (fact 𝓤 (AsNumbers r))) (said-of l₃ γ ν r) $ heard ! (AsNumbers r) (λ e. split ! $ move ! (1 ∷ []) $
         peeks ! S.the-row (Is S.the-row) (shows 𝓤 H A S.the-row) r (u ∷ []) (λ is.
         -- [the result; the token; `lent`; the left half; _4; …; of _3 what frees it; _2; …; _1; …; room for _0; …]
         land ! (from ! (stop !)) (init ! 11 refl (EL.lawful S.the-type S′.the-laws 𝓤 H A W tt .typed r _ is .0)) $

@@ -49,7 +49,7 @@ use Rattle.rules.specs.InPlace.{boardBy}
 use Rattle.registers.specs.declared.Block.{Block}
 use Rattle.register_block.specs.declared.commands.Change.{Change}
 use Rattle.register_block.specs.declared.commands.Written.{Written}
-use Rattle.register_block.specs.Commands.{registerWrite, writtenSays}
+use Rattle.register_block.specs.Commands.{registerWrite, writtenAsNumbers}
 use Rattle.rules.proofs.states.Terms as TT
 use Rattle.rules.proofs.states.Terms.Laws as TT′
 use Rattle.rules.proofs.states.State as ST
@@ -140,8 +140,8 @@ module _ {M : Type 1} (𝓤 : URA M) (H : Heap 𝓤) (A : Atoms 𝓤) (W : Given
   abbrev Post : Val → SProp 𝓤
   Post = walkOf 𝓤 H A here.ended stayed (here.clauses 𝓤 H A at-mem run) .post (((κ₁, (κ₂, tt)), (q₁, (q₂, tt)), tt, x, at), tt)
 
-  abbrev Said : Written → Block → Type 0
-  Said r b = writtenSays r b ≡ registerWrite (boardBy terms (rows .now) (lengths .now)) state h n v
+  abbrev AsNumbers : Written → Block → Type 0
+  AsNumbers r b = writtenAsNumbers r b ≡ registerWrite (boardBy terms (rows .now) (lengths .now)) state h n v
 
   goes-write : (l : ℕ) (γ : GName) (ν : ℕ) → ent 𝓤 (sep 𝓤 (mean 𝓤 H A (‵ (flft (ν ∷ []) fullShare) ⊛ Tokens)) (sem 𝓤 H A (Passed l γ ν))) (Write 𝓤 H A at-mem run .pre (to-write l γ ν))
   goes-write l γ ν = qed W ((‵ (flft (ν ∷ []) fullShare) ⊛ Tokens) ∷ ‵ (Passed l γ ν) ∷ []) ∵ join ! $ frame ! $ done !
@@ -160,7 +160,7 @@ module _ {M : Type 1} (𝓤 : URA M) (H : Heap 𝓤) (A : Atoms 𝓤) (W : Given
     written-is : (r : Written) (u : Val) → Is R.the-row r (u ∷ []) → Is R.the-row r (written-val r ∷ [])
     written-is r u is = subst (Is R.the-row r) (LL.tells R.the-type R′.the-laws r _ is) is
 
-    exits : (r : Written) (b : Block) → Is D.the-row (change r b) (change-val r b ∷ []) → Said r b
+    exits : (r : Written) (b : Block) → Is D.the-row (change r b) (change-val r b ∷ []) → AsNumbers r b
         → ent 𝓤 (⋆ 𝓤 H A (Tokens ∷ ‵ (Lengths .own lengths (ptr-vals lengths)) ∷ ‵ (Rows .own rows (ptr-vals rows)) ∷ [])) (Post (change-val r b))
     exits r b is e =
         qed W (Tokens ∷ ‵ (Lengths .own lengths (ptr-vals lengths)) ∷ ‵ (Rows .own rows (ptr-vals rows)) ∷ []) ∵
@@ -207,8 +207,8 @@ module _ {M : Type 1} (𝓤 : URA M) (H : Heap 𝓤) (A : Atoms 𝓤) (W : Given
           (and-then ! (load ! (from ! (stop !)) (look ! 17 refl)) (and-then ! (load ! (from ! (stop !)) (look ! 13 refl)) (and-then ! (load ! (from ! (stop !)) (look ! 11 refl)) (no-more !)))))))) (λ u.
           use1 W (later (some (λ (r : Written). ((‵ (flft (ν ∷ []) fullShare) ⊛ Tokens) ⊛ ‵ (R.the-row .own r (u ∷ []))) ⊛ raw (ensured 𝓤 H A write.ended (write.clauses 𝓤 H A at-mem run) (ν ∷ [], (κ₁, (κ₂, tt))) (passed l₈ γ) tt r)))) (id⊢ 𝓤 _) $ await ! tt $ pick ! (λ r.
           -- what `write_register` ensures, for some last block
-          split ! $ move ! (1 ∷ []) $ use1 W (some (λ (ws : Block × (Unit {0} × (Unit {0} × (Unit {0} × (Unit {0} × (Unit {0} × (Unit {0} × Unit {0}))))))). ‵ (lasts write.ended (ν ∷ [], (κ₁, (κ₂, tt))) (passed l₈ γ) ws) ⊛ raw (fact 𝓤 (Said r (ws .0))))) (id⊢ 𝓤 _) $ pick ! (λ ws.
-          split ! $ move ! (1 ∷ []) $ heard ! (Said r (ws .0)) (λ e. fsplit ! $ move ! (2 ∷ []) $ split ! $ move ! (1 ∷ []) $
+          split ! $ move ! (1 ∷ []) $ use1 W (some (λ (ws : Block × (Unit {0} × (Unit {0} × (Unit {0} × (Unit {0} × (Unit {0} × (Unit {0} × Unit {0}))))))). ‵ (lasts write.ended (ν ∷ [], (κ₁, (κ₂, tt))) (passed l₈ γ) ws) ⊛ raw (fact 𝓤 (AsNumbers r (ws .0))))) (id⊢ 𝓤 _) $ pick ! (λ ws.
+          split ! $ move ! (1 ∷ []) $ heard ! (AsNumbers r (ws .0)) (λ e. fsplit ! $ move ! (2 ∷ []) $ split ! $ move ! (1 ∷ []) $
           -- [the answer; the tokens; the last value; …; `lent`; lengths; rows; room for _11; …; _10; …; room for _9; …;
           -- of _8 what frees it; …]
           peeks ! R.the-row (Is R.the-row) (shows 𝓤 H A R.the-row) r (u ∷ []) (λ is.

@@ -4,13 +4,13 @@ use borrow.Author.Needs.{needs}
 use Rattle.masks.proofs.Lowest.{rest-less}
 use Rattle.masks.proofs.Walks.{lowest-place}
 use Rattle.masks.proofs.Stores.{Stored, stored-first, stored-more, stored-last}
-use Rattle.plans.specs.Entries.{slots}
+use Rattle.plans.specs.Entries.{maxProcessors}
 use Rattle.requests.proofs.ages.Ages.{is-tabulate}
 use Rattle.requests.proofs.ages.stamp.Statement.{statement}
 use Rattle.requests.proofs.ages.stamp.Tie as tie
 
 abbrev Inv-loop : tie.InvT-loop
-Inv-loop since₀ among tick left₀ since left = Stored slots 32 tick among since₀ left since
+Inv-loop since₀ among tick left₀ since left = Stored maxProcessors 32 tick among since₀ left since
 
 abbrev μ-loop : tie.MeasureT-loop
 μ-loop since₀ among tick left₀ since left = left
@@ -34,7 +34,7 @@ loop-again : tie.Need-loop-again Inv-loop μ-loop
 loop-again c = stored-more (omega arith) (c .before .loop .inv)
 
 returns : tie.Need-returns Inv-loop μ-loop
-returns c = is-tabulate slots _ _ (c .before .loop .inv .full) (stored-last (c .loop-test .left) (c .before .loop .inv))
+returns c = is-tabulate maxProcessors _ _ (c .before .loop .inv .full) (stored-last (c .loop-test .left) (c .before .loop .inv))
 
 pub stamp-spec : {M : Type 1} → statement M
 stamp-spec =

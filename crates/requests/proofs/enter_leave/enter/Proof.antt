@@ -12,7 +12,7 @@ returns c =
     let stored = ticks .before .before in
     let a = stored .before .before .args in
     entered-done (a .rows .now) (a .writes) (a .tick) (a .processor) (a .phases) (a .earlier .now)
-    (set (a .entries .now) (a .processor) (a .entry)) (set (a .since .now) (a .processor) (a .tick))
+    (set (a .requested .now) (a .processor) (a .entry)) (set (a .since .now) (a .processor) (a .tick))
     (stored .store-entry .ensures) (ticks .store-tick .ensures) (put .settle-new .ensures) (c .accept .ensures _ _)
 
 pub enter-spec : {M : Type 1} → statement M

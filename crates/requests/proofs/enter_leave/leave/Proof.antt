@@ -9,7 +9,7 @@ returns : tie.Need-returns
 returns c =
     let settles = c .before .before in
     let a = settles .before .before .args in
-    left-done (factsBy (a .rows .now) (a .writes) (a .entries .now) (a .earlier .now)) (a .tick) (a .late) (a .entries .now)
+    left-done (factsBy (a .rows .now) (a .writes) (a .requested .now) (a .earlier .now)) (a .tick) (a .late) (a .requested .now)
     (a .since .now) (a .earlier .now) (settles .before .take-out .ensures) (settles .settle-left .ensures)
     (c .accept .ensures _ _)
 

@@ -7,7 +7,7 @@ use borrow.Author.Needs.{needs}
 use Rattle.masks.specs.Sets.{meets}
 use Rattle.masks.proofs.Lowest.{rest-less}
 use Rattle.masks.proofs.Walks.{Kept, kept-first, kept-more, kept-last}
-use Rattle.plans.specs.Entries.{slots}
+use Rattle.plans.specs.Entries.{maxProcessors}
 use Rattle.rules.specs.inner.Moves.{Known}
 use Rattle.rules.proofs.Known.{known-and}
 use Rattle.settling.proofs.Processors.{walk-of, lowest-known, lowest-entry}
@@ -16,7 +16,7 @@ use Rattle.settling.proofs.conflict_walks.clear_of.Tie as tie
 
 abbrev Inv-loop : tie.InvT-loop
 Inv-loop rows entry candidates set out₀ left₀ out left =
-    Kept slots 32 (λ p. not (meets (getD rows (getD entry p 0) 0) set)) candidates left out × Known entry left
+    Kept maxProcessors 32 (λ p. not (meets (getD rows (getD entry p 0) 0) set)) candidates left out × Known entry left
 
 abbrev μ-loop : tie.MeasureT-loop
 μ-loop rows entry candidates set out₀ left₀ out left = left

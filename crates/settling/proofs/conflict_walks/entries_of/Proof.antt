@@ -8,7 +8,7 @@ use borrow.Author.Needs.{needs}
 use Rattle.masks.proofs.Lowest.{rest-less}
 use Rattle.masks.proofs.Shifts.{one-shifted}
 use Rattle.masks.proofs.Gathers.{Gathered, gathered-first, gathered-more, gathered-last}
-use Rattle.plans.specs.Entries.{slots, mostEntries}
+use Rattle.plans.specs.Entries.{maxProcessors, maxEntries}
 use Rattle.rules.specs.inner.Moves.{Known}
 use Rattle.rules.proofs.Known.{known-and}
 use Rattle.settling.proofs.Processors.{walk-of, lowest-known, lowest-entry}
@@ -17,7 +17,7 @@ use Rattle.settling.proofs.conflict_walks.entries_of.Tie as tie
 
 abbrev Inv-loop : tie.InvT-loop
 Inv-loop entry among set₀ left₀ set left =
-    Gathered slots 32 mostEntries (λ p. getD entry p 0) among left set × Known entry left
+    Gathered maxProcessors 32 maxEntries (λ p. getD entry p 0) among left set × Known entry left
 
 abbrev μ-loop : tie.MeasureT-loop
 μ-loop entry among set₀ left₀ set left = left
@@ -36,7 +36,7 @@ loop-again c =
     let loop = c .before .before .loop in
     let below = lowest-entry (loop .inv .1) (omega arith) in (
       gathered-more _ (omega arith) (loop .inv .0) below
-          (rw (c .entry-at .ensures) (ap (λ (x : ℕ). bitOr (loop .set) x) (one-shifted mostEntries _ below))),
+          (rw (c .entry-at .ensures) (ap (λ (x : ℕ). bitOr (loop .set) x) (one-shifted maxEntries _ below))),
       known-and _ (loop .inv .1),
     )
 

@@ -7,7 +7,7 @@ use borrow.Author.Needs.{needs}
 use Rattle.masks.specs.Sets.{bit}
 use Rattle.masks.proofs.Lowest.{rest-less}
 use Rattle.masks.proofs.Walks.{Sought, sought-first, sought-found, sought-more, sought-last}
-use Rattle.plans.specs.Entries.{slots}
+use Rattle.plans.specs.Entries.{maxProcessors}
 use Rattle.rules.specs.inner.Moves.{Known}
 use Rattle.rules.proofs.Known.{known-and}
 use Rattle.settling.proofs.Processors.{walk-of, lowest-known, lowest-entry}
@@ -15,7 +15,7 @@ use Rattle.settling.proofs.conflict_walks.in_row.Statement.{statement}
 use Rattle.settling.proofs.conflict_walks.in_row.Tie as tie
 
 abbrev Inv-loop : tie.InvT-loop
-Inv-loop row entry among left₀ left = Sought slots 32 (λ q. bit row (getD entry q 0)) among left × Known entry left
+Inv-loop row entry among left₀ left = Sought maxProcessors 32 (λ q. bit row (getD entry q 0)) among left × Known entry left
 
 abbrev μ-loop : tie.MeasureT-loop
 μ-loop row entry among left₀ left = left

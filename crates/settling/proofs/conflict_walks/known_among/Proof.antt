@@ -4,7 +4,7 @@ use lib.ListN.{getD}
 use Rattle.masks.specs.Sets.{bit}
 use Rattle.masks.proofs.Lowest.{rest-less}
 use Rattle.masks.proofs.Walks.{Kept, kept-first, kept-more, kept-last}
-use Rattle.plans.specs.Entries.{slots}
+use Rattle.plans.specs.Entries.{maxProcessors}
 use Rattle.rules.specs.inner.Moves.{Known}
 use Rattle.rules.proofs.Known.{known-and}
 use Rattle.settling.proofs.Processors.{walk-of, lowest-known, lowest-entry}
@@ -13,7 +13,7 @@ use Rattle.settling.proofs.conflict_walks.known_among.Tie as tie
 
 abbrev Inv-loop : tie.InvT-loop
 Inv-loop entry set among out₀ left₀ out left =
-    Kept slots 32 (λ p. bit set (getD entry p 0)) among left out × Known entry left
+    Kept maxProcessors 32 (λ p. bit set (getD entry p 0)) among left out × Known entry left
 
 abbrev μ-loop : tie.MeasureT-loop
 μ-loop entry set among out₀ left₀ out left = left

@@ -4,13 +4,13 @@ use lib.ListN.{getD}
 use Rattle.masks.specs.Sets.{bit}
 use Rattle.masks.proofs.Lowest.{rest-less}
 use Rattle.masks.proofs.Walks.{Kept, kept-first, kept-more, kept-last, lowest-place}
-use Rattle.plans.specs.Entries.{slots}
+use Rattle.plans.specs.Entries.{maxProcessors}
 use Rattle.settling.proofs.Processors.{walk-of}
 use Rattle.settling.proofs.conflict_walks.those_in.Statement.{statement}
 use Rattle.settling.proofs.conflict_walks.those_in.Tie as tie
 
 abbrev Inv-loop : tie.InvT-loop
-Inv-loop entry set among out₀ left₀ out left = Kept slots 32 (λ p. bit set (getD entry p 0)) among left out
+Inv-loop entry set among out₀ left₀ out left = Kept maxProcessors 32 (λ p. bit set (getD entry p 0)) among left out
 
 abbrev μ-loop : tie.MeasureT-loop
 μ-loop entry set among out₀ left₀ out left = left

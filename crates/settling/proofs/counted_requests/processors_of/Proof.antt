@@ -6,7 +6,7 @@ use lib.Pow.{pow-pos}
 use borrow.Author.Needs.{needs}
 use borrow.Author.Tests.{lt-ltb}
 use Rattle.masks.proofs.Shifts.{one-shifted}
-use Rattle.plans.specs.Entries.{slots}
+use Rattle.plans.specs.Entries.{maxProcessors}
 use Rattle.settling.proofs.counted_requests.Cleaning.{processors-are}
 use Rattle.settling.proofs.counted_requests.processors_of.Statement.{statement}
 use Rattle.settling.proofs.counted_requests.processors_of.Tie as tie
@@ -20,7 +20,7 @@ returns c =
 
 returns-2 : tie.Need-returns-2
 returns-2 c =
-    processors-are (c .before .before .args .terms) slots (omega arith) (λ k l. lt-ltb k slots l ∙ sym (lt-ltb k _ (omega arith)))
+    processors-are (c .before .before .args .terms) maxProcessors (omega arith) (λ k l. lt-ltb k maxProcessors l ∙ sym (lt-ltb k _ (omega arith)))
 
 pub processors-of-spec : {M : Type 1} → statement M
 processors-of-spec =

@@ -10,7 +10,7 @@ use Rattle.settling.proofs.known_requests.all_below.Tie as tie
 returns : tie.Need-returns
 returns c =
     let a = c .before .before .args in
-    everyone-below (λ k. getD (a .entry .now) k 0) _ (a .count) (c .before .largest .ensures) (omega (arith, c .if1 .taken))
+    everyone-below (λ k. getD (a .requested .now) k 0) _ (a .count) (c .before .largest .ensures) (omega (arith, c .if1 .taken))
 
 pub all-below-spec : {M : Type 1} → statement M
 all-below-spec =

@@ -4,13 +4,13 @@ use lib.Dec.{ltb}
 use lib.ListN.{getD}
 use Rattle.masks.proofs.Lowest.{rest-less}
 use Rattle.masks.proofs.Walks.{Kept, kept-more, kept-last, lowest-place}
-use Rattle.plans.specs.Entries.{slots}
+use Rattle.plans.specs.Entries.{maxProcessors}
 use Rattle.settling.proofs.known_requests.Below.{kept-cut}
 use Rattle.settling.proofs.known_requests.each_below.Statement.{statement}
 use Rattle.settling.proofs.known_requests.each_below.Tie as tie
 
 abbrev Inv-loop : tie.InvT-loop
-Inv-loop among count entry out₀ left₀ out left = Kept slots 32 (λ p. ltb (getD entry p 0) count) among left out
+Inv-loop among count entry out₀ left₀ out left = Kept maxProcessors 32 (λ p. ltb (getD entry p 0) count) among left out
 
 abbrev μ-loop : tie.MeasureT-loop
 μ-loop among count entry out₀ left₀ out left = left

@@ -9,7 +9,7 @@ use Rattle.settling.proofs.known_requests.entries_below.Tie as tie
 returns : tie.Need-returns
 returns c =
     let a = c .before .before .args in
-    among-below (λ k. getD (a .entry .now) k 0) _ (a .count) (c .before .largest .ensures) (omega (arith, c .if1 .taken)) (a .among)
+    among-below (λ k. getD (a .requested .now) k 0) _ (a .count) (c .before .largest .ensures) (omega (arith, c .if1 .taken)) (a .among)
 
 pub entries-below-spec : {M : Type 1} → statement M
 entries-below-spec =

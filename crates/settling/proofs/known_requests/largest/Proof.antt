@@ -7,7 +7,7 @@ use lib.Dec.{eqb}
 use lib.ListN.{getD}
 use borrow.Author.Needs.{needs}
 use borrow.Author.Tests.{eqb-true, eqb-false}
-use Rattle.plans.specs.Entries.{slots}
+use Rattle.plans.specs.Entries.{maxProcessors}
 use Rattle.settling.proofs.known_requests.largest.Statement.{statement}
 use Rattle.settling.proofs.known_requests.largest.Tie as tie
 
@@ -22,10 +22,10 @@ bounds-more f p most next old l m k below = at (eqb k p) refl
     at false e = omega (arith, old k (omega (arith, eqb-false k p e)))
 
 abbrev Inv-loop : tie.InvT-loop
-Inv-loop entry most₀ p₀ most p = (p ≤ slots) × Bounds (λ k. getD entry k 0) p most
+Inv-loop entry most₀ p₀ most p = (p ≤ maxProcessors) × Bounds (λ k. getD entry k 0) p most
 
 abbrev μ-loop : tie.MeasureT-loop
-μ-loop entry most₀ p₀ most p = slots - p
+μ-loop entry most₀ p₀ most p = maxProcessors - p
 
 loop-holds : tie.Need-loop-holds Inv-loop μ-loop
 loop-holds c = (omega arith, λ k l. absurd (omega arith))

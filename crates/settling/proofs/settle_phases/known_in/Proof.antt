@@ -6,7 +6,7 @@ use lib.Dec.{ltb}
 use lib.ListN.{getD}
 use borrow.Author.Needs.{needs}
 use Rattle.masks.specs.Sets.{maskOf}
-use Rattle.plans.specs.Entries.{slots}
+use Rattle.plans.specs.Entries.{maxProcessors}
 use Rattle.settling.proofs.settle_phases.known_in.Statement.{statement}
 use Rattle.settling.proofs.settle_phases.known_in.Tie as tie
 
@@ -14,7 +14,7 @@ returns : tie.Need-returns
 returns c =
     let known = c .before in
     let a = known .before .args in (
-      c .all-below .ensures ∙ ap (λ (n : ℕ). maskOf slots (λ p. ltb (getD (a .entry .now) p 0) n)) (known .before .pre),
+      c .all-below .ensures ∙ ap (λ (n : ℕ). maskOf maxProcessors (λ p. ltb (getD (a .requested .now) p 0) n)) (known .before .pre),
       record { count = known .before .pre; places = λ e. known .shared-slice-known .given e .fits },
     )
 

@@ -11,17 +11,17 @@ use Rattle.settling.proofs.steps.four_steps.Statement.{statement}
 use Rattle.settling.proofs.steps.four_steps.Tie as tie
 
 -- The writes and the known reads.
-writes : (c : tie.After-known-among) → Known (c .before .args .entry .now) (c .known-among .result)
+writes : (c : tie.After-known-among) → Known (c .before .args .requested .now) (c .known-among .result)
 writes c =
     let a = c .before .args in
-    known-writes (factsBy (a .rows .now) (a .writes) (a .entry .now) (a .earlier .now))
+    known-writes (factsBy (a .rows .now) (a .writes) (a .requested .now) (a .earlier .now))
     (bitOr (bitOr (a .waiting) (a .entitled)) (a .holding)) (c .before .pre .0) (c .known-among .ensures)
 
-reads : (c : tie.After-known-among) → Known (c .before .args .entry .now) (without 32 (c .before .args .known) (c .known-among .result))
+reads : (c : tie.After-known-among) → Known (c .before .args .requested .now) (without 32 (c .before .args .known) (c .known-among .result))
 reads c = known-and _ (known-all (c .before .pre .0))
 
 among-known : tie.Need-known-among-requires
-among-known c κs = let k = known-all {entry = c .args .entry .now} (c .pre .0) in search and-known
+among-known c κs = let k = known-all {entry = c .args .requested .now} (c .pre .0) in search and-known
 
 ahead-known : tie.Need-unopposed-requires
 ahead-known c κs =
@@ -42,7 +42,7 @@ clear-known c κs =
     let w = writes (c .before .before) in
     (search and-known, search (known-or, and-known))
 
-line-known : tie.Need-first-in-line-requires
+line-known : tie.Need-first-in-queue-requires
 line-known c κs =
     let free = c .before in
     let w = writes (free .before .before) in
@@ -79,13 +79,13 @@ returns c ph given =
     let ahead = first .before in
     let start = ahead .before .before in
     let a = start .args in
-    let f = factsBy (a .rows .now) (a .writes) (a .entry .now) (a .earlier .now) in
+    let f = factsBy (a .rows .now) (a .writes) (a .requested .now) (a .earlier .now) in
     let small = start .fits .writes .fits in
     let table = start .pre .1 in
     let all = start .pre .0 in
     let zero = at-known f small table all given (ahead .before .known-among .ensures) in
     let one = known-after1 f small table all zero (ahead .unopposed .ensures) (first .unopposed2 .ensures) in
-    let two = known-after2 f small table all one (second .unopposed3 .ensures) (line .first-in-line .ensures) in
+    let two = known-after2 f small table all one (second .unopposed3 .ensures) (line .first-in-queue .ensures) in
     let three = known-after3 f small table all two (third .unopposed4 .ensures) in
     at-last ph _ (known-after4 f small table all three (fourth .unopposed5 .ensures) (c .unopposed6 .ensures))
 

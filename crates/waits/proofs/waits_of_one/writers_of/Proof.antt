@@ -5,7 +5,7 @@ use lib.ListN.{getD}
 use borrow.Author.Needs.{needs}
 use Rattle.masks.specs.Sets.{bit}
 use Rattle.masks.proofs.Masks.{mask-agree}
-use Rattle.plans.specs.Entries.{slots}
+use Rattle.plans.specs.Entries.{maxProcessors}
 use Rattle.waits.proofs.waits_of_one.Cases.{bit-active}
 use Rattle.waits.proofs.waits_of_one.writers_of.Statement.{statement}
 use Rattle.waits.proofs.waits_of_one.writers_of.Tie as tie
@@ -14,7 +14,7 @@ returns : tie.Need-returns
 returns c =
     let a = c .before .before .before .args in
     c .those-in .ensures
-    ∙ mask-agree slots _ _ (λ q l. ap (λ t. t && bit (a .writes) (getD (a .entry .now) q 0)) (bit-active (a .phases) q))
+    ∙ mask-agree maxProcessors _ _ (λ q l. ap (λ t. t && bit (a .writes) (getD (a .requested .now) q 0)) (bit-active (a .phases) q))
 
 pub writers-of-spec : {M : Type 1} → statement M
 writers-of-spec = tie.close (tie.spec (λ c κs. search needs) returns)

@@ -4,11 +4,11 @@ use Prim.Native.Nat.{ℕ}
 use mathlib.Core.List.{List}
 use Rattle.rules.specs.Calls.{Answer}
 use Rattle.rules.specs.InPlace.{stateBy}
-use Rattle.requests.specs.declared.effects.Carried.{Carried}
+use Rattle.requests.specs.declared.effects.Effect.{Effect}
 
-abbrev pub carriedSays : Carried → ℕ → List ℕ → List ℕ → List ℕ → Answer
-carriedSays c tick entry since earlier =
+abbrev pub effectAsNumbers : Effect → ℕ → List ℕ → List ℕ → List ℕ → Answer
+effectAsNumbers c tick requested since earlier =
     record {
       reply = record { number = 0; granted = c .granted; entitled = c .entitled; late = c .late };
-      state = stateBy (record { last = tick; phases = c .phases }) entry since earlier;
+      state = stateBy (record { last = tick; phases = c .phases }) requested since earlier;
     }

@@ -8,10 +8,10 @@ use Rattle.masks.specs.Sets.{bit, maskOf}
 use Rattle.masks.proofs.Truth.{and-left, and-right}
 use Rattle.masks.proofs.Some.{some-agree}
 use Rattle.masks.proofs.Masks.{mask-agree, bit-mask-at}
-use Rattle.plans.specs.Entries.{slots}
+use Rattle.plans.specs.Entries.{maxProcessors}
 use Rattle.rules.specs.Requests.{Facts, isWriter, conflicts, against, holdingWrite, entitledWrite}
 use Rattle.rules.specs.Settling.{hold, test1, step1, step2, step3, step4, settled, holdsAtOnce, admitted}
-use Rattle.rules.specs.declared.settling.Phases.{Phases}
+use Rattle.rules.specs.declared.states.Phases.{Phases}
 
 -- Of a processor: w, e and h are its bits in the three phases, t whether it was let to hold, r whether its request is a
 -- read, a and b whether an entitled and a holding write is against it.
@@ -93,19 +93,19 @@ module _ (f : Facts) (ph : Phases) (p : ℕ) (waits : bit (ph .waiting) p ≡ tr
   -- So the writes of each phase are the same.
   same-entitled : (q : ℕ) → against f q (entitledWrite f after) ≡ against f q (entitledWrite f ph)
   same-entitled q =
-      some-agree slots _ _
+      some-agree maxProcessors _ _
       (λ k l. ap (λ u. u && conflicts f q k)
-      (ap (λ u. u && isWriter f k) (bit-mask-at slots (λ k. bit (ph .entitled) k && not (newcomer k)) k l)
+      (ap (λ u. u && isWriter f k) (bit-mask-at maxProcessors (λ k. bit (ph .entitled) k && not (newcomer k)) k l)
       ∙ out (bit (ph .entitled) k) (newcomer k) (isWriter f k) (newcomer-reads k)))
 
   same-holding : (q : ℕ) → against f q (holdingWrite f after) ≡ against f q (holdingWrite f ph)
   same-holding q =
-      some-agree slots _ _
+      some-agree maxProcessors _ _
       (λ k l. ap (λ u. u && conflicts f q k)
-      (ap (λ u. u && isWriter f k) (bit-mask-at slots (λ k. bit (ph .holding) k || newcomer k) k l)
+      (ap (λ u. u && isWriter f k) (bit-mask-at maxProcessors (λ k. bit (ph .holding) k || newcomer k) k l)
       ∙ into (bit (ph .holding) k) (newcomer k) (isWriter f k) (newcomer-reads k)))
 
-  module _ (q : ℕ) (l : q < slots) where
+  module _ (q : ℕ) (l : q < maxProcessors) where
     abbrev w : Bool
     w = bit (ph .waiting) q
 
@@ -119,13 +119,13 @@ module _ (f : Facts) (ph : Phases) (p : ℕ) (waits : bit (ph .waiting) p ≡ tr
     b = against f q (holdingWrite f ph)
 
     at-w : bit (after .waiting) q ≡ (w && not (newcomer q))
-    at-w = bit-mask-at slots (λ k. bit (ph .waiting) k && not (newcomer k)) q l
+    at-w = bit-mask-at maxProcessors (λ k. bit (ph .waiting) k && not (newcomer k)) q l
 
     at-e : bit (after .entitled) q ≡ (e && not (newcomer q))
-    at-e = bit-mask-at slots (λ k. bit (ph .entitled) k && not (newcomer k)) q l
+    at-e = bit-mask-at maxProcessors (λ k. bit (ph .entitled) k && not (newcomer k)) q l
 
     at-h : bit (after .holding) q ≡ (bit (ph .holding) q || newcomer q)
-    at-h = bit-mask-at slots (λ k. bit (ph .holding) k || newcomer k) q l
+    at-h = bit-mask-at maxProcessors (λ k. bit (ph .holding) k || newcomer k) q l
 
     test-after : test1 f after q ≡ passesAfter w e (bit (ph .holding) q) (newcomer q) (not (isWriter f q)) a b
     unfolding test1
@@ -140,9 +140,9 @@ module _ (f : Facts) (ph : Phases) (p : ℕ) (waits : bit (ph .waiting) p ≡ tr
   unfolding test1 step1 admitted
   held-before-step-1 =
       λ i. record {
-        waiting = mask-agree slots _ _ (λ q l. ap₂ (λ u v. u && not v) (at-w q l) (test-after q l) ∙ moves q l .waits) i;
-        entitled = mask-agree slots _ _ (λ q l. ap₂ (λ u v. u && not v) (at-e q l) (test-after q l) ∙ moves q l .entitles) i;
-        holding = mask-agree slots _ _ (λ q l. ap₂ (λ u v. u || v) (at-h q l) (test-after q l) ∙ moves q l .holds) i;
+        waiting = mask-agree maxProcessors _ _ (λ q l. ap₂ (λ u v. u && not v) (at-w q l) (test-after q l) ∙ moves q l .waits) i;
+        entitled = mask-agree maxProcessors _ _ (λ q l. ap₂ (λ u v. u && not v) (at-e q l) (test-after q l) ∙ moves q l .entitles) i;
+        holding = mask-agree maxProcessors _ _ (λ q l. ap₂ (λ u v. u || v) (at-h q l) (test-after q l) ∙ moves q l .holds) i;
       }
 
 -- Clause 5.1: a new request that may hold at once could do so before step 1, and all would be as it is.

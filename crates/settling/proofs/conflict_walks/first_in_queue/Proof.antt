@@ -1,4 +1,4 @@
--- `first_in_line` meets its contract, by the walk that keeps the candidates whose row has no entry of those before
+-- `first_in_queue` meets its contract, by the walk that keeps the candidates whose row has no entry of those before
 -- them. Assumes nothing.
 use mathlib.Core.Path.{_≡_, ap, _∙_}
 use mathlib.Core.Bool.{Bool, cond, not, _&&_}
@@ -12,13 +12,13 @@ use Rattle.masks.proofs.Lowest.{rest-less}
 use Rattle.masks.proofs.Places.{bit-and}
 use Rattle.masks.proofs.Some.{some-agree}
 use Rattle.masks.proofs.Walks.{Kept, kept-first, kept-more, kept-last}
-use Rattle.plans.specs.Entries.{slots}
+use Rattle.plans.specs.Entries.{maxProcessors}
 use Rattle.rules.specs.Requests.{Facts, factsBy, entryOf, isEarlier, conflicts, against}
 use Rattle.rules.specs.inner.Moves.{Known}
 use Rattle.rules.proofs.Known.{known-and, and-known}
 use Rattle.settling.proofs.Processors.{walk-of, lowest-known, lowest-entry}
-use Rattle.settling.proofs.conflict_walks.first_in_line.Statement.{statement}
-use Rattle.settling.proofs.conflict_walks.first_in_line.Tie as tie
+use Rattle.settling.proofs.conflict_walks.first_in_queue.Statement.{statement}
+use Rattle.settling.proofs.conflict_walks.first_in_queue.Tie as tie
 
 module _ (f : Facts) (others : ℕ) where
   -- An earlier one of the others conflicts with p's request.
@@ -27,20 +27,20 @@ module _ (f : Facts) (others : ℕ) where
 
   -- The code joins two masks, and the definition asks of both.
   both-masks : (p row : ℕ) → row ≡ getD (f .rows) (entryOf f p) 0
-      → some slots (λ q. bit (bitAnd (getD (f .earlier) p 0) others) q && bit row (entryOf f q)) ≡ opposed p
+      → some maxProcessors (λ q. bit (bitAnd (getD (f .earlier) p 0) others) q && bit row (entryOf f q)) ≡ opposed p
   both-masks p row e =
-      ap (λ (x : ℕ). some slots (λ q. bit (bitAnd (getD (f .earlier) p 0) others) q && bit x (entryOf f q))) e
-      ∙ some-agree slots _ _ (λ q l. ap (λ t. t && conflicts f p q) (bit-and (getD (f .earlier) p 0) others q))
+      ap (λ (x : ℕ). some maxProcessors (λ q. bit (bitAnd (getD (f .earlier) p 0) others) q && bit x (entryOf f q))) e
+      ∙ some-agree maxProcessors _ _ (λ q l. ap (λ t. t && conflicts f p q) (bit-and (getD (f .earlier) p 0) others q))
 
   -- The candidate is kept where its row has no entry of those before it.
   kept-where : {row : ℕ} {before : Bool} (next out p : ℕ) → row ≡ getD (f .rows) (entryOf f p) 0
-      → before ≡ some slots (λ q. bit (bitAnd (getD (f .earlier) p 0) others) q && bit row (entryOf f q))
+      → before ≡ some maxProcessors (λ q. bit (bitAnd (getD (f .earlier) p 0) others) q && bit row (entryOf f q))
       → next ≡ cond (not before) (added out p) out → next ≡ cond (not (opposed p)) (added out p) out
   kept-where {row} next out p e g h = h ∙ ap (λ t. cond (not t) (added out p) out) (g ∙ both-masks p row e)
 
 abbrev Inv-loop : tie.InvT-loop
 Inv-loop rows entry earlier candidates others out₀ left₀ out left =
-    Kept slots 32 (λ p. not (opposed (factsBy rows 0 entry earlier) others p)) candidates left out × Known entry left
+    Kept maxProcessors 32 (λ p. not (opposed (factsBy rows 0 entry earlier) others p)) candidates left out × Known entry left
 
 abbrev μ-loop : tie.MeasureT-loop
 μ-loop rows entry earlier candidates others out₀ left₀ out left = left
@@ -70,7 +70,7 @@ loop-again c =
     let loop = row .before .before .loop in
     let a = row .before .before .before .args in (
       kept-more _ (omega arith) (loop .inv .0)
-          (kept-where (factsBy (a .rows .now) 0 (a .entry .now) (a .earlier .now)) (a .others) _ (loop .out) _ (row .row-at .ensures)
+          (kept-where (factsBy (a .rows .now) 0 (a .requested .now) (a .earlier .now)) (a .others) _ (loop .out) _ (row .row-at .ensures)
           (c .before .in-row .ensures) (c .add-if .ensures)),
       known-and _ (loop .inv .1),
     )
@@ -78,8 +78,8 @@ loop-again c =
 returns : tie.Need-returns Inv-loop μ-loop
 returns c = kept-last (c .loop-test .left) (c .before .loop .inv .0)
 
-pub first-in-line-spec : {M : Type 1} → statement M
-first-in-line-spec =
+pub first-in-queue-spec : {M : Type 1} → statement M
+first-in-queue-spec =
     tie.close
     (tie.spec Inv-loop μ-loop loop-holds row-at-requires
     (λ c. omega (arith, lowest-known (c .before .before .loop .inv .1) (omega arith)))

@@ -1,4 +1,4 @@
--- `put_last` meets its contract: the field is stored if the line feed fits too, and then the line feed.
+-- `put_line_end` meets its contract: the field is stored if the line feed fits too, and then the line feed.
 -- Assumes nothing.
 use Prim.Native.Nat.{ℕ, _≤_}
 use native.Mathlib.Omega.{arith}
@@ -12,8 +12,8 @@ use Rattle.digits.proofs.Begun.{nothing-placed, second-fits, both-placed}
 use Rattle.line_fields.specs.NumberFields.{labelled}
 use Rattle.line_fields.proofs.number_fields.Words.{alone}
 use borrow.Author.Needs.{needs}
-use Rattle.line_fields.proofs.number_fields.put_last.Statement.{statement}
-use Rattle.line_fields.proofs.number_fields.put_last.Tie as tie
+use Rattle.line_fields.proofs.number_fields.put_line_end.Statement.{statement}
+use Rattle.line_fields.proofs.number_fields.put_line_end.Tie as tie
 
 some-byte : (word : List ℕ) (n : ℕ) → 1 ≤ length (labelled word n)
 some-byte word n = simp length-append (omega (arith, some-digit n))
@@ -49,8 +49,8 @@ returns-2 c =
     rw (← append-assoc (a .word .now) (decimal (a .n)) (10 ∷ []))
     (alone (field ++ (10 ∷ [])) (a .buffer .now) (a .at) (both-placed field (10 ∷ []) (a .buffer .now) (a .at) 1 0 (some-byte (a .word .now) (a .n)) refl (put .put-field .ensures .0) (put .put-field .ensures .1) (c .if1 .left) _ refl (one-stored _ _ 10)))
 
-pub put-last-spec : {M : Type 1} → statement M
-put-last-spec =
+pub put-line-end-spec : {M : Type 1} → statement M
+put-line-end-spec =
     tie.close
     (tie.spec
     (λ c κs. search needs)
