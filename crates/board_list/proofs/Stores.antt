@@ -25,7 +25,8 @@ room-for-list k count size verdict checked e =
 
 module _ (k : ℕ) (f : ℕ → List ℕ) (size : (p : ℕ) → length (f p) ≡ partSize k) (l : List ℕ) where
   -- If there is room for them, the count and all parts are the list.
-  pub list-stores : (m : ℕ) → listSize k m ≤ length l → sets (set l 0 m) 1 (inTurn m f) ≡ overwritten l 0 (listBytes m f)
+  pub list-stores : (m : ℕ) → listSize k m ≤ length l → sets (set l 0 m) 1 (inTurn m f)
+      ≡ overwritten l 0 (listBytes m f)
   unfolding listBytes
   list-stores m room =
       let whole : 0 + length (m ∷ inTurn m f) ≤ length l = omega (arith, length-in-turn (partSize k) f size m) in
@@ -38,7 +39,8 @@ module _ (k : ℕ) (f : ℕ → List ℕ) (size : (p : ℕ) → length (f p) ≡
     due-here n e = sym checked ∙ e
 
     pub list-written : verdict ≡ Verdict.Accepted → (after : List ℕ) → after ≡ sets (set l 0 m) 1 (inTurn m f)
-        → (_≡_ {A = AsNumbers} (record { number = 0; value = listSize k m }) (asNumbers (listFault k m l) (listSize k m)))
+        → (_≡_ {A = AsNumbers} (record { number = 0; value = listSize k m })
+        (asNumbers (listFault k m l) (listSize k m)))
         × (after ≡ listBuffer k m f l)
     unfolding listBuffer
     list-written e after stored =
@@ -54,7 +56,8 @@ module _ (k : ℕ) (f : ℕ → List ℕ) (size : (p : ℕ) → length (f p) ≡
         rw (some, number-not-zero r) (refl, refl)
 
 -- Lists with the same parts leave the same buffer.
-pub list-agree : (k m : ℕ) (f g : ℕ → List ℕ) (l : List ℕ) → ((p : ℕ) → p < m → f p ≡ g p) → listBuffer k m f l ≡ listBuffer k m g l
+pub list-agree : (k m : ℕ) (f g : ℕ → List ℕ) (l : List ℕ) → ((p : ℕ) → p < m → f p ≡ g p) → listBuffer k m f l
+    ≡ listBuffer k m g l
 unfolding listBytes listBuffer
 list-agree k m f g l same =
     ap (λ parts. bufferAfter (listFault k m l) (m ∷ parts) l 0) (in-turn-agree m f g same)

@@ -25,7 +25,8 @@ writesIn p i = ltb i (p .count) && isWrite (entryAt p i)
 write-at-entry : (p : Plan) (i : ℕ) → (ltb i (p .count) && isWrite (getD (p .entries) i blankEntry)) ≡ writesIn p i
 write-at-entry p i = go (ltb i (p .count)) refl
   where
-    go : (t : Bool) → ltb i (p .count) ≡ t → (t && isWrite (getD (p .entries) i blankEntry)) ≡ (t && isWrite (entryAt p i))
+    go : (t : Bool) → ltb i (p .count) ≡ t → (t && isWrite (getD (p .entries) i blankEntry))
+        ≡ (t && isWrite (entryAt p i))
     go true e = ap isWrite (sym (entry-at p i (ltb-true i (p .count) e)))
     go false e = refl
 
@@ -33,20 +34,35 @@ pub writes-more : (p : Plan) (i out place next : ℕ) → i < maxEntries → out
     → place ≡ cond (ltb i (p .count) && isWrite (getD (p .entries) i blankEntry)) i maxEntries
     → next ≡ cond (ltb place maxEntries) (added out place) out → next ≡ maskOf (i + 1) (writesIn p)
 writes-more p i out place next l eo ep en =
-    mask-next i (writesIn p) out next here (en ∙ ap (λ (x : ℕ). cond (ltb x maxEntries) (added out x) out) ep ∙ placed here) eo (write-at-entry p i)
+    mask-next i (writesIn p) out next here (en ∙ ap (λ (x : ℕ). cond (ltb x maxEntries) (added out x) out) ep
+    ∙ placed here) eo (write-at-entry p i)
   where
     here : Bool
     here = ltb i (p .count) && isWrite (getD (p .entries) i blankEntry)
 
-    placed : (t : Bool) → cond (ltb (cond t i maxEntries) maxEntries) (added out (cond t i maxEntries)) out ≡ cond t (added out i) out
+    placed : (t : Bool) → cond (ltb (cond t i maxEntries) maxEntries) (added out (cond t i maxEntries)) out
+        ≡ cond t (added out i) out
     placed true = ap (λ t. cond t (added out i) out) (lt-ltb i maxEntries l)
     placed false = refl
 
-pub board-made : (p : Plan) (writes : ℕ) (lengths : List ℕ) (worked : Conflicts) → lengths ≡ boardOf p .lengths → worked ≡ conflictsOf p
+pub board-made : (p : Plan) (writes : ℕ) (lengths : List ℕ) (worked : Conflicts) → lengths ≡ boardOf p .lengths → worked
+    ≡ conflictsOf p
     → writes ≡ boardOf p .terms .writes
     → _≡_ {A = Board}
-    (record { terms = record { processors = p .processors; count = p .count; writes = writes }; lengths = lengths; names = worked .names; widened = worked .widened; rows = worked .rows })
+    (record {
+      terms = record { processors = p .processors; count = p .count; writes = writes };
+      lengths = lengths;
+      names = worked .names;
+      widened = worked .widened;
+      rows = worked .rows;
+    })
     (boardOf p)
 unfolding boardOf
 board-made p writes lengths worked el ec ew =
-    λ i. record { terms = record { processors = p .processors; count = p .count; writes = ew i }; lengths = el i; names = ec i .names; widened = ec i .widened; rows = ec i .rows }
+    λ i. record {
+      terms = record { processors = p .processors; count = p .count; writes = ew i };
+      lengths = el i;
+      names = ec i .names;
+      widened = ec i .widened;
+      rows = ec i .rows;
+    }

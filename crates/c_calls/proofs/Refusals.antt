@@ -1,7 +1,8 @@
 -- An issue, a completion or a withdrawal that is refused leaves the state as it was. Assumes nothing.
 use Prim.Native.Nat.{ℕ}
 use mathlib.Core.Path.{refl}
-use Rattle.rules.specs.Calls.{phasesOf, putState, takenState, done, settledDone, lateMark, issued, left, completed, withdrawn}
+use Rattle.rules.specs.Calls.{phasesOf, putState, takenState, done, settledDone, lateMark, issued, left, completed}
+use Rattle.rules.specs.Calls.{withdrawn}
 use Rattle.rules.specs.declared.states.Board.{Board}
 use Rattle.rules.specs.declared.states.State.{State}
 use Rattle.rules.specs.Faults.{issueFault, completeFault, withdrawFault}

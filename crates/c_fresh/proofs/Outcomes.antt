@@ -21,7 +21,8 @@ unfolding boardLeft
 board-by-number (Outcome.Bytes n) p before = refl
 board-by-number (Outcome.Refused r) p before = sym (ap (λ b. cond b (freshBoard p) before) (number-not-zero r))
 
-pub board-of-bytes : (s : List ℕ) (o : Outcome) (p : Plan) (before : Board) → outcomeAsNumbers o ≡ readAsNumbers s → p ≡ planRead s
+pub board-of-bytes : (s : List ℕ) (o : Outcome) (p : Plan) (before : Board) → outcomeAsNumbers o ≡ readAsNumbers s → p
+    ≡ planRead s
     → boardLeft o p before ≡ boardAfter s before
 unfolding boardAfter
 board-of-bytes s o p before says is =

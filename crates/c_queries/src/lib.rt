@@ -125,7 +125,8 @@ pub extern "C" fn bittmelon_list_parts(
         (boardBy (termsBy processors entries writes) (now (rows .entry)) []) (now (buffer .entry)) ⌝ }
     ensures bytes { λ _. ⌜ now (buffer .exit) ≡ boardBuffer
         (boardBy (termsBy processors entries writes) (now (rows .entry)) [])
-        (stateBy (momentBy last (now (phases .entry))) (now (requested .entry)) (now (since .entry)) (now (earlier .entry)))
+        (stateBy (momentBy last (now (phases .entry)))
+        (now (requested .entry)) (now (since .entry)) (now (earlier .entry)))
         (now (buffer .entry)) ⌝ }
 {
     let terms = Terms {

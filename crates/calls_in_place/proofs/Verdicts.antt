@@ -25,7 +25,8 @@ use Rattle.rules.specs.declared.states.State.{State}
 use Rattle.rules.specs.CountedRequests.{hasProcessor}
 use Rattle.rules.specs.Faults.{tickFault, processorFault, issueFault, completeFault, withdrawFault, handoverFault}
 use Rattle.rules.specs.Acts.{putIn, putLast, takenOut}
-use Rattle.rules.specs.Calls.{Answer, phasesOf, putState, takenState, done, ruled, settledDone, issued, lateMark, left, completed, withdrawn, both, handedOver, answered}
+use Rattle.rules.specs.Calls.{Answer, phasesOf, putState, takenState, done, ruled, settledDone, issued, lateMark, left}
+use Rattle.rules.specs.Calls.{completed, withdrawn, both, handedOver, answered}
 use Rattle.rules.specs.InPlace.{boardBy, stateBy}
 use Rattle.rules.proofs.Halves.{first-half, issue-accepted}
 
@@ -35,20 +36,25 @@ use Rattle.rules.proofs.Halves.{first-half, issue-accepted}
 abbrev pub Unchanged : Refusal → State → Answer
 Unchanged r s = record { reply = refusedWith (numberOf r); state = s }
 
-ruled-accepts : (n : ℕ) (v : Verdict) (s : State) (a : Answer) → verdictNumber v ≡ n → v ≡ Verdict.Accepted → a ≡ ruled n s a
+ruled-accepts : (n : ℕ) (v : Verdict) (s : State) (a : Answer) → verdictNumber v ≡ n → v ≡ Verdict.Accepted → a
+    ≡ ruled n s a
 ruled-accepts n v s a says w = ap (λ (n : ℕ). ruled n s a) (ap verdictNumber (sym w) ∙ says)
 
-ruled-refuses : (n : ℕ) (v : Verdict) (r : Refusal) (s : State) (a : Answer) → verdictNumber v ≡ n → v ≡ Verdict.Refused r
+ruled-refuses : (n : ℕ) (v : Verdict) (r : Refusal) (s : State) (a : Answer) → verdictNumber v ≡ n → v
+    ≡ Verdict.Refused r
     → Unchanged r s ≡ ruled n s a
 ruled-refuses n v r s a says w =
-    ap (λ t. cond t a (Unchanged r s)) (sym (number-not-zero r)) ∙ ap (λ (n : ℕ). ruled n s a) (ap verdictNumber (sym w) ∙ says)
+    ap (λ t. cond t a (Unchanged r s)) (sym (number-not-zero r))
+    ∙ ap (λ (n : ℕ). ruled n s a) (ap verdictNumber (sym w) ∙ says)
 
 -- If a call is not refused with 10 or 11, its processor has a place in a state.
-counted-below : (terms : Terms) (last p t later : ℕ) → firstOf (tickFault last t) (firstOf (processorFault terms p) later) ≡ 0 → p < maxProcessors
+counted-below : (terms : Terms) (last p t later : ℕ)
+    → firstOf (tickFault last t) (firstOf (processorFault terms p) later) ≡ 0 → p < maxProcessors
 counted-below terms last p t later e =
     ltb-true p maxProcessors
     (and-left (ltb p maxProcessors) (ltb p (terms .processors))
-    (due-accepted (hasProcessor terms p) 11 (omega arith) (first-accepted (processorFault terms p) later (first-accepted (tickFault last t) _ e .later) .first)))
+    (due-accepted (hasProcessor terms p) 11 (omega arith)
+    (first-accepted (processorFault terms p) later (first-accepted (tickFault last t) _ e .later) .first)))
 
 module _ (v : Verdict) (terms : Terms) (last : ℕ) (ph : Phases) (p t : ℕ) (w : v ≡ Verdict.Accepted) where
   pub complete-counted : verdictNumber v ≡ completeFault terms last ph p t → p < maxProcessors
@@ -84,12 +90,14 @@ module _ (b : Board) (s : State) (before : Phases) (cleans : before ≡ phasesOf
       eq ∙ ap₂ (λ ph line. settledDone b (put ph line) 0) cleans (el ∙ ap (λ ph. putLast (s .earlier) ph p) cleans)
     where
       put : Phases → List ℕ → State
-      put ph line = stateBy (record { last = t; phases = putIn ph p }) (set (s .requested) p e) (set (s .since) p t) line
+      put ph line = stateBy (record { last = t; phases = putIn ph p }) (set (s .requested) p e)
+          (set (s .since) p t) line
 
   gone-is : (p t late : ℕ) → Gone b s before a p t late → a ≡ settledDone b (takenState b s p t) late
   unfolding takenState settledDone
   gone-is p t late eq =
-      eq ∙ ap (λ ph. settledDone b (stateBy (record { last = t; phases = takenOut ph p }) (s .requested) (s .since) (s .earlier)) late) cleans
+      eq ∙ ap (λ ph. settledDone b (stateBy (record { last = t; phases = takenOut ph p }) (s .requested) (s .since)
+      (s .earlier)) late) cleans
 
 -- The late mark as the code computes it.
 late-is : (b : Board) (s : State) (p t length late : ℕ) → length ≡ getD (b .lengths) (getD (s .requested) p 0) 0
@@ -121,7 +129,8 @@ module _ (b : Board) (s : State) (before : Phases) (cleans : before ≡ phasesOf
     unfolding left
     leave-refused r w = ruled-refuses (number (phasesOf b s)) v r s _ ends w
 
-    leave-done : v ≡ Verdict.Accepted → (a : Answer) → Gone b s before a p t late → a ≡ left b s p t (number (phasesOf b s)) late
+    leave-done : v ≡ Verdict.Accepted → (a : Answer) → Gone b s before a p t late → a
+        ≡ left b s p t (number (phasesOf b s)) late
     unfolding left
     leave-done w a eq = gone-is b s before cleans a p t late eq ∙ ruled-accepts (number (phasesOf b s)) v s _ ends w
 
@@ -131,7 +140,8 @@ module _ (b : Board) (s : State) (before : Phases) (cleans : before ≡ phasesOf
     complete-refused = leave-refused p t (lateMark b s p t) (λ ph. completeFault (b .terms) (s .last) ph p t) says
 
     pub complete-done : v ≡ Verdict.Accepted → (length late : ℕ) (a : Answer)
-        → length ≡ getD (b .lengths) (getD (s .requested) p 0) 0 → late ≡ cond (ltb length (t - getD (s .since) p 0)) 1 0
+        → length ≡ getD (b .lengths) (getD (s .requested) p 0) 0 → late
+        ≡ cond (ltb length (t - getD (s .since) p 0)) 1 0
         → Gone b s before a p t late → a ≡ completed b s p t
     unfolding completed
     complete-done w length late a eh el eq =
@@ -156,27 +166,33 @@ module _ (b : Board) (s : State) (before : Phases) (cleans : before ≡ phasesOf
     handover-refused r w = ruled-refuses _ v r s _ hands w
 
     module _ (w : v ≡ Verdict.Accepted) (length late : ℕ) (eh : length ≡ getD (b .lengths) (getD (s .requested) p 0) 0)
-        (el : late ≡ cond (ltb length (t - getD (s .since) p 0)) 1 0) (a : Answer) (gone : Gone b s before a p t late) where
+        (el : late ≡ cond (ltb length (t - getD (s .since) p 0)) 1 0) (a : Answer)
+        (gone : Gone b s before a p t late) where
       ok : handoverFault (b .terms) (s .last) (phasesOf b s) p e t ≡ 0
       ok = sym hands ∙ ap verdictNumber w
 
       first-is : a ≡ completed b s p t
       first-is =
-          gone-is b s before cleans a p t late gone ∙ ap (settledDone b (takenState b s p t)) (late-is b s p t length late eh el)
+          gone-is b s before cleans a p t late gone
+          ∙ ap (settledDone b (takenState b s p t)) (late-is b s p t length late eh el)
           ∙ sym (first-half b s p e t ok)
 
       -- The second half uses the state that the first half left, and is accepted.
-      second-is : (ready : Phases) → ready ≡ phasesOf b (a .state) → (line : List ℕ) → line ≡ putLast (a .state .earlier) ready p
+      second-is : (ready : Phases) → ready ≡ phasesOf b (a .state) → (line : List ℕ) → line
+          ≡ putLast (a .state .earlier) ready p
           → (a₂ : Answer) → Entered b (a .state) ready line a₂ p e t → a₂ ≡ issued b (a .state) p e t
       unfolding issued
       second-is ready cleans₂ line el₂ a₂ eq =
           entered-is b (a .state) ready cleans₂ a₂ line p e t el₂ eq
           ∙ ap (λ (n : ℕ). ruled n (a .state) (settledDone b (putState b (a .state) p e t) 0))
           (sym
-          (ap (λ (x : Answer). issueFault (b .terms) (x .state .last) (phasesOf b (x .state)) p e t) first-is ∙ issue-accepted b s p e t ok))
+          (ap (λ (x : Answer). issueFault (b .terms) (x .state .last) (phasesOf b (x .state)) p e t) first-is
+          ∙ issue-accepted b s p e t ok))
 
-      pub handover-done : (ready : Phases) → ready ≡ phasesOf b (a .state) → (line : List ℕ) → line ≡ putLast (a .state .earlier) ready p
-          → (a₂ : Answer) → Entered b (a .state) ready line a₂ p e t → (r : Answer) → r ≡ both a a₂ → r ≡ handedOver b s p e t
+      pub handover-done : (ready : Phases) → ready ≡ phasesOf b (a .state) → (line : List ℕ) → line
+          ≡ putLast (a .state .earlier) ready p
+          → (a₂ : Answer) → Entered b (a .state) ready line a₂ p e t → (r : Answer) → r ≡ both a a₂ → r
+          ≡ handedOver b s p e t
       unfolding handedOver
       handover-done ready cleans₂ line el₂ a₂ eq r is =
           is ∙ ap (both a) (second-is ready cleans₂ line el₂ a₂ eq)
@@ -186,7 +202,8 @@ module _ (b : Board) (s : State) (before : Phases) (cleans : before ≡ phasesOf
 -- ---- what a call reads
 
 -- A call reads only the board's terms, its conflict rows and its lengths.
-pub call-reads : (b : Board) (s : State) (call : Call) → answered (boardBy (b .terms) (b .rows) (b .lengths)) s call ≡ answered b s call
+pub call-reads : (b : Board) (s : State) (call : Call) → answered (boardBy (b .terms) (b .rows) (b .lengths)) s call
+    ≡ answered b s call
 unfolding putState settledDone issued takenState left completed withdrawn handedOver
 call-reads b s (Call.Issue p e t) = refl
 call-reads b s (Call.Complete p t) = refl

@@ -27,7 +27,8 @@ module _ (resources : ℕ) (e : Entry) (taken : entryFault resources e ≡ 0) wh
   unfolding entryFault
   set-taken =
       and-eq-true-iff (not (eqb (e .set) 0)) (ltb (e .set) (2 ^ resources)) .0
-      (due-accepted _ 7 (lit< tt) (first-accepted (setFault resources e) (lengthFault e) (first-accepted (kindFault e) _ taken .later) .first))
+      (due-accepted _ 7 (lit< tt) (first-accepted (setFault resources e) (lengthFault e)
+      (first-accepted (kindFault e) _ taken .later) .first))
 
 one-kind : (k : ℕ) → (eqb k 0 || eqb k 1) ≡ true → eqb k 0 ≡ not (eqb k 1)
 one-kind k h = ⊎-elim (λ e. rw (eqb-true k 0 e)) (λ e. rw (eqb-true k 1 e)) (or-cases (eqb k 0) (eqb k 1) h)
@@ -42,10 +43,12 @@ by-accepted P resources blank each [] h i = blank
 by-accepted P resources blank each (e ∷ later) h zero =
     each e (first-accepted (entryFault resources e) (entriesFault resources later) h .first)
 by-accepted P resources blank each (e ∷ later) h (suc i) =
-    by-accepted P resources blank each later (first-accepted (entryFault resources e) (entriesFault resources later) h .later) i
+    by-accepted P resources blank each later
+    (first-accepted (entryFault resources e) (entriesFault resources later) h .later) i
 
 module _ (p : Plan) (taken : planFault p ≡ 0) (i : ℕ) where
-  by-plan : (P : Entry → Type 0) → P blankEntry → ((e : Entry) → entryFault (p .resources) e ≡ 0 → P e) → P (entryAt p i)
+  by-plan : (P : Entry → Type 0) → P blankEntry → ((e : Entry) → entryFault (p .resources) e ≡ 0 → P e)
+      → P (entryAt p i)
   unfolding planFault
   by-plan P blank each =
       by-accepted P (p .resources) blank each (countedEntries p)

@@ -27,7 +27,8 @@ abbrev pair : Entry → ℕ → Entry → ℕ → Bool
 pair e a f b = not (eqb (pairShares e a f b) 0)
 
 module _ (p : Plan) (sets : List ℕ) (made : sets ≡ conflictsOf p .widened) where
-  set-read : (i : ℕ) → i < maxEntries → i < p .count → getD sets i 0 ≡ widenedSet (countedEntries p) (getD (p .entries) i blankEntry)
+  set-read : (i : ℕ) → i < maxEntries → i < p .count → getD sets i 0
+      ≡ widenedSet (countedEntries p) (getD (p .entries) i blankEntry)
   set-read i l h = ap (λ s. getD s i 0) made ∙ widened-at p i l ∙ widened-counted p i h
 
   pair-in-conflict : (i j : ℕ) → i < maxEntries → j < maxEntries
@@ -38,7 +39,8 @@ module _ (p : Plan) (sets : List ℕ) (made : sets ≡ conflictsOf p .widened) w
   pair-in-conflict i j li lj = go (ltb i (p .count)) (ltb j (p .count)) refl refl
     where
       go : (t u : Bool) → ltb i (p .count) ≡ t → ltb j (p .count) ≡ u
-          → ((t && u) && pair (getD (p .entries) i blankEntry) (getD sets i 0) (getD (p .entries) j blankEntry) (getD sets j 0))
+          → ((t && u) && pair (getD (p .entries) i blankEntry) (getD sets i 0) (getD (p .entries) j blankEntry)
+          (getD sets j 0))
           ≡ ((t && u) && conflict (countedEntries p) (entryAt p i) (entryAt p j))
       go true true hi hj =
           let ci : i < p .count = ltb-true i (p .count) hi in
@@ -49,10 +51,12 @@ module _ (p : Plan) (sets : List ℕ) (made : sets ≡ conflictsOf p .widened) w
 
   -- The row of entry i with column j added, whether or not the pair conflicts.
   pub row-next : (i j row next : ℕ) (found : Over) → i < maxEntries → j < maxEntries → row ≡ maskOf j (inConflict p i)
-      → found ≡ over (pairShares (getD (p .entries) i blankEntry) (getD sets i 0) (getD (p .entries) j blankEntry) (getD sets j 0))
+      → found ≡ over (pairShares (getD (p .entries) i blankEntry) (getD sets i 0) (getD (p .entries) j blankEntry)
+      (getD sets j 0))
       → next ≡ cond ((ltb i (p .count) && ltb j (p .count)) && eqb (found .number) 1) (added row j) row
       → next ≡ maskOf (j + 1) (inConflict p i)
   row-next i j row next found li lj before e after =
-      mask-next j (inConflict p i) row next ((ltb i (p .count) && ltb j (p .count)) && eqb (found .number) 1) after before
+      mask-next j (inConflict p i) row next ((ltb i (p .count) && ltb j (p .count)) && eqb (found .number) 1) after
+      before
       (ap (λ t. (ltb i (p .count) && ltb j (p .count)) && t) (ap (λ (o : Over). eqb (o .number) 1) e ∙ over-is _)
       ∙ pair-in-conflict i j li lj)

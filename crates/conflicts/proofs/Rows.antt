@@ -28,4 +28,5 @@ module _ (p : Plan) where
     where
       go : (t : Bool) → ltb i maxEntries ≡ t → getD (conflictsOf p .rows) i 0 < 2 ^ 64
       go true e = rw (row-is i (ltb-true i maxEntries e)) (mask-below maxEntries (inConflict p i))
-      go false e = rw (getD-tabulate-past maxEntries (λ i. maskOf maxEntries (inConflict p i)) i 0 (ltb-false i maxEntries e)) (pow-pos maxEntries)
+      go false e = rw (getD-tabulate-past maxEntries (λ i. maskOf maxEntries (inConflict p i)) i 0
+          (ltb-false i maxEntries e)) (pow-pos maxEntries)

@@ -29,7 +29,8 @@ module _ (p : Plan) (i : ℕ) (h : i < p .count) where
 -- Past the count an entry is the blank one.
 pub past-count : (p : Plan) (i : ℕ) → ltb i (p .count) ≡ false → entryAt p i ≡ blankEntry
 past-count p i e =
-    List·getD-eq-default (countedEntries p) blankEntry {n = i} (omega (arith, length-take (p .count) (p .entries), ltb-false i (p .count) e))
+    List·getD-eq-default (countedEntries p) blankEntry {n = i}
+    (omega (arith, length-take (p .count) (p .entries), ltb-false i (p .count) e))
 
 -- A number of each counted entry, or 0 past the count, as a loop over the whole array computes it.
 pub counted-field : (p : Plan) (i : ℕ) (f : Entry → ℕ) → f blankEntry ≡ 0

@@ -37,10 +37,12 @@ module _ (p : Plan) (taken : planFault p ≡ 0) (i j : ℕ) (li : i < p .count) 
   unfolding boardOf conflictsOf
   names-on-board k l = getD-tabulate maxEntries (λ i. entryAt p i .set) k 0 (le-trans l few)
 
-  widened-on-board : (k : ℕ) → k < p .count → getD (boardOf p .widened) k 0 ≡ widenedSet (countedEntries p) (entryAt p k)
+  widened-on-board : (k : ℕ) → k < p .count → getD (boardOf p .widened) k 0
+      ≡ widenedSet (countedEntries p) (entryAt p k)
   unfolding boardOf
   widened-on-board k l =
-      widened-at p k (le-trans l few) ∙ ap (λ t. cond t (widenedSet (countedEntries p) (entryAt p k)) 0) (lt-ltb k (p .count) l)
+      widened-at p k (le-trans l few) ∙ ap (λ t. cond t (widenedSet (countedEntries p) (entryAt p k)) 0)
+      (lt-ltb k (p .count) l)
 
   -- What the two entries of the board share is what those of the plan share.
   pub shared-on-board : sharedIn (boardOf p .terms .writes) (boardOf p .names) (boardOf p .widened) i j

@@ -25,7 +25,8 @@ use Rattle.rules.specs.Replies.{refusedWith}
 use Rattle.rules.specs.declared.states.Board.{Board}
 use Rattle.rules.specs.declared.states.State.{State}
 use Rattle.rules.specs.Faults.{processorFault, issueFault, completeFault, withdrawFault, handoverFault}
-use Rattle.rules.specs.Calls.{Answer, phasesOf, putState, takenState, settledDone, lateMark, ruled, issued, left, completed, withdrawn, both, handedOver, answered}
+use Rattle.rules.specs.Calls.{Answer, phasesOf, putState, takenState, settledDone, lateMark, ruled, issued, left}
+use Rattle.rules.specs.Calls.{completed, withdrawn, both, handedOver, answered}
 use Rattle.boards.specs.Fresh.{boardOf, blankBoard, freshBoard}
 use Rattle.rules.specs.InPlace.{boardBy, stateBy}
 use Rattle.queries.specs.Queries.{reachFault, reachBytes, reachQuery, reachScratch}
@@ -91,8 +92,11 @@ module _ (p : Plan) (buffer : List ℕ) (at : ℕ) where
       → (writeAsNumbers p buffer at ≡ record { number = writeFault p (length buffer) at; value = 0 })
       × (writtenBuffer p buffer at ≡ buffer)
   unfolding writtenBuffer
-  refused-writing-changes-nothing due =
-      (said-refusal (writeFault p (length buffer) at) _ due, rw (positive-not-zero (writeFault p (length buffer) at) due))
+  refused-writing-changes-nothing due = (
+    said-refusal (writeFault p (length buffer) at) _ due,
+    rw
+        (positive-not-zero (writeFault p (length buffer) at) due),
+  )
 
   pub accepted-writing-puts-plan : writeFault p (length buffer) at ≡ 0
       → writtenBuffer p buffer at ≡ overwritten buffer at (planBytes p)
@@ -183,7 +187,8 @@ pub refused-record-gives-number-only : (s : List ℕ) → 0 < recordFault s
 unfolding readRecord
 refused-record-gives-number-only s due = rw (positive-not-zero (recordFault s) due)
 
-pub accepted-record-is-read : (s : List ℕ) → recordFault s ≡ 0 → readRecord s ≡ record { number = 0; fields = fieldsIn s }
+pub accepted-record-is-read : (s : List ℕ) → recordFault s ≡ 0 → readRecord s
+    ≡ record { number = 0; fields = fieldsIn s }
 unfolding readRecord
 accepted-record-is-read s ok = rw ok
 

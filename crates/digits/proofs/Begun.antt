@@ -28,7 +28,8 @@ less-room a b size at from h none = go (hasRoom b size from) refl
         sym (room-where-fits a size at (omega (arith, there-is-room b size from e))) ∙ none
 
 -- A field that is not empty was stored exactly if the size that is returned is not 0.
-module _ (bytes : List ℕ) (size at needed : ℕ) (some : 1 ≤ length bytes) {told : ℕ} (e : told ≡ placedSize needed bytes size at) where
+module _ (bytes : List ℕ) (size at needed : ℕ) (some : 1 ≤ length bytes) {told : ℕ}
+    (e : told ≡ placedSize needed bytes size at) where
   pub not-begun : told ≡ 0 → hasRoom needed size at ≡ false
   not-begun none = go (hasRoom needed size at) refl
     where
@@ -44,7 +45,8 @@ module _ (bytes : List ℕ) (size at needed : ℕ) (some : 1 ≤ length bytes) {
       go false h = absurd (more (rw h at e))
 
 -- A field in two parts. The first part is stored if both fit with the bytes after them.
-module _ (first second buffer : List ℕ) (at behind more : ℕ) (some : 1 ≤ length first) (rest : behind ≡ length second + more)
+module _ (first second buffer : List ℕ) (at behind more : ℕ) (some : 1 ≤ length first)
+    (rest : behind ≡ length second + more)
     {told : ℕ} (e : told ≡ placedSize (length first + behind) first (length buffer) at)
     {part : List ℕ} (put : part ≡ placedBuffer (length first + behind) first buffer at) where
   whole : length first + behind ≡ length (first ++ second) + more
@@ -55,7 +57,8 @@ module _ (first second buffer : List ℕ) (at behind more : ℕ) (some : 1 ≤ l
       × (part ≡ placedBuffer (length (first ++ second) + more) (first ++ second) buffer at)
   nothing-placed none =
       let full = not-begun first (length buffer) at (length first + behind) some e none in
-      let neither = not-placed (first ++ second) buffer at (length (first ++ second) + more) (omega arith) _ whole _ refl full in
+      let neither = not-placed (first ++ second) buffer at (length (first ++ second) + more)
+      (omega arith) _ whole _ refl full in
       (neither .0, put ∙ rw full (neither .1))
 
   module _ (h : told ≡ 0 → ⊥) where
@@ -70,12 +73,25 @@ module _ (first second buffer : List ℕ) (at behind more : ℕ) (some : 1 ≤ l
 
     pub second-fits : at + told + (length second + more) ≤ length part
     second-fits =
-        omega (arith, both-fit, rest, all-placed first buffer at (length first + behind) (omega arith) both-fit e, stored-length first-placed)
+        omega (
+          arith,
+          both-fit,
+          rest,
+          all-placed first buffer at (length first + behind)
+              (omega arith) both-fit e,
+          stored-length first-placed,
+        )
 
-    pub both-placed : (size : ℕ) → size ≡ told + length second → {next : ℕ} {after : List ℕ} → Stored second part (at + told) next after
+    pub both-placed : (size : ℕ) → size ≡ told + length second → {next : ℕ} {after : List ℕ}
+        → Stored second part (at + told) next after
         → (size ≡ placedSize (length (first ++ second) + more) (first ++ second) (length buffer) at)
         × (after ≡ placedBuffer (length (first ++ second) + more) (first ++ second) buffer at)
     both-placed size same s =
-        placed (first ++ second) buffer at (length (first ++ second) + more) (omega arith) _ whole _ refl size first-room
-        (simp length-append (omega (arith, all-placed first buffer at (length first + behind) (omega arith) both-fit e)))
+        placed (first ++ second) buffer at (length (first ++ second) + more)
+        (omega arith) _ whole _ refl size first-room
+        (simp length-append (omega (
+          arith,
+          all-placed first buffer at (length first + behind)
+              (omega arith) both-fit e,
+        )))
         (then-stored first-placed s)

@@ -69,7 +69,8 @@ decimal-two-more n h most =
     let ones : n % 100 % 10 ≡ n % 10 = omega arith in
     rw (tens, ones)
     (decimal-more n ten most
-    ∙ rw (decimal-more (n / 10) more fewer, hundreds) (append-assoc (decimal (n / 100)) ((48 + n / 10 % 10) ∷ []) ((48 + n % 10) ∷ [])))
+    ∙ rw (decimal-more (n / 10) more fewer, hundreds)
+    (append-assoc (decimal (n / 100)) ((48 + n / 10 % 10) ∷ []) ((48 + n % 10) ∷ [])))
 
 pub length-one : (n : ℕ) → n < 10 → length (decimal n) ≡ 1
 length-one n h = ap length (decimal-one n h)

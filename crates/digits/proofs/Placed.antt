@@ -37,14 +37,16 @@ module _ (bytes buffer : List ℕ) (at needed : ℕ) (within : length bytes ≤ 
     asked : flag ≡ hasRoom needed (length buffer) at
     asked = rw same at test
 
-    pub placed : (size : ℕ) {next : ℕ} {after : List ℕ} → flag ≡ true → size ≡ length bytes → Stored bytes buffer at next after
+    pub placed : (size : ℕ) {next : ℕ} {after : List ℕ} → flag ≡ true → size ≡ length bytes
+        → Stored bytes buffer at next after
         → (size ≡ placedSize needed bytes (length buffer) at) × (after ≡ placedBuffer needed bytes buffer at)
     placed size taken e s =
         let yes : hasRoom needed (length buffer) at ≡ true = sym asked ∙ taken in
         let fits : at + length bytes ≤ length buffer = omega (arith, there-is-room needed (length buffer) at yes) in
         rw yes (e, s .stores ∙ sets-overwritten buffer at bytes fits)
 
-    pub not-placed : flag ≡ false → (_≡_ {A = ℕ} 0 (placedSize needed bytes (length buffer) at)) × (buffer ≡ placedBuffer needed bytes buffer at)
+    pub not-placed : flag ≡ false → (_≡_ {A = ℕ} 0 (placedSize needed bytes (length buffer) at))
+        × (buffer ≡ placedBuffer needed bytes buffer at)
     not-placed left = rw (sym asked ∙ left) (refl, refl)
 
   -- What fits is stored.
@@ -55,7 +57,8 @@ module _ (bytes buffer : List ℕ) (at needed : ℕ) (within : length bytes ≤ 
     pub all-placed : size ≡ length bytes
     all-placed = e ∙ rw has-room refl
 
-    pub placed-stored : {after : List ℕ} → after ≡ placedBuffer needed bytes buffer at → Stored bytes buffer at (at + size) after
+    pub placed-stored : {after : List ℕ} → after ≡ placedBuffer needed bytes buffer at
+        → Stored bytes buffer at (at + size) after
     placed-stored p =
         let inside : at + length bytes ≤ length buffer = omega arith in
         record {
@@ -64,16 +67,19 @@ module _ (bytes buffer : List ℕ) (at needed : ℕ) (within : length bytes ≤ 
         }
 
 -- The same for a single field.
-module _ (bytes buffer : List ℕ) (at tested : ℕ) (same : tested ≡ length bytes) (flag : Bool) (test : flag ≡ hasRoom tested (length buffer) at) where
+module _ (bytes buffer : List ℕ) (at tested : ℕ) (same : tested ≡ length bytes) (flag : Bool)
+    (test : flag ≡ hasRoom tested (length buffer) at) where
   pub field-placed : {next : ℕ} {after : List ℕ} → flag ≡ true → Stored bytes buffer at next after
       → (tested ≡ fieldSize bytes (length buffer) at) × (after ≡ fieldBuffer bytes buffer at)
   field-placed taken s = placed bytes buffer at (length bytes) (omega arith) tested same flag test tested taken same s
 
-  pub field-not-placed : flag ≡ false → (_≡_ {A = ℕ} 0 (fieldSize bytes (length buffer) at)) × (buffer ≡ fieldBuffer bytes buffer at)
+  pub field-not-placed : flag ≡ false → (_≡_ {A = ℕ} 0 (fieldSize bytes (length buffer) at))
+      × (buffer ≡ fieldBuffer bytes buffer at)
   field-not-placed left = not-placed bytes buffer at (length bytes) (omega arith) tested same flag test left
 
 pub field-stored : (bytes buffer : List ℕ) (at : ℕ) → at + length bytes ≤ length buffer → {size : ℕ} {after : List ℕ}
-    → size ≡ fieldSize bytes (length buffer) at → after ≡ fieldBuffer bytes buffer at → Stored bytes buffer at (at + size) after
+    → size ≡ fieldSize bytes (length buffer) at → after ≡ fieldBuffer bytes buffer at
+    → Stored bytes buffer at (at + size) after
 field-stored bytes buffer at fits e p = placed-stored bytes buffer at (length bytes) (omega arith) fits e p
 
 pub stored-length : {bytes l m : List ℕ} {at next : ℕ} → Stored bytes l at next m → length m ≡ length l
@@ -81,7 +87,8 @@ stored-length {bytes} {l} {m} {at} s = rw (s .stores) (length-sets l at bytes)
 
 -- Two fields, one after the other, if both fit.
 pub fields-stored : (a b l : List ℕ) (at : ℕ) → at + length (a ++ b) ≤ length l → {n k : ℕ} {m r : List ℕ}
-    → n ≡ fieldSize a (length l) at → m ≡ fieldBuffer a l at → k ≡ fieldSize b (length m) (at + n) → r ≡ fieldBuffer b m (at + n)
+    → n ≡ fieldSize a (length l) at → m ≡ fieldBuffer a l at → k ≡ fieldSize b (length m) (at + n) → r
+    ≡ fieldBuffer b m (at + n)
     → Stored (a ++ b) l at (at + n + k) r
 fields-stored a b l at fits {n} {k} {m} {r} en em ek er =
     let first : Stored a l at (at + n) m = field-stored a l at (omega (arith, length-append a b)) en em in
@@ -120,5 +127,6 @@ module _ (a b c l : List ℕ) (at : ℕ) (fits : at + length (a ++ (b ++ c)) ≤
             let third : Stored c o (at + n + k) (at + n + k + length c) r = record { place = refl; stores = er } in
             then-stored first-stored (then-stored second-stored third) .stores
 
-        pub three-stored : {r : List ℕ} {j : ℕ} → j ≡ fieldSize c (length o) (at + n + k) → r ≡ fieldBuffer c o (at + n + k) → r ≡ sets l at (a ++ (b ++ c))
+        pub three-stored : {r : List ℕ} {j : ℕ} → j ≡ fieldSize c (length o) (at + n + k) → r
+            ≡ fieldBuffer c o (at + n + k) → r ≡ sets l at (a ++ (b ++ c))
         three-stored ej er = then-third (field-stored c o (at + n + k) third-fits ej er .stores)

@@ -53,7 +53,8 @@ mask-digits (suc n) mask =
     rw (mask-digits n (mask / 256), entry-digits (mask % 256) low) refl
 
 -- Four bytes are the two upper bytes and then the two lower ones.
-pub mask-halves : (pair : ℕ → List ℕ) (mask : ℕ) → maskIn pair 4 mask ≡ maskIn pair 2 (mask / 65536) ++ maskIn pair 2 mask
+pub mask-halves : (pair : ℕ → List ℕ) (mask : ℕ) → maskIn pair 4 mask
+    ≡ maskIn pair 2 (mask / 65536) ++ maskIn pair 2 mask
 unfolding maskIn
 mask-halves pair mask =
     let third : mask / 256 / 256 ≡ mask / 65536 = omega arith in

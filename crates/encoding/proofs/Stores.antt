@@ -15,12 +15,14 @@ sets-append l i (x ∷ a) b =
     rw e (sets-append (set l i x) (suc i) a b)
 
 -- If there is room for them, stores overwrite a part of the list.
-pub sets-overwritten : (l : List ℕ) (at : ℕ) (new : List ℕ) → at + length new ≤ length l → sets l at new ≡ overwritten l at new
+pub sets-overwritten : (l : List ℕ) (at : ℕ) (new : List ℕ) → at + length new ≤ length l → sets l at new
+    ≡ overwritten l at new
 sets-overwritten l at new h = sets-eq new l at h ∙ append-assoc (take at l) new (drop (at + length new) l)
 
 -- A turn stores the lowest byte of the rest of a number.
 pub number-turn : (l : List ℕ) (at size i rest : ℕ) → i < size
-    → sets (set l (at + i) (rest % 256)) (at + (i + 1)) (bytesOf (size - (i + 1)) (rest / 256)) ≡ sets l (at + i) (bytesOf (size - i) rest)
+    → sets (set l (at + i) (rest % 256)) (at + (i + 1)) (bytesOf (size - (i + 1)) (rest / 256))
+    ≡ sets l (at + i) (bytesOf (size - i) rest)
 unfolding bytesOf
 number-turn l at size i rest h =
     let e : size - i ≡ suc (size - (i + 1)) = omega arith in

@@ -36,7 +36,8 @@ else-four m = go (leb m 16)
     go false more = refl
 
 -- A mask has two digits for each of its bytes, also with a table.
-length-in : (pair : ℕ → List ℕ) → ((byte : ℕ) → length (pair byte) ≡ 2) → (n mask : ℕ) → length (maskIn pair n mask) ≡ 2 * n
+length-in : (pair : ℕ → List ℕ) → ((byte : ℕ) → length (pair byte) ≡ 2) → (n mask : ℕ) → length (maskIn pair n mask)
+    ≡ 2 * n
 unfolding maskIn
 length-in pair two zero mask = refl
 length-in pair two (suc n) mask =
@@ -46,14 +47,17 @@ pub length-hex : (n mask : ℕ) → length (hexMask n mask) ≡ 2 * n
 length-hex n mask = length-in hexPair (λ byte. refl) n mask
 
 pub length-mask : (pairs : List ℕ) (n mask : ℕ) → length (maskBy pairs n mask) ≡ 2 * n
-length-mask pairs n mask = length-in (λ byte. bytesOf 2 (getD pairs byte 0)) (λ byte. length-bytesOf 2 (getD pairs byte 0)) n mask
+length-mask pairs n mask = length-in (λ byte. bytesOf 2 (getD pairs byte 0))
+    (λ byte. length-bytesOf 2 (getD pairs byte 0)) n mask
 
 -- The position after a mask of two bytes.
-pub half-place : (pairs : List ℕ) (mask : ℕ) {l b : List ℕ} {at next : ℕ} → Stored (maskBy pairs 2 mask) l at next b → next ≡ at + 4
+pub half-place : (pairs : List ℕ) (mask : ℕ) {l b : List ℕ} {at next : ℕ} → Stored (maskBy pairs 2 mask) l at next b
+    → next ≡ at + 4
 half-place pairs mask s = omega (arith, s .place, length-mask pairs 2 mask)
 
 -- The position after a space and a mask, whatever the mask.
-pub mask-place : (pairs : List ℕ) (n mask : ℕ) {l b : List ℕ} {at next : ℕ} → Stored (maskField pairs n mask) l at next b → next ≡ at + 1 + 2 * n
+pub mask-place : (pairs : List ℕ) (n mask : ℕ) {l b : List ℕ} {at next : ℕ}
+    → Stored (maskField pairs n mask) l at next b → next ≡ at + 1 + 2 * n
 mask-place pairs n mask s = omega (arith, s .place, length-mask pairs n mask)
 
 pub masks-length : (pairs : List ℕ) (n granted entitled : ℕ) → length (maskFields pairs n granted entitled) ≡ 2 + 4 * n

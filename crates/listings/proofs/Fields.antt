@@ -20,7 +20,8 @@ module _ (mask : ℕ → List ℕ) (reply : Reply) where
       → replyFields mask (replyAsNumbers reply) ≡ doneFields mask granted entitled late
   done-fields granted entitled late e = rw e refl
 
-  pub refused-fields : (r : Refusal) → reply ≡ Reply.Refused r → replyFields mask (replyAsNumbers reply) ≡ refusedFields (numberOf r)
+  pub refused-fields : (r : Refusal) → reply ≡ Reply.Refused r → replyFields mask (replyAsNumbers reply)
+      ≡ refusedFields (numberOf r)
   refused-fields r e = rw (e, number-not-zero r)
 
 -- With the table of all bytes, `callLineBy` is `callLine`.

@@ -44,7 +44,12 @@ counted-fit p f i h =
 
 read-small : (p : Plan) → Fits-plan p → readFigure p ≤ 131070
 read-small p f =
-    omega (arith, longest-small isRead (countedEntries p) (counted-fit p f), longest-small isWrite (countedEntries p) (counted-fit p f))
+    omega (
+      arith,
+      longest-small isRead (countedEntries p) (counted-fit p f),
+      longest-small isWrite (countedEntries p)
+          (counted-fit p f),
+    )
 
 write-small : (p : Plan) (m : ℕ) → Fits-plan p → p .processors ≤ suc m → writeFigure p ≤ m * 131070
 write-small p m f h = let l : p .processors - 1 ≤ m = omega arith in mul-le-mul l (read-small p f)
@@ -53,13 +58,23 @@ write-small p m f h = let l : p .processors - 1 ≤ m = omega arith in mul-le-mu
 
 first-length : (p : Plan)
     → length (firstLine p)
-    ≡ 45 + (length (decimal (p .processors)) + length (decimal (p .resources)) + length (decimal (p .count)) + length (decimal (readFigure p)) + length (decimal (writeFigure p)))
+    ≡ 45 + (length (decimal (p .processors)) + length (decimal (p .resources)) + length (decimal (p .count)) + length
+    (decimal (readFigure p)) + length (decimal (writeFigure p)))
 unfolding firstLine
 first-length p = length-numbers (p .processors) (p .resources) (p .count) (readFigure p) (writeFigure p)
 
 pub any-first : (p : Plan) → length (firstLine p) ≤ 145
 any-first p =
-    omega (arith, first-length p, few-digits (p .processors), few-digits (p .resources), few-digits (p .count), few-digits (readFigure p), few-digits (writeFigure p))
+    omega (
+      arith,
+      first-length p,
+      few-digits (p .processors),
+      few-digits (p .resources),
+      few-digits
+          (p .count),
+      few-digits (readFigure p),
+      few-digits (writeFigure p),
+    )
 
 pub longest-first : (p : Plan) → Fits-plan p → length (firstLine p) ≤ 68
 longest-first p f =
@@ -68,7 +83,15 @@ longest-first p f =
     let fc : p .count < 10 ^ 3 = omega (arith, f .count) in
     let read : readFigure p < 10 ^ 6 = omega (arith, read-small p f) in
     let write : writeFigure p < 10 ^ 8 = omega (arith, write-small p 254 f (omega (arith, f .processors))) in
-    omega (arith, first-length p, most-digits 2 _ fp, most-digits 2 _ fr, most-digits 2 _ fc, most-digits 5 _ read, most-digits 7 _ write)
+    omega (
+      arith,
+      first-length p,
+      most-digits 2 _ fp,
+      most-digits 2 _ fr,
+      most-digits 2 _ fc,
+      most-digits 5 _ read,
+      most-digits 7 _ write,
+    )
 
 record Counts (p : Plan) : Type 0 where
   processors : p .processors ≤ maxProcessors
@@ -95,7 +118,15 @@ longest-accepted p f e =
     let fc : p .count < 10 ^ 2 = omega (arith, c .count) in
     let read : readFigure p < 10 ^ 6 = omega (arith, read-small p f) in
     let write : writeFigure p < 10 ^ 7 = omega (arith, write-small p 31 f (c .processors)) in
-    omega (arith, first-length p, most-digits 1 _ fp, most-digits 1 _ fr, most-digits 1 _ fc, most-digits 5 _ read, most-digits 6 _ write)
+    omega (
+      arith,
+      first-length p,
+      most-digits 1 _ fp,
+      most-digits 1 _ fr,
+      most-digits 1 _ fc,
+      most-digits 5 _ read,
+      most-digits 6 _ write,
+    )
 
 -- Sixteen processors, ten resources, ten entries, and lengths of 65,535.
 abbrev longPlan : Plan
@@ -104,7 +135,8 @@ longPlan =
       processors = 16;
       resources = 10;
       count = 10;
-      entries = record { kind = 0; set = 1; length = 65535 } ∷ replicate 63 (record { kind = 1; set = 1; length = 65535 });
+      entries = record { kind = 0; set = 1; length = 65535 }
+          ∷ replicate 63 (record { kind = 1; set = 1; length = 65535 });
     }
 
 pub longest-accepted-reached : (planFault longPlan ≡ 0) × (length (firstLine longPlan) ≡ 64)

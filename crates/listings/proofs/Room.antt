@@ -22,11 +22,13 @@ module _ (bytes buffer : List ℕ) (at needed : ℕ) (flag : Bool) (size : neede
   fits = rw size at test
 
   pub no-room : flag ≡ false
-      → (outcomeAsNumbers (Outcome.Refused Refusal.Room) ≡ lineAsNumbers bytes (length buffer) at) × (buffer ≡ lineBuffer bytes buffer at)
+      → (outcomeAsNumbers (Outcome.Refused Refusal.Room) ≡ lineAsNumbers bytes (length buffer) at)
+      × (buffer ≡ lineBuffer bytes buffer at)
   no-room left = without-room (length bytes) at buffer bytes (sym fits ∙ left)
 
   pub room : (next : ℕ) (after : List ℕ) → flag ≡ true → Stored bytes buffer at next after
-      → (outcomeAsNumbers (Outcome.Bytes needed) ≡ lineAsNumbers bytes (length buffer) at) × (after ≡ lineBuffer bytes buffer at)
+      → (outcomeAsNumbers (Outcome.Bytes needed) ≡ lineAsNumbers bytes (length buffer) at)
+      × (after ≡ lineBuffer bytes buffer at)
   room next after taken s = rw size (with-room (length bytes) at buffer bytes refl (sym fits ∙ taken) after (s .stores))
 
 -- The lead of a line is stored only if the whole line has room.
@@ -36,7 +38,8 @@ module _ (lead tail buffer : List ℕ) (at more led : ℕ) (some : 1 ≤ length 
   whole = simp length-append (omega arith)
 
   pub no-line : led ≡ 0 → (b : List ℕ) → b ≡ placedBuffer (length lead + more) lead buffer at
-      → (outcomeAsNumbers (Outcome.Refused Refusal.Room) ≡ lineAsNumbers (lead ++ tail) (length buffer) at) × (b ≡ lineBuffer (lead ++ tail) buffer at)
+      → (outcomeAsNumbers (Outcome.Refused Refusal.Room) ≡ lineAsNumbers (lead ++ tail) (length buffer) at)
+      × (b ≡ lineBuffer (lead ++ tail) buffer at)
   no-line none b put =
       let full = not-begun lead (length buffer) at (length lead + more) some size none in
       let stays : b ≡ buffer = put ∙ rw full refl in
@@ -62,21 +65,29 @@ module _ (lead tail buffer : List ℕ) (at more led : ℕ) (some : 1 ≤ length 
       rest-fits = omega (arith, line-fits, led-all, rest, stored-length lead-stored)
 
       pub whole-line : (next : ℕ) (after : List ℕ) → Stored tail b (at + led) next after
-          → (outcomeAsNumbers (Outcome.Bytes (led + more)) ≡ lineAsNumbers (lead ++ tail) (length buffer) at) × (after ≡ lineBuffer (lead ++ tail) buffer at)
+          → (outcomeAsNumbers (Outcome.Bytes (led + more)) ≡ lineAsNumbers (lead ++ tail) (length buffer) at)
+          × (after ≡ lineBuffer (lead ++ tail) buffer at)
       whole-line next after s =
           rw led-all
-          (room (lead ++ tail) buffer at (length lead + more) _ whole refl next after has-room (then-stored lead-stored s))
+          (room (lead ++ tail) buffer at (length lead + more) _ whole refl next after has-room
+          (then-stored lead-stored s))
 
 -- A line of one field.
-module _ (line buffer after : List ℕ) (at size : ℕ) (some : 1 ≤ length line) (e : size ≡ fieldSize line (length buffer) at)
+module _ (line buffer after : List ℕ) (at size : ℕ) (some : 1 ≤ length line)
+    (e : size ≡ fieldSize line (length buffer) at)
     (put : after ≡ fieldBuffer line buffer at) where
   pub no-field-line : size ≡ 0
-      → (outcomeAsNumbers (Outcome.Refused Refusal.Room) ≡ lineAsNumbers line (length buffer) at) × (after ≡ lineBuffer line buffer at)
-  no-field-line none =
-      (no-room line buffer at (length line) _ refl refl (not-begun line (length buffer) at (length line) some e none) .0, put)
+      → (outcomeAsNumbers (Outcome.Refused Refusal.Room) ≡ lineAsNumbers line (length buffer) at)
+      × (after ≡ lineBuffer line buffer at)
+  no-field-line none = (
+    no-room line buffer at (length line) _ refl refl
+        (not-begun line (length buffer) at (length line) some e none) .0,
+    put,
+  )
 
   pub field-line : (size ≡ 0 → ⊥)
-      → (outcomeAsNumbers (Outcome.Bytes size) ≡ lineAsNumbers line (length buffer) at) × (after ≡ lineBuffer line buffer at)
+      → (outcomeAsNumbers (Outcome.Bytes size) ≡ lineAsNumbers line (length buffer) at)
+      × (after ≡ lineBuffer line buffer at)
   field-line more =
       let yes = begun line (length buffer) at (length line) some e more in
       (rw (e, yes) refl, put)

@@ -33,9 +33,11 @@ letterOf (Call.Handover p e t) = 104
 -- digits depends on m.
 unfoldable pub callLine : ℕ → Call → Response → List ℕ
 callLine m c reply =
-    fieldsLine (letterOf c) (callAsNumbers c .processor) (callAsNumbers c .tick) (replyFields (hexMask (maskSizeFor m)) reply)
+    fieldsLine (letterOf c) (callAsNumbers c .processor) (callAsNumbers c .tick)
+    (replyFields (hexMask (maskSizeFor m)) reply)
 
 -- The same, with the digits of masks from a table of pairs.
 unfoldable pub callLineBy : List ℕ → ℕ → Call → Response → List ℕ
 callLineBy pairs m c reply =
-    fieldsLine (letterOf c) (callAsNumbers c .processor) (callAsNumbers c .tick) (replyFields (maskBy pairs (maskSizeFor m)) reply)
+    fieldsLine (letterOf c) (callAsNumbers c .processor) (callAsNumbers c .tick)
+    (replyFields (maskBy pairs (maskSizeFor m)) reply)

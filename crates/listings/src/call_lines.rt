@@ -75,7 +75,8 @@ pub fn call_line_by(
 ) -> Outcome
     ensures outcome { λ r. ⌜
         outcomeAsNumbers r
-        ≡ lineAsNumbers (callLineBy (now (pairs .entry)) processors call (replyAsNumbers reply)) (length (now (buffer .entry))) at
+        ≡ lineAsNumbers (callLineBy (now (pairs .entry)) processors call (replyAsNumbers reply))
+        (length (now (buffer .entry))) at
         ⌝ }
     ensures bytes { λ _. ⌜
         now (buffer .exit)

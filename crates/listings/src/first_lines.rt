@@ -13,7 +13,8 @@ ghost use lib.ListN.{length};
 ghost use lib.Seq.{sets};
 ghost use Rattle.encoding.specs.Buffers.{outcomeAsNumbers};
 ghost use Rattle.digits.specs.Digits.{decimal};
-ghost use Rattle.listings.specs.PlainLines.{entriesWord, readWord, writeWord, furtherFields, numbersLine, lineAsNumbers, lineBuffer};
+ghost use Rattle.listings.specs.PlainLines.{entriesWord, readWord, writeWord, furtherFields};
+ghost use Rattle.listings.specs.PlainLines.{numbersLine, lineAsNumbers, lineBuffer};
 
 // The second half of the first line: the words `entries`, `read` and `write`, and their numbers.
 fn write_figures(count: u8, read: u32, write: u32, buffer: &mut [u8], at: usize)

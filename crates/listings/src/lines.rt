@@ -40,7 +40,9 @@ pub fn refused_line(
 
 // Clause 9.8: the line of a fault in the bytes, given its number.
 pub fn fault_line(number: u8, buffer: &mut [u8], at: usize) -> Outcome
-    ensures outcome { λ r. ⌜ outcomeAsNumbers r ≡ lineAsNumbers (refusalLine number) (length (now (buffer .entry))) at ⌝ }
+    ensures outcome { λ r. ⌜
+        outcomeAsNumbers r ≡ lineAsNumbers (refusalLine number) (length (now (buffer .entry))) at
+        ⌝ }
     ensures bytes { λ _. ⌜ now (buffer .exit) ≡ lineBuffer (refusalLine number) (now (buffer .entry)) at ⌝ }
 {
     let size = put_line_end(b"refused ", number as u64, buffer, at);

@@ -17,7 +17,8 @@ use Rattle.logs.specs.Records.{countSize, countAsNumbers, readCount, fie
 pub count-there : (s : List ℕ) → readCount s .number ≡ 0 → countSize ≤ length s
 count-there s e = enough-length countSize s e
 
-pub count-is : (a : CountAnswer) (s : List ℕ) (n : ℕ) → countAsNumbers a ≡ readCount s → a ≡ CountAnswer.Calls n → readCount s .number ≡ 0
+pub count-is : (a : CountAnswer) (s : List ℕ) (n : ℕ) → countAsNumbers a ≡ readCount s → a ≡ CountAnswer.Calls n
+    → readCount s .number ≡ 0
 count-is a s n says e = ap (λ x. x .number) (sym says ∙ ap countAsNumbers e)
 
 -- The call that a call's fields give is the call itself.

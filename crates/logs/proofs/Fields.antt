@@ -11,7 +11,8 @@ use Rattle.logs.specs.Verbs.{recorded}
 use Rattle.logs.specs.declared.CountAnswer.{CountAnswer}
 use Rattle.logs.specs.Records.{countAsNumbers, readCount, fieldsIn, recordFault, readRecord}
 
-pub count-read : (s : List ℕ) (n : ℕ) → 2 ≤ length s → n ≡ number (take 8 (take 2 s)) → countAsNumbers (CountAnswer.Calls n) ≡ readCount s
+pub count-read : (s : List ℕ) (n : ℕ) → 2 ≤ length s → n ≡ number (take 8 (take 2 s))
+    → countAsNumbers (CountAnswer.Calls n) ≡ readCount s
 count-read s n h e = rw (le-leb 2 (length s) h, e, part-number 0 2 s (lit< tt))
 
 -- If the 8 bytes of a record are there, its answer is that of its fields.

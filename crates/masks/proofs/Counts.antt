@@ -87,5 +87,6 @@ pub ones-are : (w n : ℕ) → n < 2 ^ w → ones n ≡ countOf w (bit n)
 ones-are zero n h = none n h
 ones-are (suc w) n h =
     ones-step n
-    ∙ ap₂ _+_ (digit-counts n) (ones-are w (n / 2) (half-lt w n h) ∙ count-agree w (bit (n / 2)) (λ k. bit n (suc k)) (λ k. sym (bit-suc n k)))
+    ∙ ap₂ _+_ (digit-counts n) (ones-are w (n / 2) (half-lt w n h)
+    ∙ count-agree w (bit (n / 2)) (λ k. bit n (suc k)) (λ k. sym (bit-suc n k)))
     ∙ sym (count-first w (bit n))

@@ -15,13 +15,16 @@ use Rattle.masks.proofs.Places.{bit-zero}
 -- Two digits are equal if both are 1 or neither is.
 same-digit : (x y : ℕ) → x < 2 → y < 2 → eqb x 1 ≡ eqb y 1 → x ≡ y
 same-digit =
-    by-digits (λ x y. eqb x 1 ≡ eqb y 1 → x ≡ y) (λ e. refl) (λ e. eqb-true 0 1 e) (λ e. sym (eqb-true 0 1 (sym e))) (λ e. refl)
+    by-digits (λ x y. eqb x 1 ≡ eqb y 1 → x ≡ y) (λ e. refl) (λ e. eqb-true 0 1 e) (λ e. sym (eqb-true 0 1 (sym e)))
+    (λ e. refl)
 
 pub same-places : (w a b : ℕ) → a < 2 ^ w → b < 2 ^ w → ((k : ℕ) → k < w → bit a k ≡ bit b k) → a ≡ b
 same-places zero a b ha hb same = omega arith
 same-places (suc w) a b ha hb same =
-    let half : a / 2 ≡ b / 2 = same-places w (a / 2) (b / 2) (half-lt w a ha) (half-lt w b hb) (λ k l. sym (bit-suc a k) ∙ same (suc k) (suc-le-suc l) ∙ bit-suc b k) in
-    let low : a % 2 ≡ b % 2 = same-digit (a % 2) (b % 2) (digit-lt a) (digit-lt b) (sym (bit-lowest a) ∙ same 0 (zero-lt-suc w) ∙ bit-lowest b) in
+    let half : a / 2 ≡ b / 2 = same-places w (a / 2) (b / 2) (half-lt w a ha) (half-lt w b hb)
+    (λ k l. sym (bit-suc a k) ∙ same (suc k) (suc-le-suc l) ∙ bit-suc b k) in
+    let low : a % 2 ≡ b % 2 = same-digit (a % 2) (b % 2) (digit-lt a) (digit-lt b)
+    (sym (bit-lowest a) ∙ same 0 (zero-lt-suc w) ∙ bit-lowest b) in
     omega arith
 
 -- The converse is `bit-past`.
@@ -31,5 +34,6 @@ below-by-places zero n v h past =
     omega arith
 below-by-places (suc w) n v h past =
     let half : n / 2 < 2 ^ w =
-    below-by-places w (n / 2) v (lt-of-le-of-lt (div-le-self n 2) h) (λ k l. sym (bit-suc n k) ∙ past (suc k) (suc-le-suc l)) in
+    below-by-places w (n / 2) v (lt-of-le-of-lt (div-le-self n 2) h)
+    (λ k l. sym (bit-suc n k) ∙ past (suc k) (suc-le-suc l)) in
     omega arith

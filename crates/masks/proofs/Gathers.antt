@@ -32,7 +32,8 @@ gathered-more {w} {W} {R} {f} {among} {left} {set} next p h l e =
       walk = left-more (h .walk);
       width = rw e (added-below R set here (h .width) l);
       meeting = λ row.
-          ap (λ t. t || someIn w f row (bitAnd left (left - 1))) (ap (λ (x : ℕ). meets row x) e ∙ meets-added R row set here (h .width) l)
+          ap (λ t. t || someIn w f row (bitAnd left (left - 1)))
+          (ap (λ (x : ℕ). meets row x) e ∙ meets-added R row set here (h .width) l)
           ∙ or-assoc (meets row set) (bit row here) (someIn w f row (bitAnd left (left - 1)))
           ∙ ap (λ t. meets row set || t) (some-lowest (λ k. bit row (f k)) (h .walk) p)
           ∙ h .meeting row;
@@ -44,4 +45,5 @@ gathered-more {w} {W} {R} {f} {among} {left} {set} next p h l e =
 pub gathered-last : {w W R : ℕ} {f : ℕ → ℕ} {among left set : ℕ} → left ≡ 0 → Gathered w W R f among left set
     → (row : ℕ) → meets row set ≡ someIn w f row among
 gathered-last {w} {f = f} {left = left} {set} e h row =
-    sym (or-false (meets row set)) ∙ ap (λ t. meets row set || t) (sym (some-last w (λ k. bit row (f k)) left e)) ∙ h .meeting row
+    sym (or-false (meets row set)) ∙ ap (λ t. meets row set || t) (sym (some-last w (λ k. bit row (f k)) left e))
+    ∙ h .meeting row

@@ -52,13 +52,15 @@ one-less (suc w) n zero p h =
     (λ e. let even : (n - 1) % 2 ≡ 0 = omega arith in
     ap (λ t. bit n 0 && t) (bit-lowest (n - 1) ∙ ap (λ (x : ℕ). eqb x 1) even))
 one-less (suc w) n (suc k) p h =
-    by-lowest n (λ d. (bit n (suc k) && bit (n - 1) (suc k)) ≡ (bit n (suc k) && not (eqb (suc k) (under d (trailingZeros w (n / 2))))))
+    by-lowest n (λ d. (bit n (suc k) && bit (n - 1) (suc k))
+    ≡ (bit n (suc k) && not (eqb (suc k) (under d (trailingZeros w (n / 2))))))
     (λ e. let half : (n - 1) / 2 ≡ n / 2 - 1 = omega arith in
     ap₂ _&&_ (bit-suc n k) (bit-suc (n - 1) k ∙ ap (λ (x : ℕ). bit x k) half)
     ∙ one-less w (n / 2) k (omega arith) (half-lt w n h)
     ∙ ap₂ (λ t u. t && not u) (sym (bit-suc n k)) (sym (eqb·suc-suc k (trailingZeros w (n / 2)))))
     (λ e. let half : (n - 1) / 2 ≡ n / 2 = omega arith in
-    ap (λ t. bit n (suc k) && t) (bit-suc (n - 1) k ∙ ap (λ (x : ℕ). bit x k) half ∙ sym (bit-suc n k)) ∙ and-self (bit n (suc k))
+    ap (λ t. bit n (suc k) && t) (bit-suc (n - 1) k ∙ ap (λ (x : ℕ). bit x k) half ∙ sym (bit-suc n k))
+    ∙ and-self (bit n (suc k))
     ∙ sym (and-true (bit n (suc k))) ∙ ap (λ t. bit n (suc k) && not t) (sym (eqb·suc-zero k)))
 
 pub bit-rest : (w n k : ℕ) → 0 < n → n < 2 ^ w → bit (bitAnd n (n - 1)) k ≡ (bit n k && not (eqb k (trailingZeros w n)))

@@ -52,7 +52,8 @@ mask-next n p m r t next made e =
     next ∙ ap₂ (λ t (m : ℕ). cond t (added m n) m) e made ∙ sym (mask-more-added n p)
 
 -- The same if the code shifts the place, in a word of w bits.
-pub mask-shifted : (w n : ℕ) (p : ℕ → Bool) (m r : ℕ) → n < w → m ≡ maskOf n p → r ≡ cond (p n) (bitOr m (1 * 2 ^ n % 2 ^ w)) m
+pub mask-shifted : (w n : ℕ) (p : ℕ → Bool) (m r : ℕ) → n < w → m ≡ maskOf n p → r
+    ≡ cond (p n) (bitOr m (1 * 2 ^ n % 2 ^ w)) m
     → r ≡ maskOf (n + 1) p
 mask-shifted w n p m r l made e =
     mask-next n p m r (p n) (e ∙ ap (λ (x : ℕ). cond (p n) (bitOr m x) m) (one-shifted w n l)) made refl
@@ -70,7 +71,8 @@ below-more n k p = last (eqb k n) refl
     last : (t : Bool) → eqb k n ≡ t → (ltb k n && p k || (t && p n)) ≡ (ltb k (suc n) && p k)
     last true e =
         let same : k ≡ n = eqb-true k n e in
-        ap₂ (λ t u. t && p k || u) (le-ltb k n (omega arith)) (ap p (sym same)) ∙ ap (λ t. t && p k) (sym (lt-ltb k (suc n) (omega arith)))
+        ap₂ (λ t u. t && p k || u) (le-ltb k n (omega arith)) (ap p (sym same))
+        ∙ ap (λ t. t && p k) (sym (lt-ltb k (suc n) (omega arith)))
     last false e = or-false (ltb k n && p k) ∙ ap (λ t. t && p k) (step (ltb k n) refl (eqb-false k n e))
 
 pub bit-mask : (n : ℕ) (p : ℕ → Bool) (k : ℕ) → bit (maskOf n p) k ≡ (ltb k n && p k)
@@ -102,17 +104,21 @@ mask-none n = sym (is-mask n 0 (λ k. false) (pow-pos n) (λ k l. bit-zero k))
 
 pub mask-and : (n : ℕ) (p q : ℕ → Bool) → bitAnd (maskOf n p) (maskOf n q) ≡ maskOf n (λ k. p k && q k)
 mask-and n p q =
-    is-mask n (bitAnd (maskOf n p) (maskOf n q)) (λ k. p k && q k) (and-below n (maskOf n p) (maskOf n q) (mask-below n p))
+    is-mask n (bitAnd (maskOf n p) (maskOf n q)) (λ k. p k && q k)
+    (and-below n (maskOf n p) (maskOf n q) (mask-below n p))
     (λ k l. bit-and (maskOf n p) (maskOf n q) k ∙ ap₂ _&&_ (bit-mask-at n p k l) (bit-mask-at n q k l))
 
 pub mask-or : (n : ℕ) (p q : ℕ → Bool) → bitOr (maskOf n p) (maskOf n q) ≡ maskOf n (λ k. p k || q k)
 mask-or n p q =
-    is-mask n (bitOr (maskOf n p) (maskOf n q)) (λ k. p k || q k) (or-below n (maskOf n p) (maskOf n q) (mask-below n p) (mask-below n q))
+    is-mask n (bitOr (maskOf n p) (maskOf n q)) (λ k. p k || q k)
+    (or-below n (maskOf n p) (maskOf n q) (mask-below n p) (mask-below n q))
     (λ k l. bit-or (maskOf n p) (maskOf n q) k ∙ ap₂ _||_ (bit-mask-at n p k l) (bit-mask-at n q k l))
 
 -- Also if the masks have fewer places than the width w of the complement.
-pub mask-without : (w n : ℕ) (p q : ℕ → Bool) → n ≤ w → without w (maskOf n p) (maskOf n q) ≡ maskOf n (λ k. p k && not (q k))
+pub mask-without : (w n : ℕ) (p q : ℕ → Bool) → n ≤ w → without w (maskOf n p) (maskOf n q)
+    ≡ maskOf n (λ k. p k && not (q k))
 mask-without w n p q l =
-    is-mask n (without w (maskOf n p) (maskOf n q)) (λ k. p k && not (q k)) (and-below n (maskOf n p) _ (mask-below n p))
+    is-mask n (without w (maskOf n p) (maskOf n q)) (λ k. p k && not (q k))
+    (and-below n (maskOf n p) _ (mask-below n p))
     (λ k m. bit-without w (maskOf n p) (maskOf n q) k (mask-below-width w n p l) (mask-below-width w n q l)
     ∙ ap₂ (λ t u. t && not u) (bit-mask-at n p k m) (bit-mask-at n q k m))

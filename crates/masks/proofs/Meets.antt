@@ -25,7 +25,8 @@ not-empty w n h = go (some w (bit n)) refl
 
 pub meets-some : (w a b : ℕ) → a < 2 ^ w → meets a b ≡ some w (λ k. bit a k && bit b k)
 meets-some w a b h =
-    not-empty w (bitAnd a b) (and-below w a b h) ∙ some-agree w (bit (bitAnd a b)) (λ k. bit a k && bit b k) (λ k l. bit-and a b k)
+    not-empty w (bitAnd a b) (and-below w a b h)
+    ∙ some-agree w (bit (bitAnd a b)) (λ k. bit a k && bit b k) (λ k l. bit-and a b k)
 
 pub meets-share : (w a b : ℕ) → a < 2 ^ w → meets a b ≡ true → (k : ℕ) × (k < w) × (bit a k ≡ true) × (bit b k ≡ true)
 meets-share w a b h m =

@@ -9,7 +9,8 @@ use lib.Dec.{eqb, ltb, eqb·zero-suc, eqb·suc-zero, eqb·suc-suc}
 use lib.Pow.{pow-pos, pow-mono, pow-lt, ones-sub-lt}
 use borrow.Author.Tests.{eqb-true, ltb-true, ltb-false, lt-ltb}
 use Rattle.masks.specs.Sets.{bit, complement, without, added, removed}
-use Rattle.masks.proofs.Digits.{bit-lowest, bit-suc, by-digit, by-digits, digit-lt, half-lt, ltb-none, ltb-first, ltb-suc}
+use Rattle.masks.proofs.Digits.{bit-lowest, bit-suc, by-digit, by-digits, digit-lt, half-lt, ltb-none, ltb-first}
+use Rattle.masks.proofs.Digits.{ltb-suc}
 
 pub bit-past : (w n k : ℕ) → n < 2 ^ w → w ≤ k → bit n k ≡ false
 unfolding bit
@@ -82,7 +83,8 @@ bit-complement (suc w) n zero h =
     bit-lowest (complement (suc w) n) ∙ ap (λ (x : ℕ). eqb x 1) (complement-low w n h) ∙ flip-test (n % 2) (digit-lt n)
     ∙ ap₂ (λ t u. t && not u) (sym (ltb-first w)) (sym (bit-lowest n))
 bit-complement (suc w) n (suc k) h =
-    bit-suc (complement (suc w) n) k ∙ ap (λ (x : ℕ). bit x k) (complement-rest w n h) ∙ bit-complement w (n / 2) k (half-lt w n h)
+    bit-suc (complement (suc w) n) k ∙ ap (λ (x : ℕ). bit x k) (complement-rest w n h)
+    ∙ bit-complement w (n / 2) k (half-lt w n h)
     ∙ ap₂ (λ t u. t && not u) (sym (ltb-suc k w)) (sym (bit-suc n k))
 
 -- A place of a set of width w is below w.
@@ -95,7 +97,8 @@ bit-within w n k t h = go (ltb k w) refl
 
 pub bit-without : (w a b k : ℕ) → a < 2 ^ w → b < 2 ^ w → bit (without w a b) k ≡ (bit a k && not (bit b k))
 bit-without w a b k ha hb =
-    bit-and a (complement w b) k ∙ ap (λ t. bit a k && t) (bit-complement w b k hb) ∙ bit-within w a k (not (bit b k)) ha
+    bit-and a (complement w b) k ∙ ap (λ t. bit a k && t) (bit-complement w b k hb)
+    ∙ bit-within w a k (not (bit b k)) ha
 
 -- ---- one place
 
@@ -168,7 +171,8 @@ removed-if-below w n p false h = h
 pub bit-ones : (w k : ℕ) → bit (2 ^ w - 1) k ≡ ltb k w
 bit-ones w k =
     let none : 2 ^ w - 1 ≡ complement w 0 = omega arith in
-    ap (λ (x : ℕ). bit x k) none ∙ bit-complement w 0 k (pow-pos w) ∙ ap (λ t. ltb k w && not t) (bit-zero k) ∙ and-true (ltb k w)
+    ap (λ (x : ℕ). bit x k) none ∙ bit-complement w 0 k (pow-pos w) ∙ ap (λ t. ltb k w && not t) (bit-zero k)
+    ∙ and-true (ltb k w)
 
 pub bit-first : (w n k : ℕ) → k < w → bit (bitAnd n (2 ^ w - 1)) k ≡ bit n k
 bit-first w n k l = bit-and n (2 ^ w - 1) k ∙ ap (λ t. bit n k && t) (bit-ones w k ∙ lt-ltb k w l) ∙ and-true (bit n k)

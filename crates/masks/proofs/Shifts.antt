@@ -21,7 +21,8 @@ adds w n k l = ap (λ (x : ℕ). bitOr n x) (one-shifted w k l) ∙ ap (λ t. co
 
 pub removes : (w n k : ℕ) → k < w → bitAnd n (2 ^ w - 1 - 1 * 2 ^ k % 2 ^ w) ≡ cond (ltb k w) (removed w n k) n
 removes w n k l =
-    ap (λ (x : ℕ). bitAnd n (2 ^ w - 1 - x)) (one-shifted w k l) ∙ ap (λ t. cond t (removed w n k) n) (sym (lt-ltb k w l))
+    ap (λ (x : ℕ). bitAnd n (2 ^ w - 1 - x)) (one-shifted w k l)
+    ∙ ap (λ t. cond t (removed w n k) n) (sym (lt-ltb k w l))
 
 -- Adding a digit, 0 or 1, that is shifted to the place.
 pub adds-digit : (w n k d : ℕ) → k < w → d < 2 → bitOr n (d * 2 ^ k % 2 ^ w) ≡ cond (eqb d 1) (added n k) n

@@ -23,13 +23,15 @@ pub some-found : (n : ℕ) (p : ℕ → Bool) → some n p ≡ true → (k : ℕ
 unfolding some
 some-found zero p e = absurd (false≢true e)
 some-found (suc n) p e =
-    ⊎-elim (λ h. let r = some-found n p h in (r .0, le-step (r .1), r .2)) (λ h. (n, le-refl (suc n), h)) (or-cases (some n p) (p n) e)
+    ⊎-elim (λ h. let r = some-found n p h in (r .0, le-step (r .1), r .2)) (λ h. (n, le-refl (suc n), h))
+    (or-cases (some n p) (p n) e)
 
 pub some-at : (n : ℕ) (p : ℕ → Bool) (k : ℕ) → k < n → p k ≡ true → some n p ≡ true
 unfolding some
 some-at zero p k l h = absurd (not-suc-le-zero l)
 some-at (suc n) p k l h =
-    ⊎-elim (λ e. ap (λ t. some n p || t) (ap p (sym e) ∙ h) ∙ or-true (some n p)) (λ m. ap (λ t. t || p n) (some-at n p k m h))
+    ⊎-elim (λ e. ap (λ t. some n p || t) (ap p (sym e) ∙ h) ∙ or-true (some n p))
+    (λ m. ap (λ t. t || p n) (some-at n p k m h))
     (eq-or-lt-of-le (le-of-suc-le-suc l))
 
 pub some-agree : (n : ℕ) (p q : ℕ → Bool) → ((k : ℕ) → k < n → p k ≡ q k) → some n p ≡ some n q

@@ -32,7 +32,8 @@ pub record Stored (w W v among : ℕ) (first : List ℕ) (left : ℕ) (out : Lis
   pub full : length out ≡ w
   pub places : (k : ℕ) → k < w → cond (bit left k) v (getD out k 0) ≡ cond (bit among k) v (getD first k 0)
 
-pub stored-first : {w W : ℕ} → w ≤ W → (v among : ℕ) (first : List ℕ) → length first ≡ w → Stored w W v among first (bitAnd among (2 ^ w - 1)) first
+pub stored-first : {w W : ℕ} → w ≤ W → (v among : ℕ) (first : List ℕ) → length first ≡ w
+    → Stored w W v among first (bitAnd among (2 ^ w - 1)) first
 stored-first {w} fit v among first full =
     record {
       walk = left-first fit among;
@@ -40,14 +41,16 @@ stored-first {w} fit v among first full =
       places = λ k l. ap (λ t. cond t v (getD first k 0)) (bit-first w among k l);
     }
 
-pub stored-more : {w W v among : ℕ} {first : List ℕ} {left : ℕ} {out : List ℕ} → 0 < left → Stored w W v among first left out
+pub stored-more : {w W v among : ℕ} {first : List ℕ} {left : ℕ} {out : List ℕ} → 0 < left
+    → Stored w W v among first left out
     → Stored w W v among first (bitAnd left (left - 1)) (set out (trailingZeros W left) v)
 stored-more {w} {W} {v} {left = left} {out} p h =
     record {
       walk = left-more (h .walk);
       full = length-set out low v ∙ h .full;
       places = λ k l.
-          ap₂ (λ t (x : ℕ). cond t v x) (bit-left (h .walk) p k) (stored-at out low v k (omega (arith, lowest-place (h .walk) p, h .full)))
+          ap₂ (λ t (x : ℕ). cond t v x) (bit-left (h .walk) p k)
+          (stored-at out low v k (omega (arith, lowest-place (h .walk) p, h .full)))
           ∙ at k (eqb k low) refl
           ∙ h .places k l;
     }
@@ -55,13 +58,16 @@ stored-more {w} {W} {v} {left = left} {out} p h =
     low : ℕ
     low = trailingZeros W left
 
-    at : (k : ℕ) (t : Bool) → eqb k low ≡ t → cond (bit left k && not t) v (cond t v (getD out k 0)) ≡ cond (bit left k) v (getD out k 0)
+    at : (k : ℕ) (t : Bool) → eqb k low ≡ t → cond (bit left k && not t) v (cond t v (getD out k 0))
+        ≡ cond (bit left k) v (getD out k 0)
     at k true e = let there = at-lowest (h .walk) p k e .1 in rw there
     at k false e = ap (λ b. cond b v (getD out k 0)) (and-true (bit left k))
 
-pub stored-last : {w W v among : ℕ} {first : List ℕ} {left : ℕ} {out : List ℕ} → left ≡ 0 → Stored w W v among first left out
+pub stored-last : {w W v among : ℕ} {first : List ℕ} {left : ℕ} {out : List ℕ} → left ≡ 0
+    → Stored w W v among first left out
     → (k : ℕ) → k < w → getD out k 0 ≡ cond (bit among k) v (getD first k 0)
-stored-last {v = v} {left = left} {out} e h k l = ap (λ t. cond t v (getD out k 0)) (sym (bit-none left k e)) ∙ h .places k l
+stored-last {v = v} {left = left} {out} e h k l = ap (λ t. cond t v (getD out k 0)) (sym (bit-none left k e))
+    ∙ h .places k l
 
 -- ---- each number changed in turn
 
@@ -73,7 +79,13 @@ pub record Each (w : ℕ) (f : ℕ → ℕ) (first : List ℕ) (q : ℕ) (out : 
   pub rest : (k : ℕ) → q ≤ k → getD out k 0 ≡ getD first k 0
 
 pub each-first : (w : ℕ) (f : ℕ → ℕ) (first : List ℕ) → length first ≡ w → Each w f first 0 first
-each-first w f first full = record { within = omega arith; full = full; changed = λ k l. absurd (omega arith); rest = λ k l. refl }
+each-first w f first full = record {
+  within = omega arith;
+  full = full;
+  changed = λ k l. absurd
+      (omega arith);
+  rest = λ k l. refl;
+}
 
 pub each-more : {w : ℕ} {f : ℕ → ℕ} {first : List ℕ} {q : ℕ} {out : List ℕ} → q < w → Each w f first q out
     → Each w f first (q + 1) (set out q (f (getD out q 0)))

@@ -14,7 +14,8 @@ use Rattle.masks.specs.Tabulation.{tabulate}
 pub length-tabulate : (n : ℕ) (f : ℕ → ℕ) → length (tabulate n f) ≡ n
 unfolding tabulate
 length-tabulate zero f = refl
-length-tabulate (suc n) f = length-append (tabulate n f) (f n ∷ []) ∙ ap (λ (x : ℕ). x + 1) (length-tabulate n f) ∙ add-one n
+length-tabulate (suc n) f = length-append (tabulate n f) (f n ∷ []) ∙ ap (λ (x : ℕ). x + 1) (length-tabulate n f)
+    ∙ add-one n
 
 pub getD-tabulate : (n : ℕ) (f : ℕ → ℕ) (i d : ℕ) → i < n → getD (tabulate n f) i d ≡ f i
 unfolding tabulate

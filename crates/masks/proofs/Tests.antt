@@ -9,8 +9,10 @@ use lib.Dec.{eqb, ltb}
 use lib.Pow.{pow-pos, pow-lt}
 use borrow.Author.Tests.{lt-ltb}
 use Rattle.masks.specs.Sets.{bit, added, removed, without, maskOf}
-use Rattle.masks.proofs.Places.{bit-zero, bit-and, bit-or, bit-without, bit-single, bit-added, bit-removed-if, bit-ones, bit-first, and-below, first-below, ones-below, added-below, wider}
-use Rattle.masks.proofs.Masks.{is-mask, mask-agree, mask-below, mask-of-bits, mask-and, mask-or, mask-without, bit-mask-at}
+use Rattle.masks.proofs.Places.{bit-zero, bit-and, bit-or, bit-without, bit-single, bit-added, bit-removed-if}
+use Rattle.masks.proofs.Places.{bit-ones, bit-first, and-below, first-below, ones-below, added-below, wider}
+use Rattle.masks.proofs.Masks.{is-mask, mask-agree, mask-below, mask-of-bits, mask-and, mask-or, mask-without}
+use Rattle.masks.proofs.Masks.{bit-mask-at}
 
 pub record Mask (w : ℕ) (P : ℕ → Bool) (a : ℕ) : Type 0 where
   pub is : a ≡ maskOf w P
@@ -67,7 +69,8 @@ and-is {w} {P} {Q} ma mb = record { is = ap₂ bitAnd (ma .is) (mb .is) ∙ mask
 pub or-is : {w : ℕ} {P Q : ℕ → Bool} {a b : ℕ} → Mask w P a → Mask w Q b → Mask w (λ k. P k || Q k) (bitOr a b)
 or-is {w} {P} {Q} ma mb = record { is = ap₂ bitOr (ma .is) (mb .is) ∙ mask-or w P Q }
 
-pub without-is : {w : ℕ} {P Q : ℕ → Bool} {a b : ℕ} (W : ℕ) → w ≤ W → Mask w P a → Mask w Q b → Mask w (λ k. P k && not (Q k)) (without W a b)
+pub without-is : {w : ℕ} {P Q : ℕ → Bool} {a b : ℕ} (W : ℕ) → w ≤ W → Mask w P a → Mask w Q b
+    → Mask w (λ k. P k && not (Q k)) (without W a b)
 without-is {w} {P} {Q} W fit ma mb = record { is = ap₂ (without W) (ma .is) (mb .is) ∙ mask-without W w P Q fit }
 
 -- The other operand can be any number: only its first w places matter.
@@ -81,16 +84,20 @@ any-and {w} {P} {a} n m =
 
 -- ---- one place added or removed
 
-pub in-is : {w : ℕ} {P : ℕ → Bool} {a : ℕ} (W p : ℕ) → w ≤ W → p < w → Mask w P a → Mask w (λ k. P k || eqb k p) (cond (ltb p W) (added a p) a)
+pub in-is : {w : ℕ} {P : ℕ → Bool} {a : ℕ} (W p : ℕ) → w ≤ W → p < w → Mask w P a
+    → Mask w (λ k. P k || eqb k p) (cond (ltb p W) (added a p) a)
 in-is {w} {P} {a} W p fit l m =
-    rw here (by-bits (added-below w a p (below-is m) l) (λ k h. bit-added a p k ∙ ap (λ t. t || eqb k p) (bit-is m k h)))
+    rw here (by-bits (added-below w a p (below-is m) l)
+    (λ k h. bit-added a p k ∙ ap (λ t. t || eqb k p) (bit-is m k h)))
   where
     here : ltb p W ≡ true
     here = lt-ltb p W (lt-of-lt-of-le l fit)
 
-pub out-is : {w : ℕ} {P : ℕ → Bool} {a : ℕ} (W p : ℕ) → w ≤ W → Mask w P a → Mask w (λ k. P k && not (eqb k p)) (cond (ltb p W) (removed W a p) a)
+pub out-is : {w : ℕ} {P : ℕ → Bool} {a : ℕ} (W p : ℕ) → w ≤ W → Mask w P a
+    → Mask w (λ k. P k && not (eqb k p)) (cond (ltb p W) (removed W a p) a)
 out-is {w} {P} {a} W p fit m =
-    by-bits (below (ltb p W)) (λ k l. bit-removed-if W a p k (word-is W fit m) ∙ ap (λ t. t && not (eqb k p)) (bit-is m k l))
+    by-bits (below (ltb p W)) (λ k l. bit-removed-if W a p k (word-is W fit m)
+    ∙ ap (λ t. t && not (eqb k p)) (bit-is m k l))
   where
     below : (t : Bool) → cond t (removed W a p) a < 2 ^ w
     below true = and-below w a _ (below-is m)
@@ -110,8 +117,11 @@ pub empty-is : {w : ℕ} {P : ℕ → Bool} {a : ℕ} → Mask w P a → a ≡ 0
 empty-is m e k l = sym (bit-is m k l) ∙ ap (λ (x : ℕ). bit x k) e ∙ bit-zero k
 
 pub neither : {w : ℕ} {P Q : ℕ → Bool} {a b : ℕ} → Mask w P a → Mask w Q b → bitOr a b ≡ 0 → (a ≡ 0) × (b ≡ 0)
-neither {P = P} {Q} ma mb e =
-    (no-place ma (λ k l. first-none (P k) (Q k) (empty-is (or-is ma mb) e k l)), no-place mb (λ k l. second-none (P k) (Q k) (empty-is (or-is ma mb) e k l)))
+neither {P = P} {Q} ma mb e = (
+  no-place ma (λ k l. first-none (P k) (Q k) (empty-is (or-is ma mb) e k l)),
+  no-place mb
+      (λ k l. second-none (P k) (Q k) (empty-is (or-is ma mb) e k l)),
+)
   where
     first-none : (x y : Bool) → (x || y) ≡ false → x ≡ false
     first-none true y e = e

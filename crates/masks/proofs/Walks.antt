@@ -40,7 +40,8 @@ module _ {w W n : ℕ} (l : Left w W n) where
         go : (t : Bool) → ltb (trailingZeros W n) w ≡ t → trailingZeros W n < w
         go true e = ltb-true (trailingZeros W n) w e
         go false e =
-            absurd (true≢false (sym lowest-bit ∙ bit-past w n (trailingZeros W n) (l .rest) (ltb-false (trailingZeros W n) w e)))
+            absurd (true≢false (sym lowest-bit ∙ bit-past w n (trailingZeros W n) (l .rest)
+            (ltb-false (trailingZeros W n) w e)))
 
     pub bit-left : (k : ℕ) → bit (bitAnd n (n - 1)) k ≡ (bit n k && not (eqb k (trailingZeros W n)))
     bit-left k = bit-rest W n k some-left left-word
@@ -75,13 +76,15 @@ kept-width w n k true h l = added-below w n k h l
 kept-width w n k false h l = h
 
 pub kept-more : {w W : ℕ} {P : ℕ → Bool} {all left out : ℕ} (next : ℕ) → 0 < left → Kept w W P all left out
-    → next ≡ cond (P (trailingZeros W left)) (added out (trailingZeros W left)) out → Kept w W P all (bitAnd left (left - 1)) next
+    → next ≡ cond (P (trailingZeros W left)) (added out (trailingZeros W left)) out
+    → Kept w W P all (bitAnd left (left - 1)) next
 kept-more {w} {W} {P} {all} {left} {out} next p h e =
     record {
       walk = left-more (h .walk);
       width = rw e (kept-width w out low (P low) (h .width) (lowest-place (h .walk) p));
       places = λ k l.
-          ap₂ (λ t u. t || u && P k) (ap (λ (x : ℕ). bit x k) e ∙ bit-added-if out low k (P low)) (bit-left (h .walk) p k)
+          ap₂ (λ t u. t || u && P k) (ap (λ (x : ℕ). bit x k) e ∙ bit-added-if out low k (P low))
+          (bit-left (h .walk) p k)
           ∙ moved (bit out k) (bit left k) (eqb k low) (P k) (P low)
           (λ same. let here = at-lowest (h .walk) p k same in (here .1, ap P (sym (here .0))))
           ∙ h .places k l;
@@ -90,7 +93,8 @@ kept-more {w} {W} {P} {all} {left} {out} next p h e =
     low : ℕ
     low = trailingZeros W left
 
-pub kept-last : {w W : ℕ} {P : ℕ → Bool} {all left out : ℕ} → left ≡ 0 → Kept w W P all left out → out ≡ maskOf w (λ k. bit all k && P k)
+pub kept-last : {w W : ℕ} {P : ℕ → Bool} {all left out : ℕ} → left ≡ 0 → Kept w W P all left out → out
+    ≡ maskOf w (λ k. bit all k && P k)
 kept-last {w} {P = P} {all} {left} {out} e h =
     is-mask w out (λ k. bit all k && P k) (h .width)
     (λ k l. sym (or-false (bit out k)) ∙ ap (λ t. bit out k || t && P k) (sym (bit-none left k e)) ∙ h .places k l)
@@ -98,7 +102,8 @@ kept-last {w} {P = P} {all} {left} {out} e h =
 -- If there are no candidates, nothing is kept.
 pub none-kept : (w : ℕ) (P : ℕ → Bool) (all : ℕ) → all ≡ 0 → 0 ≡ maskOf w (λ k. bit all k && P k)
 none-kept w P all e =
-    sym (mask-none w) ∙ mask-agree w (λ k. false) (λ k. bit all k && P k) (λ k l. ap (λ t. t && P k) (sym (bit-none all k e)))
+    sym (mask-none w) ∙ mask-agree w (λ k. false) (λ k. bit all k && P k)
+    (λ k l. ap (λ t. t && P k) (sym (bit-none all k e)))
 
 -- ---- whether some place of the mask passes the test
 
@@ -109,20 +114,23 @@ pub some-last : (w : ℕ) (P : ℕ → Bool) (left : ℕ) → left ≡ 0 → som
 some-last w P left e = some-none w (λ k. bit left k && P k) (λ k l. ap (λ t. t && P k) (bit-none left k e))
 
 -- The place that passes is p, or it is one of the others.
-one-or-others : (L P : ℕ → Bool) (n p : ℕ) → p < n → L p ≡ true → (P p || some n (λ k. L k && not (eqb k p) && P k)) ≡ some n (λ k. L k && P k)
+one-or-others : (L P : ℕ → Bool) (n p : ℕ) → p < n → L p ≡ true → (P p || some n (λ k. L k && not (eqb k p) && P k))
+    ≡ some n (λ k. L k && P k)
 one-or-others L P n p l h = go (P p) refl
   where
     same : (k : ℕ) (t : Bool) → eqb k p ≡ t → P p ≡ false → (L k && not t && P k) ≡ (L k && P k)
     same k true e n =
         let none : P k ≡ false = ap P (eqb-true k p e) ∙ n in
-        ap (λ t. L k && not true && t) none ∙ and-false (L k && not true) ∙ sym (ap (λ t. L k && t) none ∙ and-false (L k))
+        ap (λ t. L k && not true && t) none ∙ and-false (L k && not true)
+        ∙ sym (ap (λ t. L k && t) none ∙ and-false (L k))
     same k false e n = ap (λ t. t && P k) (and-true (L k))
 
     go : (t : Bool) → P p ≡ t → (t || some n (λ k. L k && not (eqb k p) && P k)) ≡ some n (λ k. L k && P k)
     go true e = sym (some-at n (λ k. L k && P k) p l (ap₂ _&&_ h e))
     go false e = some-agree n (λ k. L k && not (eqb k p) && P k) (λ k. L k && P k) (λ k m. same k (eqb k p) refl e)
 
-pub some-lowest : {w W n : ℕ} (P : ℕ → Bool) → Left w W n → 0 < n → (P (trailingZeros W n) || someOf w P (bitAnd n (n - 1))) ≡ someOf w P n
+pub some-lowest : {w W n : ℕ} (P : ℕ → Bool) → Left w W n → 0 < n
+    → (P (trailingZeros W n) || someOf w P (bitAnd n (n - 1))) ≡ someOf w P n
 some-lowest {w} {W} {n} P l p =
     ap (λ t. P (trailingZeros W n) || t)
     (some-agree w (λ k. bit (bitAnd n (n - 1)) k && P k) (λ k. bit n k && not (eqb k (trailingZeros W n)) && P k)
@@ -138,7 +146,8 @@ pub sought-first : {w W among : ℕ} (P : ℕ → Bool) → Left w W among → S
 sought-first P h = record { walk = h; same = refl }
 
 module _ {w W : ℕ} {P : ℕ → Bool} {among left : ℕ} (h : Sought w W P among left) where
-  found : (t : Bool) → 0 < left → P (trailingZeros W left) ≡ t → (t || someOf w P (bitAnd left (left - 1))) ≡ someOf w P among
+  found : (t : Bool) → 0 < left → P (trailingZeros W left) ≡ t → (t || someOf w P (bitAnd left (left - 1)))
+      ≡ someOf w P among
   found t p e =
       ap (λ t. t || someOf w P (bitAnd left (left - 1))) (sym e) ∙ some-lowest P (h .walk) p ∙ h .same
 

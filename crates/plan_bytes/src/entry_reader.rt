@@ -1,4 +1,4 @@
-// An entry of a plan from its bytes. `plan_reader` takes all of a plan's. Specification, clause 2.6.
+// Reads an entry of a plan from its bytes. `plan_reader` calls it for each entry. Specification, clause 2.6.
 use encoding::read_number;
 use plans::ENTRY_BYTES;
 use plans::Entry;

@@ -1,4 +1,4 @@
-// An entry of a plan put into a lent buffer. `plan_writer` puts all of a plan's there. Specification, clauses 2.6 and
+// Writes an entry of a plan into a lent buffer. `plan_writer` calls it for each entry. Specification, clauses 2.6 and
 // 2.12.
 use encoding::has_room;
 use encoding::write_number;
@@ -10,7 +10,7 @@ ghost use Rattle.encoding.specs.Buffers.{roomFault, bufferAfter};
 ghost use Rattle.plans.specs.Entries.{entrySizeOf};
 ghost use Rattle.plans.specs.Writing.{entryBytes};
 
-// Stores an entry's bytes from position at: kind, set, length; other bytes stay. Without room it stores nothing.
+// Stores an entry's bytes from position `at`: kind, set, length. Other bytes stay. Without room it stores nothing.
 pub fn write_entry(entry: Entry, section: &mut [u8], at: usize)
     ensures { λ _. ⌜
         now (section .exit)

@@ -1,4 +1,5 @@
-// Plans from and to bytes. Specification, section 2.
+// Reads plans from bytes and writes them to bytes. `log_input`, `replay`, `viewer` and `c_fresh` use it.
+// Specification, section 2.
 mod entry_reader;
 mod entry_writer;
 mod plan_head;

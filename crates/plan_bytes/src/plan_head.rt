@@ -1,4 +1,4 @@
-// The head of a plan in bytes: its three counts, each due before it is checked. Specification, clauses 2.2 to 2.5 and
+// The first bytes of a plan: its three counts, each due before it is checked. Specification, clauses 2.2 to 2.5 and
 // 2.9.
 use encoding::byte_at;
 use encoding::check_due;
@@ -12,7 +12,7 @@ ghost use mathlib.Core.Path.{_≡_};
 ghost use Rattle.refusals.specs.Number.{verdictNumber};
 ghost use Rattle.plan_bytes.specs.inner.Head.{headFault};
 
-// Clause 2.9: the three counts in the order of their bytes: refuses by 1 where one is not there, and by 3 to 5.
+// Clause 2.9: the three counts in the order of their bytes. Refuses with 1 if a count is missing, and with 3 to 5.
 pub fn check_head(bytes: &[u8]) -> Verdict
     ensures { λ r. ⌜ verdictNumber r ≡ headFault (now (bytes .entry)) ⌝ }
 {

@@ -1,4 +1,4 @@
-// From bytes to a plan. A log's reader begins with it, and so does the viewer. Specification, section 2.
+// Reads a plan from bytes. Specification, section 2.
 use crate::entry_reader::entry_of;
 use crate::plan_head::check_head;
 use encoding::Outcome;
@@ -23,14 +23,14 @@ ghost use Rattle.plans.specs.Entries.{planSize};
 ghost use Rattle.plans.specs.Reading.{blankPlan, planIn, readAsNumbers, planRead};
 ghost use Rattle.plan_bytes.specs.inner.Body.{bodyFault, CountsThere, wholeRead};
 
-// What fills the places past the count, and a plan that was not read.
+// Fills the places past the count, and the plan that is returned with a refusal.
 const BLANK: Entry = Entry {
     kind: 0,
     set: 0,
     length: 0,
 };
 
-// Clause 2.9: a refusal has the blank plan beside it.
+// Clause 2.9: a refusal returns the blank plan.
 fn refused(refusal: Refusal) -> Read
     ensures { λ r. ⌜ r ≡ record { outcome = Outcome.Refused refusal; plan = blankPlan } ⌝ }
 {
@@ -45,7 +45,7 @@ fn refused(refusal: Refusal) -> Read
     }
 }
 
-// Clause 2.8: the plan of the counts and these entries, which took so many bytes.
+// Clause 2.8: the plan with the counts in the bytes and these entries, and the number of bytes that it took.
 fn whole(bytes: &[u8], entries: [Entry; MAX_ENTRIES], taken: usize) -> Read
     requires { ⌜ CountsThere (now bytes) ⌝ }
     ensures { λ r. ⌜ r ≡ wholeRead (now (bytes .entry)) entries taken ⌝ }
@@ -61,7 +61,7 @@ fn whole(bytes: &[u8], entries: [Entry; MAX_ENTRIES], taken: usize) -> Read
     }
 }
 
-// Clause 2.9: the entries after good counts. Each is checked as it is met, and the first fault ends the reading.
+// Clause 2.9: reads the entries after accepted counts. The first fault ends the reading.
 fn read_entries(bytes: &[u8]) -> Read
     requires { ⌜ CountsThere (now bytes) ⌝ }
     ensures outcome { λ r. ⌜
@@ -105,7 +105,7 @@ fn read_entries(bytes: &[u8]) -> Read
     }
 }
 
-// Clause 2.8: the plan and the number of bytes that it took, or the refusal. What stands behind it is left alone.
+// Clause 2.8: the plan and the number of bytes that it took, or the refusal. Bytes after the plan are ignored.
 pub fn read(bytes: &[u8]) -> Read
     ensures outcome { λ r. ⌜ outcomeAsNumbers (r .outcome) ≡ readAsNumbers (now (bytes .entry)) ⌝ }
     ensures plan { λ r. ⌜ r .plan ≡ planRead (now (bytes .entry)) ⌝ }

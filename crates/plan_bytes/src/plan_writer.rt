@@ -1,4 +1,4 @@
-// Plan values to bytes, into a lent buffer. `plan_reader` takes the same bytes back. Specification, section 2.
+// Writes a plan value into a lent buffer. `plan_reader` reads the same bytes back. Specification, section 2.
 use crate::entry_writer::write_entry;
 use crate::plan_room::check_writing;
 use encoding::Outcome;
@@ -17,7 +17,7 @@ ghost use Rattle.encoding.specs.Buffers.{overwritten, outcomeAsNumbers};
 ghost use Rattle.plans.specs.Entries.{maxEntries, sectionSize, planSize};
 ghost use Rattle.plans.specs.Writing.{sectionBytes, planBytes, writeAsNumbers, writtenBuffer};
 
-// Stores the first count entries from the start of the section.
+// Stores the first `count` entries from the start of the section.
 fn write_section(entries: [Entry; MAX_ENTRIES], count: usize, section: &mut [u8])
     requires { ⌜ (count ≤ maxEntries) × (sectionSize (take count entries) ≤ length (now section)) ⌝ }
     ensures { λ _. ⌜ now (section .exit) ≡ sets (now (section .entry)) 0 (sectionBytes (take count entries)) ⌝ }
@@ -32,7 +32,7 @@ fn write_section(entries: [Entry; MAX_ENTRIES], count: usize, section: &mut [u8]
     }
 }
 
-// Stores the plan from position at, where there is room for it: the counts, then the entries into the rest of the
+// Stores the plan from position `at`, where there is room for it: the counts, then the entries into the rest of the
 // buffer.
 fn write_plan(plan: Plan, buffer: &mut [u8], at: usize)
     requires { ⌜ (plan .count ≤ maxEntries) × (at + planSize plan ≤ length (now buffer)) ⌝ }
@@ -47,8 +47,8 @@ fn write_plan(plan: Plan, buffer: &mut [u8], at: usize)
     write_section(entries, count, &mut buffer[start..]);
 }
 
-// Clause 2.12: writes the plan's bytes into the buffer from position at; other bytes stay.
-// Refuses by 3 to 8 a plan value that the reader would not take, then by 16; a refusal writes nothing.
+// Clause 2.12: writes the plan's bytes into the buffer from position `at`. Other bytes stay.
+// Refuses with 3 to 8 a plan value that the reader would refuse, then with 16. A refusal writes nothing.
 pub fn write(plan: Plan, buffer: &mut [u8], at: usize) -> Outcome
     ensures outcome { λ r. ⌜ outcomeAsNumbers r ≡ writeAsNumbers plan (now (buffer .entry)) at ⌝ }
     ensures bytes { λ _. ⌜ now (buffer .exit) ≡ writtenBuffer plan (now (buffer .entry)) at ⌝ }

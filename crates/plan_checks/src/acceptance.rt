@@ -1,4 +1,4 @@
-// Which plan values are taken, and by which number the others are refused: 3 to 8. Specification, section 2.
+// Which plan values are accepted, and which number the others are refused with: 3 to 8. Specification, section 2.
 use crate::plan_counts::check_counts;
 use crate::plan_entries::check_entry;
 use plans::Entry;
@@ -31,7 +31,7 @@ fn check_entries(entries: [Entry; MAX_ENTRIES], count: u8, resources: u8) -> Ver
     }
 }
 
-// Clause 2.10: any plan value, by the reader's number. A count above 64 is refused before an entry is looked at.
+// Clause 2.10: refuses a plan value with the reader's number. A count above 64 is refused before any entry is checked.
 pub fn check(plan: Plan) -> Verdict
     ensures { λ r. ⌜ verdictNumber r ≡ planFault plan ⌝ }
 {

@@ -1,5 +1,5 @@
-// The three counts of a plan: which are taken, and by which number the others are refused: 3, 4 and 5. Specification,
-// clauses 2.3 to 2.5.
+// The three counts of a plan: which are accepted, and which number the others are refused with: 3, 4 and 5.
+// Specification, clauses 2.3 to 2.5.
 use plans::MAX_ENTRIES;
 use plans::MAX_PROCESSORS;
 use plans::MAX_RESOURCES;
@@ -11,7 +11,7 @@ ghost use mathlib.Core.Path.{_≡_};
 ghost use Rattle.refusals.specs.Number.{verdictNumber};
 ghost use Rattle.plans.specs.Acceptance.{processorsFault, resourcesFault, countFault, countsFault};
 
-// Clause 2.3: refuses by 3.
+// Clause 2.3: refuses with 3.
 pub fn check_processors(count: u8) -> Verdict
     ensures { λ r. ⌜ verdictNumber r ≡ processorsFault count ⌝ }
 {
@@ -21,7 +21,7 @@ pub fn check_processors(count: u8) -> Verdict
     )
 }
 
-// Clause 2.4: refuses by 4.
+// Clause 2.4: refuses with 4.
 pub fn check_resources(count: u8) -> Verdict
     ensures { λ r. ⌜ verdictNumber r ≡ resourcesFault count ⌝ }
 {
@@ -31,7 +31,7 @@ pub fn check_resources(count: u8) -> Verdict
     )
 }
 
-// Clause 2.5: refuses by 5.
+// Clause 2.5: refuses with 5.
 pub fn check_entry_count(count: u8) -> Verdict
     ensures { λ r. ⌜ verdictNumber r ≡ countFault count ⌝ }
 {

@@ -1,5 +1,5 @@
-// One entry of a plan: whether it is taken, and by which number it is refused: 6, 7 and 8. Specification, clauses 2.6,
-// 2.7 and 2.9.
+// One entry of a plan: whether it is accepted, and which number it is refused with: 6, 7 or 8.
+// Specification, clauses 2.6, 2.7 and 2.9.
 use masks::below64;
 use plans::Entry;
 use plans::is_read;
@@ -12,14 +12,14 @@ ghost use mathlib.Core.Path.{_≡_};
 ghost use Rattle.refusals.specs.Number.{verdictNumber};
 ghost use Rattle.plans.specs.Acceptance.{kindFault, setFault, lengthFault, entryFault};
 
-// Clause 2.6: refuses by 6.
+// Clause 2.6: refuses with 6.
 pub fn check_kind(entry: Entry) -> Verdict
     ensures { λ r. ⌜ verdictNumber r ≡ kindFault entry ⌝ }
 {
     refuse_unless(is_read(entry) | is_write(entry), Refusal::Kind)
 }
 
-// Clause 2.7: refuses by 7 the names of an entry of a plan with so many resources.
+// Clause 2.7: refuses with 7 an entry without names, or with a name that is not below the plan's resources.
 pub fn check_set(entry: Entry, resources: u8) -> Verdict
     ensures { λ r. ⌜ verdictNumber r ≡ setFault resources entry ⌝ }
 {
@@ -27,14 +27,14 @@ pub fn check_set(entry: Entry, resources: u8) -> Verdict
     refuse_unless(named, Refusal::Set)
 }
 
-// Clause 2.7: refuses by 8.
+// Clause 2.7: refuses with 8.
 pub fn check_length(entry: Entry) -> Verdict
     ensures { λ r. ⌜ verdictNumber r ≡ lengthFault entry ⌝ }
 {
     refuse_unless(0 < entry.length, Refusal::Length)
 }
 
-// Clause 2.9: an entry of a plan with so many resources: 6, 7, 8.
+// Clause 2.9: an entry of a plan with this many resources, checked for 6, then 7, then 8.
 pub fn check_entry(entry: Entry, resources: u8) -> Verdict
     ensures { λ r. ⌜ verdictNumber r ≡ entryFault resources entry ⌝ }
 {

@@ -1,4 +1,4 @@
--- What an accepted plan value, an accepted reading and an accepted writing give. Assumes nothing.
+-- What follows from an accepted plan value, an accepted reading and an accepted writing. Assumes nothing.
 use Prim.Native.Nat.{ℕ, _+_, _≤_}
 use mathlib.Core.Path.{_≡_, sym, ap, _∙_}
 use mathlib.Core.List.{List, _++_}
@@ -31,7 +31,7 @@ pub accepted-read : (s : List ℕ) → readFault s ≡ 0 → planRead s ≡ plan
 unfolding planRead
 accepted-read s e = rw e
 
--- What holds of bytes that were read as a plan.
+-- What is true of bytes that were read as a plan.
 pub record Taken (s : List ℕ) : Type 0 where
   pub plan : planRead s ≡ planIn s
   pub counts : countsFault (getD s 0 0) (getD s 1 0) (getD s 2 0) ≡ 0
@@ -43,7 +43,8 @@ pub taken : (s : List ℕ) → readFault s ≡ 0 → Taken s
 taken s e =
     let three = read-length s e in
     let section = sectionFault (getD s 1 0) (getD s 2 0) (drop countsSize s) in
-    let both = first-accepted (countsFault (getD s 0 0) (getD s 1 0) (getD s 2 0)) section (sym (read-fault s three) ∙ e) in
+    let both = first-accepted (countsFault (getD s 0 0) (getD s 1 0) (getD s 2 0)) section
+    (sym (read-fault s three) ∙ e) in
     let long = section-length (getD s 1 0) (getD s 2 0) (drop countsSize s) (both .later) in
     record {
       plan = accepted-read s e;
@@ -74,7 +75,7 @@ module _ (p : Plan) (buffer : List ℕ) (at : ℕ) where
     unfolding writtenBuffer
     accepted-buffer = ap (λ n. bufferAfter n (planBytes p) buffer at) e
 
-    -- From the position the plan's bytes stand, and then the bytes that stay.
+    -- From the position on, the buffer contains the plan's bytes and then the bytes that stay.
     pub accepted-from : drop at (writtenBuffer p buffer at) ≡ planBytes p ++ drop (at + length (planBytes p)) buffer
     accepted-from =
         ap (drop at) accepted-buffer

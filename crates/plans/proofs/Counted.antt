@@ -1,4 +1,4 @@
--- The first n elements of a list, as a loop over them meets them: what is left at place i. Assumes nothing.
+-- The first n elements of a list, in the order of a loop over them: which are left at place i. Assumes nothing.
 use Prim.Native.Nat.{ℕ, _+_, _<_, _≤_, min}
 use native.Mathlib.Nat.{min-eq-left, min-eq-right, le-of-lt}
 use native.Mathlib.Numerals.{add-one}
@@ -20,7 +20,7 @@ module _ {A : Type 0} (n i : ℕ) (xs : List A) where
       let here : i < length (take n xs) = rw (length-take-le n xs fits) h in
       rw (add-one, drop-cons (take n xs) i d here, getD-take n xs i d h)
 
--- More than all is all.
+-- Taking more elements than the list contains takes all of them.
 pub all-taken : {A : Type 0} (n k : ℕ) (xs : List A) → length xs ≡ k → take (min n k) xs ≡ take n xs
 all-taken n k xs e = go (leb n k) refl
   where

@@ -1,4 +1,5 @@
--- An entry and its bytes are one another's inverse, and so are entries and their section. Assumes nothing.
+-- Reading and writing an entry are inverse to each other, and so are reading and writing a section of entries. Assumes
+-- nothing.
 use Prim.Native.Nat.{ℕ, zero, suc, _≤_}
 use mathlib.Core.Path.{_≡_, refl, sym, ap, ap₂, _∙_}
 use mathlib.Core.List.{List, [], _∷_, _++_, append-assoc}
@@ -7,7 +8,8 @@ use lib.ListN.{length, take, drop, length-append, length-drop, take-append-drop}
 use lib.Seq.{drop-at, take-add, take-take, length-take-le, slice, length-slice}
 use Rattle.plans.specs.declared.Entry.{Entry}
 use Rattle.encoding.specs.Numbers.{number, bytesOf}
-use Rattle.encoding.proofs.Bytes.{AreBytes, bytes-tail, bytes-drop, bytes-take, bytes-slice, bytes-none, bytes-cons, bytes-append}
+use Rattle.encoding.proofs.Bytes.{AreBytes, bytes-tail, bytes-drop, bytes-take, bytes-slice, bytes-none, bytes-cons}
+use Rattle.encoding.proofs.Bytes.{bytes-append}
 use Rattle.encoding.proofs.Numbers.{number-bytesOf, bytesOf-number-at, number-below-at, bytes-bytesOf}
 use Rattle.plans.specs.Entries.{entrySize, entrySizeOf, sectionSize}
 use Rattle.plans.specs.Reading.{entryIn, entriesIn}
@@ -25,10 +27,11 @@ pub bytes-entryBytes : (e : Entry) → Fits-entry e → AreBytes (entryBytes e)
 unfolding entryBytes
 bytes-entryBytes e h =
     let rest = bytesOf 8 (e .set) ++ bytesOf 2 (e .length) in
-    let bytes = bytes-append (bytesOf 8 (e .set)) (bytesOf 2 (e .length)) (bytes-bytesOf 8 (e .set)) (bytes-bytesOf 2 (e .length)) in
+    let bytes = bytes-append (bytesOf 8 (e .set)) (bytesOf 2 (e .length)) (bytes-bytesOf 8 (e .set))
+    (bytes-bytesOf 2 (e .length)) in
     bytes-cons (e .kind) rest (h .kind) bytes
 
--- An entry that is written and then read, whatever bytes follow.
+-- An entry written and then read is the same, whatever bytes follow.
 pub entryIn-entryBytes : (e : Entry) → Fits-entry e → (rest : List ℕ) → entryIn (entryBytes e ++ rest) ≡ e
 unfolding entryBytes entryIn bytesOf
 entryIn-entryBytes e h rest =
@@ -36,7 +39,7 @@ entryIn-entryBytes e h rest =
     let len : number (bytesOf 2 (e .length)) ≡ e .length = number-bytesOf 2 (e .length) (h .length) in
     λ i. record { kind = e .kind; set = set i; length = len i }
 
--- Bytes that are read as an entry and then written.
+-- Bytes read as an entry and then written are the same.
 pub entryBytes-entryIn : (s : List ℕ) → AreBytes s → entrySizeOf (entryIn s) ≤ length s
     → entryBytes (entryIn s) ≡ take (entrySizeOf (entryIn s)) s
 unfolding entryBytes entryIn entrySizeOf
@@ -83,7 +86,7 @@ bytes-sectionBytes (e ∷ es) h =
     let later : Fit-entries es = λ i l. h (suc i) (omega arith) in
     bytes-append (entryBytes e) (sectionBytes es) (bytes-entryBytes e (h 0 (omega arith))) (bytes-sectionBytes es later)
 
--- Entries that are written and then read, whatever bytes follow.
+-- Entries written and then read are the same, whatever bytes follow.
 pub entriesIn-sectionBytes : (es : List Entry) → Fit-entries es → (rest : List ℕ)
     → entriesIn (length es) (sectionBytes es ++ rest) ≡ es
 unfolding sectionBytes entriesIn
@@ -99,7 +102,7 @@ entriesIn-sectionBytes (e ∷ es) h rest =
     )
 
 module _ (n : ℕ) (s : List ℕ) (l : sectionSize (entriesIn (suc n) s) ≤ length s) where
-  -- The first entry is there, and the later ones behind it.
+  -- The bytes contain the first entry, and then the later ones.
   pub first-there : entrySizeOf (entryIn s) ≤ length s
   unfolding entriesIn sectionSize
   first-there = omega arith
@@ -109,7 +112,7 @@ module _ (n : ℕ) (s : List ℕ) (l : sectionSize (entriesIn (suc n) s) ≤ len
   unfolding entriesIn sectionSize
   later-there = simp length-drop (omega arith)
 
--- Bytes that are read as n entries and then written.
+-- Bytes read as n entries and then written are the same.
 pub sectionBytes-entriesIn : (n : ℕ) (s : List ℕ) → AreBytes s → sectionSize (entriesIn n s) ≤ length s
     → sectionBytes (entriesIn n s) ≡ take (sectionSize (entriesIn n s)) s
 unfolding sectionBytes entriesIn sectionSize
@@ -122,7 +125,7 @@ sectionBytes-entriesIn (suc n) s h l =
       sectionBytes-entriesIn n (drop k s) (bytes-drop k s h) (later-there n s l),
     )
 
--- What is read from bytes fits.
+-- Entries read from bytes fit their type.
 pub fit-entriesIn : (n : ℕ) (s : List ℕ) → AreBytes s → sectionSize (entriesIn n s) ≤ length s
     → Fit-entries (entriesIn n s)
 unfolding entriesIn

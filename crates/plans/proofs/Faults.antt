@@ -1,4 +1,4 @@
--- The first fault of a plan's bytes is that of the plan value they hold. Assumes nothing.
+-- The first fault of a plan's bytes is that of the plan value in them. Assumes nothing.
 use Prim.Native.Nat.{ℕ, zero, suc, _≤_}
 use mathlib.Core.Path.{_≡_, refl}
 use mathlib.Core.List.{List}
@@ -12,7 +12,8 @@ use Rattle.refusals.proofs.Numbers.{first-accepted, first-of-four, due-accepted
 use Rattle.encoding.specs.Buffers.{shortFault}
 use Rattle.encoding.proofs.Room.{enough-at, enough-length}
 use Rattle.plans.specs.Entries.{maxEntries, countsSize, entrySize, entrySizeOf, sectionSize}
-use Rattle.plans.specs.Acceptance.{within, processorsFault, resourcesFault, countFault, countsFault, entryFault, entriesFault}
+use Rattle.plans.specs.Acceptance.{within, processorsFault, resourcesFault, countFault, countsFault, entryFault}
+use Rattle.plans.specs.Acceptance.{entriesFault}
 use Rattle.plans.specs.Reading.{entryIn, entriesIn, sectionFault, readFault}
 use Rattle.plans.proofs.Sizes.{entry-size-least, entry-size-due}
 use Rattle.plans.proofs.EntryBytes.{first-there, later-there}
@@ -60,7 +61,8 @@ section-length r (suc n) s e =
 
 pub read-fault : (s : List ℕ) → countsSize ≤ length s
     → readFault s
-    ≡ firstOf (countsFault (getD s 0 0) (getD s 1 0) (getD s 2 0)) (sectionFault (getD s 1 0) (getD s 2 0) (drop countsSize s))
+    ≡ firstOf (countsFault (getD s 0 0) (getD s 1 0) (getD s 2 0))
+    (sectionFault (getD s 1 0) (getD s 2 0) (drop countsSize s))
 unfolding readFault countsFault
 read-fault s l =
     rw (enough-at 1 s (omega arith), enough-at 2 s (omega arith), enough-at countsSize s l)

@@ -1,4 +1,4 @@
--- What the Rattle types say of an entry and of a plan: each number fits its type. Assumes nothing.
+-- What the Rattle types guarantee for an entry and for a plan: each number fits its type. Assumes nothing.
 use Prim.Native.Nat.{ℕ, _^_, _<_}
 use mathlib.Core.Path.{_≡_}
 use mathlib.Core.List.{List}
@@ -15,7 +15,7 @@ pub record Fits-entry (e : Entry) : Type 0 where
 abbrev pub Fit-entries : List Entry → Type 0
 Fit-entries es = (i : ℕ) → i < length es → Fits-entry (getD es i blankEntry)
 
--- Nothing is asked of the entries past the count.
+-- Entries past the count may be anything.
 pub record Fits-plan (p : Plan) : Type 0 where
   pub processors : p .processors < 2 ^ 8
   pub resources : p .resources < 2 ^ 8

@@ -1,9 +1,11 @@
--- A plan with at most 64 entries and its bytes: how many there are, and each made from the other. Assumes nothing.
+-- A plan with at most 64 entries and its bytes: how many bytes there are, and that each gives the other. Assumes
+-- nothing.
 use Prim.Native.Nat.{ℕ, _-_, _≤_, _<_}
 use mathlib.Core.Path.{_≡_, refl, sym, ap, _∙_}
 use mathlib.Core.List.{List, [], _∷_, _++_}
 use native.Mathlib.Omega.{arith}
-use lib.ListN.{length, getD, take, drop, replicate, length-append, length-take, length-drop, length-replicate, List·getD-append}
+use lib.ListN.{length, getD, take, drop, replicate, length-append, length-take, length-drop, length-replicate}
+use lib.ListN.{List·getD-append}
 use lib.Seq.{getD-take, length-take-le, take-at, take-add}
 use Rattle.plans.specs.declared.Entry.{Entry}
 use Rattle.plans.specs.declared.Plan.{Plan}
@@ -12,11 +14,13 @@ use Rattle.plans.specs.Entries.{maxEntries, sectionSize, planSize, count
 use Rattle.plans.specs.Reading.{entriesIn, planIn}
 use Rattle.plans.specs.Writing.{sectionBytes, planBytes}
 use Rattle.plans.proofs.Fits.{Fits-entry, Fit-entries, Fits-plan}
-use Rattle.plans.proofs.EntryBytes.{length-sectionBytes, bytes-sectionBytes, length-entriesIn, entriesIn-sectionBytes, sectionBytes-entriesIn, fit-entriesIn}
+use Rattle.plans.proofs.EntryBytes.{length-sectionBytes, bytes-sectionBytes, length-entriesIn}
+use Rattle.plans.proofs.EntryBytes.{entriesIn-sectionBytes, sectionBytes-entriesIn, fit-entriesIn}
 
 -- ---- a plan value, written
 
-pub length-counted : (p : Plan) → length (p .entries) ≡ maxEntries → p .count ≤ maxEntries → length (countedEntries p) ≡ p .count
+pub length-counted : (p : Plan) → length (p .entries) ≡ maxEntries → p .count ≤ maxEntries → length (countedEntries p)
+    ≡ p .count
 length-counted p size h = length-take-le (p .count) (p .entries) (omega arith)
 
 pub length-planBytes : (p : Plan) → length (planBytes p) ≡ planSize p
@@ -28,7 +32,7 @@ fit-counted p f i l =
     let inside : i < p .count = omega (arith, length-take (p .count) (p .entries)) in
     rw getD-take (f .entries i inside)
 
--- What is written are bytes.
+-- Every number written is a byte.
 pub bytes-planBytes : (p : Plan) → Fits-plan p → AreBytes (planBytes p)
 unfolding planBytes
 bytes-planBytes p f =
@@ -37,7 +41,7 @@ bytes-planBytes p f =
     let second = bytes-cons (p .resources) (p .count ∷ section) (f .resources) third in
     bytes-cons (p .processors) (p .resources ∷ p .count ∷ section) (f .processors) second
 
--- The counted entries stand behind the three counts, whatever bytes follow.
+-- The counted entries follow the three counts, whatever bytes come after them.
 pub entries-written : (p : Plan) → Fits-plan p → p .count ≤ maxEntries → (rest : List ℕ)
     → entriesIn (p .count) (sectionBytes (countedEntries p) ++ rest) ≡ countedEntries p
 entries-written p f h rest =
@@ -51,7 +55,8 @@ counted-planIn s =
     take-at (entriesIn (getD s 2 0) (drop 3 s)) (replicate (maxEntries - getD s 2 0) blankEntry) (getD s 2 0)
     (length-entriesIn (getD s 2 0) (drop 3 s))
 
-pub same-planIn : (p : Plan) → Fits-plan p → p .count ≤ maxEntries → (rest : List ℕ) → Same p (planIn (planBytes p ++ rest))
+pub same-planIn : (p : Plan) → Fits-plan p → p .count ≤ maxEntries → (rest : List ℕ)
+    → Same p (planIn (planBytes p ++ rest))
 unfolding planBytes planIn
 same-planIn p f h rest =
     record {
@@ -83,9 +88,15 @@ unfolding planIn
 size-planIn s l =
     let read = entriesIn (getD s 2 0) (drop 3 s) in
     let blank = replicate (maxEntries - getD s 2 0) blankEntry in
-    omega (arith, length-append read blank, length-entriesIn (getD s 2 0) (drop 3 s), length-replicate (maxEntries - getD s 2 0) blankEntry)
+    omega (
+      arith,
+      length-append read blank,
+      length-entriesIn (getD s 2 0) (drop 3 s),
+      length-replicate
+          (maxEntries - getD s 2 0) blankEntry,
+    )
 
--- What is read from bytes fits.
+-- A plan read from bytes fits its type.
 pub fits-planIn : (s : List ℕ) → AreBytes s → planSize (planIn s) ≤ length s → getD s 2 0 ≤ maxEntries
     → Fits-plan (planIn s)
 unfolding planIn

@@ -1,5 +1,5 @@
--- Clause 2.13: a plan that is written and then read is the same plan, and an accepted plan that is written back is the
--- same bytes. Clause 2.10: the writer refuses by the reader's number. Assumes nothing.
+-- Clause 2.13: a plan that is written and then read is the same plan, and an accepted plan that is written back gives
+-- the same bytes. Clause 2.10: the writer refuses with the reader's number. Assumes nothing.
 use Prim.Native.Nat.{ℕ, _+_, _*_, _≤_, _<_}
 use mathlib.Core.Path.{_≡_, sym, ap, _∙_}
 use mathlib.Core.List.{List, [], _++_, append-nil}
@@ -19,16 +19,18 @@ use Rattle.plans.proofs.EntryBytes.{length-sectionBytes}
 use Rattle.plans.proofs.Faults.{counts-at-most, section-fault, read-fault}
 use Rattle.plans.proofs.PlanBytes.{length-planBytes, entries-written, counted-planIn}
 use Rattle.plans.proofs.PlanBytes.{same-planIn, planBytes-planIn, size-planIn, fits-planIn}
-use Rattle.plans.proofs.Accepted.{accepted-count, accepted-read, accepted-room, accepted-fits, accepted-says, accepted-buffer, accepted-from, taken}
+use Rattle.plans.proofs.Accepted.{accepted-count, accepted-read, accepted-room, accepted-fits, accepted-says}
+use Rattle.plans.proofs.Accepted.{accepted-buffer, accepted-from, taken}
 
 -- ---- the same fault
 
--- Clause 2.10: a plan value's bytes are refused by the number of the value.
+-- Clause 2.10: a plan value's bytes are refused with the number that the value is refused with.
 pub same-fault : (p : Plan) → Fits-plan p → (rest : List ℕ) → readFault (planBytes p ++ rest) ≡ planFault p
 unfolding planBytes planFault
 same-fault p f rest =
     read-fault (planBytes p ++ rest) (omega arith)
-    ∙ first-same counts (sectionFault (p .resources) (p .count) section) (entriesFault (p .resources) (countedEntries p)) entries
+    ∙ first-same counts (sectionFault (p .resources) (p .count) section)
+    (entriesFault (p .resources) (countedEntries p)) entries
   where
     counts : ℕ
     counts = countsFault (p .processors) (p .resources) (p .count)
@@ -54,7 +56,7 @@ same-fault p f rest =
 pub same-fault-alone : (p : Plan) → Fits-plan p → readFault (planBytes p) ≡ planFault p
 same-fault-alone p f = ap readFault (sym (append-nil (planBytes p))) ∙ same-fault p f []
 
--- Where the reader refuses, the writer says the same, at any position of any buffer.
+-- If the reader refuses, the writer refuses with the same number, at any position of any buffer.
 pub same-refusal : (p : Plan) → Fits-plan p → (rest buffer : List ℕ) (at : ℕ) → 0 < readFault (planBytes p ++ rest)
     → writeAsNumbers p buffer at ≡ readAsNumbers (planBytes p ++ rest)
 unfolding writeFault
@@ -81,7 +83,8 @@ written-then-read p rest f e =
     let same = same-planIn p f (accepted-count p e) rest in
     (rw (accepted, ← same .entries), rw (accepted-read (planBytes p ++ rest) accepted) same)
 
--- Clause 2.13: what the writer wrote is read from the position as the same plan, and as many bytes as the writer said.
+-- Clause 2.13: what the writer wrote is read from the position as the same plan, and the reader returns the same number
+-- of bytes as the writer.
 pub written-in-buffer : (p : Plan) (buffer : List ℕ) (at : ℕ) → Fits-plan p → writeFault p (length buffer) at ≡ 0
     → (readAsNumbers (drop at (writtenBuffer p buffer at)) ≡ writeAsNumbers p buffer at)
     × Same p (planRead (drop at (writtenBuffer p buffer at)))
@@ -92,16 +95,16 @@ written-in-buffer p buffer at f e =
 -- ---- read, then written
 
 module _ (s : List ℕ) (e : readFault s ≡ 0) where
-  -- The bytes that were taken.
+  -- The bytes that the plan took.
   pub read-then-written : AreBytes s → planBytes (planRead s) ≡ take (planSize (planRead s)) s
   read-then-written h = rw (taken s e .plan) (planBytes-planIn s h (taken s e .inside))
 
-  -- The writer takes what the reader took.
+  -- The writer accepts every plan that the reader accepts.
   pub read-is-accepted : planFault (planRead s) ≡ 0
   unfolding planFault planIn
   read-is-accepted = rw (taken s e .plan, counted-planIn s, taken s e .counts) (taken s e .entries)
 
-  -- What the reader gives is a plan value of its type, as many bytes as it says, within the bytes it got.
+  -- The reader returns a plan value of its type and the plan's size, which is within the bytes given.
   pub read-fits : AreBytes s → Fits-plan (planRead s)
   read-fits h = rw (taken s e .plan) (fits-planIn s h (taken s e .inside) (taken s e .few))
 
@@ -111,8 +114,8 @@ module _ (s : List ℕ) (e : readFault s ≡ 0) where
   pub read-inside : planSize (planIn s) ≤ length s
   read-inside = taken s e .inside
 
-  -- Clause 2.13: with room for it, the writer takes the plan that was read, says what the reader said, and puts back
-  -- the bytes that were taken.
+  -- Clause 2.13: with room for it, the writer accepts the plan that was read, returns the number of bytes that the
+  -- reader returned, and writes the same bytes.
   pub written-back : (buffer : List ℕ) (at : ℕ) → AreBytes s → at + planSize (planRead s) ≤ length buffer
       → (writeAsNumbers (planRead s) buffer at ≡ readAsNumbers s)
       × (writtenBuffer (planRead s) buffer at ≡ overwritten buffer at (take (planSize (planRead s)) s))

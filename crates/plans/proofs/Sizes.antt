@@ -1,4 +1,4 @@
--- How many bytes entries and plans have: no fewer than a kind, names and a length, and no more than the most. Assumes
+-- How many bytes entries and plans take: at least a kind, names and a length, and never more than the maximum. Assumes
 -- nothing.
 use Prim.Native.Nat.{ℕ, _+_, _*_, _≤_, _<_}
 use mathlib.Core.Path.{_≡_, ap}
@@ -22,14 +22,14 @@ pub entry-size-most : (e : Entry) → entrySizeOf e ≤ largestEntry
 unfolding entrySizeOf
 entry-size-most e = le-refl largestEntry
 
--- The same of a number that is known to be its size.
+-- The same for a number that is known to be its size.
 pub sized-least : (e : Entry) (k : ℕ) → k ≡ entrySizeOf e → entrySize ≤ k
 sized-least e k is = omega (arith, entry-size-least e)
 
 pub sized-most : (e : Entry) (k : ℕ) → k ≡ entrySizeOf e → k ≤ largestEntry
 sized-most e k is = omega (arith, entry-size-most e)
 
--- An entry ends with its length, so it is there where its kind, names and length are.
+-- An entry ends with its length, so bytes that contain its kind, names and length contain all of it.
 pub entry-size-due : (e : Entry) → entrySizeOf e ≤ entrySize
 unfolding entrySizeOf
 entry-size-due e = le-refl entrySize

@@ -1,4 +1,4 @@
--- Which plan values are taken, and by which number the others are refused: 3 to 8. Specification, section 2.
+-- Which plan values are accepted, and which number the others are refused with: 3 to 8. Specification, section 2.
 use Prim.Native.Nat.{ℕ, _^_}
 use mathlib.Core.Bool.{Bool, not, _&&_, _||_}
 use mathlib.Core.List.{List, [], _∷_}
@@ -33,7 +33,8 @@ countsFault processors resources count =
 abbrev pub kindFault : Entry → ℕ
 kindFault e = due (isRead e || isWrite e) 6
 
--- Clause 2.7: 7 for no names, or for one that is not counted. Names are all below n when their number is below 2 ^ n.
+-- Clause 2.7: 7 for no names, or for a name that is not counted. All names are below n if the set as a number is below
+-- 2 ^ n.
 abbrev pub setFault : ℕ → Entry → ℕ
 setFault resources e = due (not (eqb (e .set) 0) && ltb (e .set) (2 ^ resources)) 7
 
@@ -50,8 +51,8 @@ unfoldable pub entriesFault : ℕ → List Entry → ℕ
 entriesFault resources [] = 0
 entriesFault resources (e ∷ later) = firstOf (entryFault resources e) (entriesFault resources later)
 
--- Clause 2.10: what a plan value is refused by: the number that the reader would give, and 0 for none. Entries past
--- the count are not looked at.
+-- Clause 2.10: the number that a plan value is refused with, the same as the reader's, or 0 if it is accepted. Entries
+-- past the count are not checked.
 unfoldable pub planFault : Plan → ℕ
 planFault p =
     firstOf (countsFault (p .processors) (p .resources) (p .count)) (entriesFault (p .resources) (countedEntries p))

@@ -8,12 +8,12 @@ use lib.ListN.{take, getD}
 use Rattle.plans.specs.declared.Entry.{Entry}
 use Rattle.plans.specs.declared.Plan.{Plan}
 
--- Clauses 1.1 and 2.3: the most processors of a plan. A state has a place for each, and so has a mask.
+-- Clauses 1.1 and 2.3: the most processors of a plan. States and masks have a place for each.
 abbrev pub maxProcessors : ℕ
 maxProcessors = 32
 
--- Clauses 7.4, 7.7 and 9.9: the bytes of a mask by the plan's processors, where it is printed or laid out: 2 for up to
--- 16, and 4 for more.
+-- Clauses 7.4, 7.7 and 9.9: the bytes of a mask, printed or laid out: 2 for a plan with up to 16 processors, and 4 for
+-- more.
 abbrev pub maskSizeFor : ℕ → ℕ
 maskSizeFor m = cond (leb m 16) 2 4
 
@@ -36,11 +36,11 @@ isWrite e = eqb (e .kind) 1
 abbrev pub countsSize : ℕ
 countsSize = 3
 
--- Clause 2.6: the bytes of a kind, of names and of a length.
+-- Clause 2.6: the bytes of an entry's kind, names and length.
 abbrev pub entrySize : ℕ
 entrySize = 11
 
--- Clause 2.6: the bytes of an entry, and the most that one has.
+-- Clause 2.6: the bytes of an entry, and the most that one takes.
 unfoldable pub entrySizeOf : Entry → ℕ
 entrySizeOf e = entrySize
 
@@ -52,22 +52,22 @@ unfoldable pub sectionSize : List Entry → ℕ
 sectionSize [] = 0
 sectionSize (e ∷ later) = entrySizeOf e + sectionSize later
 
--- Clause 2.10: the counted entries. The others play no part.
+-- Clause 2.10: the counted entries. The others are ignored.
 abbrev pub countedEntries : Plan → List Entry
 countedEntries p = take (p .count) (p .entries)
 
--- Clause 2.6: the bytes of a plan, and the most that one has.
+-- Clause 2.6: the bytes of a plan, and the most that one takes.
 abbrev pub planSize : Plan → ℕ
 planSize p = countsSize + sectionSize (countedEntries p)
 
 abbrev pub maxPlanSize : ℕ
 maxPlanSize = countsSize + largestEntry * maxEntries
 
--- What fills the places past the count.
+-- The blank entry fills the places past the count.
 abbrev pub blankEntry : Entry
 blankEntry = record { kind = 0; set = 0; length = 0 }
 
--- Entry i of the plan; past the count the blank one.
+-- Entry i of the plan. Past the count it is the blank one.
 abbrev pub entryAt : Plan → ℕ → Entry
 entryAt p i = getD (countedEntries p) i blankEntry
 

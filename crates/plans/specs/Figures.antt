@@ -7,7 +7,7 @@ use Rattle.plans.specs.declared.Entry.{Entry}
 use Rattle.plans.specs.declared.Plan.{Plan}
 use Rattle.plans.specs.declared.Figures.{Figures}
 
--- The longest length of the entries that pass the test, 0 where there is none.
+-- The longest length of the entries that pass the test, or 0 if there is none.
 unfoldable pub longest : (Entry → Bool) → List Entry → ℕ
 longest test [] = 0
 longest test (e ∷ later) = max (cond (test e) (e .length) 0) (longest test later)

@@ -22,14 +22,14 @@ unfoldable pub entriesIn : ℕ → List ℕ → List Entry
 entriesIn zero s = []
 entriesIn (suc n) s = entryIn s ∷ entriesIn n (drop (entrySizeOf (entryIn s)) s)
 
--- Clauses 2.9 and 8.2: the first fault of n entries in the bytes s. Each entry is due (1) before it is looked at.
+-- Clauses 2.9 and 8.2: the first fault of n entries in the bytes s. Each entry is due (1) before it is checked.
 unfoldable pub sectionFault : ℕ → ℕ → List ℕ → ℕ
 sectionFault resources zero s = 0
 sectionFault resources (suc n) s =
     firstOf (shortFault entrySize s)
     (firstOf (entryFault resources (entryIn s)) (sectionFault resources n (drop (entrySizeOf (entryIn s)) s)))
 
--- Clauses 2.9 and 8.2: the first fault of the bytes s. Each count is due (1) before it is looked at, then the entries.
+-- Clauses 2.9 and 8.2: the first fault of the bytes s. Each count is due (1) before it is checked, then the entries.
 unfoldable pub readFault : List ℕ → ℕ
 readFault s =
     firstOf (shortFault 1 s)
@@ -39,11 +39,11 @@ readFault s =
     (firstOf (shortFault countsSize s)
     (firstOf (countFault (getD s 2 0)) (sectionFault (getD s 1 0) (getD s 2 0) (drop countsSize s)))))))
 
--- Clause 2.9: the plan beside a refusal.
+-- Clause 2.9: the plan that is returned with a refusal.
 abbrev pub blankPlan : Plan
 blankPlan = record { processors = 0; resources = 0; count = 0; entries = replicate maxEntries blankEntry }
 
--- Clauses 2.2 and 2.6: the plan that stands in the bytes s.
+-- Clauses 2.2 and 2.6: the plan in the bytes s.
 unfoldable pub planIn : List ℕ → Plan
 planIn s =
     record {
@@ -53,10 +53,10 @@ planIn s =
       entries = entriesIn (getD s 2 0) (drop countsSize s) ++ replicate (maxEntries - getD s 2 0) blankEntry;
     }
 
--- Clause 2.8: how many bytes the plan took, or the refusal. Bytes behind the plan play no part.
+-- Clause 2.8: how many bytes the plan took, or the refusal. Bytes after the plan are ignored.
 abbrev pub readAsNumbers : List ℕ → AsNumbers
 readAsNumbers s = asNumbers (readFault s) (planSize (planIn s))
 
--- Clause 2.9: the plan beside it, the blank one where the bytes are refused.
+-- Clause 2.9: the plan that is returned with it. It is blank if the bytes are refused.
 unfoldable pub planRead : List ℕ → Plan
 planRead s = cond (eqb (readFault s) 0) (planIn s) blankPlan

@@ -10,7 +10,7 @@ use Rattle.plans.specs.Acceptance.{planFault}
 use Rattle.plans.specs.declared.Entry.{Entry}
 use Rattle.plans.specs.declared.Plan.{Plan}
 
--- Clause 2.6: an entry in bytes is its kind in one, its names in eight and its length in two.
+-- Clause 2.6: an entry in bytes: its kind in one byte, its names in eight and its length in two.
 unfoldable pub entryBytes : Entry → List ℕ
 entryBytes e = e .kind ∷ bytesOf 8 (e .set) ++ bytesOf 2 (e .length)
 
@@ -19,12 +19,12 @@ unfoldable pub sectionBytes : List Entry → List ℕ
 sectionBytes [] = []
 sectionBytes (e ∷ later) = entryBytes e ++ sectionBytes later
 
--- Clause 2.2: the counts of the three sections, a byte each, and behind the last the counted entries.
+-- Clause 2.2: the counts of the three sections, a byte each, and then the counted entries.
 unfoldable pub planBytes : Plan → List ℕ
 planBytes p = p .processors ∷ p .resources ∷ p .count ∷ sectionBytes (countedEntries p)
 
--- Clauses 2.12 and 8.2: first 3 to 8 for the plan, then 16 for the room. The buffer has size bytes and the plan goes to
--- position at.
+-- Clauses 2.12 and 8.2: first 3 to 8 for the plan, then 16 for the room. The buffer is `size` bytes long and the plan
+-- is written from position `at`.
 unfoldable pub writeFault : Plan → ℕ → ℕ → ℕ
 writeFault p size at = firstOf (planFault p) (roomFault (planSize p) size at)
 
@@ -32,6 +32,6 @@ writeFault p size at = firstOf (planFault p) (roomFault (planSize p) size at)
 abbrev pub writeAsNumbers : Plan → List ℕ → ℕ → AsNumbers
 writeAsNumbers p buffer at = asNumbers (writeFault p (length buffer) at) (planSize p)
 
--- Clause 2.12: the buffer after writing. Bytes beside the plan stay, and on a refusal all do.
+-- Clause 2.12: the buffer after writing. Bytes outside the plan stay. On a refusal, all bytes stay.
 unfoldable pub writtenBuffer : Plan → List ℕ → ℕ → List ℕ
 writtenBuffer p buffer at = bufferAfter (writeFault p (length buffer) at) (planBytes p) buffer at

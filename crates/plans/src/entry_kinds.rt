@@ -1,4 +1,4 @@
-// What an entry of a plan is, and how many entries count. Specification, clauses 2.5 and 2.6.
+// Whether an entry reads or writes, and how many entries count. Specification, clauses 2.5 and 2.6.
 use crate::Entry;
 use crate::MAX_ENTRIES;
 ghost use mathlib.Core.Path.{_≡_};
@@ -18,7 +18,7 @@ pub fn is_write(entry: Entry) -> bool
     entry.kind == 1
 }
 
-// How many entries count: a plan has no more than 64.
+// How many entries count: never more than 64.
 pub fn counted_of(count: u8) -> u8
     ensures { λ r. ⌜ r ≡ min count maxEntries ⌝ }
 {

@@ -1,7 +1,6 @@
-// Plan values: three counts and up to 64 entries, by value, so that a caller can make any of them.
-// `acceptance` says which values are taken, `figures` works out the two figures of a plan, and `plan_reader` and
-// `plan_writer` carry plans from and to bytes; the definitions of all of that stand here. The functions that several
-// of these call are in `entry_kinds` and `plan_sizes`.
+// The plan value, three counts and up to 64 entries, with its sizes and the definitions of acceptance, figures and
+// bytes. Any caller can build any plan value. `plan_checks` decides which values are accepted, `figures` computes the
+// two figures, and `plan_bytes` reads and writes plans.
 mod entry_kinds;
 mod plan_sizes;
 
@@ -13,19 +12,19 @@ pub use plan_sizes::entry_size;
 pub use plan_sizes::mask_size;
 pub use plan_sizes::plan_size;
 
-// The most processors of a plan: so many requests a state holds.
+// The most processors of a plan, and so the most requests of a state.
 pub const MAX_PROCESSORS: usize = 32;
 
-// The most resources that a plan has.
+// The most resources of a plan.
 pub const MAX_RESOURCES: usize = 64;
 
-// The most entries that a plan has.
+// The most entries of a plan.
 pub const MAX_ENTRIES: usize = 64;
 
 // The bytes of the three counts.
 pub const PLAN_COUNTS_BYTES: usize = 3;
 
-// The bytes of a kind, of names and of a length.
+// The bytes of an entry's kind, names and length.
 pub const ENTRY_BYTES: usize = 11;
 
 // The most bytes of an entry.
@@ -41,7 +40,7 @@ pub struct Entry {
     pub length: u16,
 }
 
-// Entries from the count on play no part.
+// Entries from the count on are ignored.
 pub struct Plan {
     pub processors: u8,
     pub resources: u8,
@@ -49,13 +48,13 @@ pub struct Plan {
     pub entries: [Entry; MAX_ENTRIES],
 }
 
-// A plan that was read. Where the outcome is a refusal, the plan is the blank one.
+// A plan that was read. If the outcome is a refusal, the plan is blank.
 pub struct Read {
     pub outcome: Outcome,
     pub plan: Plan,
 }
 
-// The longest lengths, Lr and Lw, and the two figures: the longest that a read and a write wait.
+// The longest lengths, Lr and Lw, and the two figures: the longest time that a read and a write wait.
 pub struct Figures {
     pub longest_read: u32,
     pub longest_write: u32,

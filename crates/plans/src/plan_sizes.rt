@@ -1,4 +1,4 @@
-// How many bytes an entry takes, a plan, and a mask of it. Specification, clauses 2.6, 7.4, 7.7 and 9.9.
+// How many bytes an entry, a plan and a mask take. Specification, clauses 2.6, 7.4, 7.7 and 9.9.
 use crate::ENTRY_BYTES;
 use crate::Entry;
 use crate::PLAN_COUNTS_BYTES;
@@ -7,14 +7,13 @@ use crate::entry_kinds::counted_of;
 ghost use mathlib.Core.Path.{_≡_};
 ghost use Rattle.plans.specs.Entries.{entrySizeOf, maskSizeFor, planSize};
 
-// The bytes of an entry.
 pub fn entry_size(entry: Entry) -> usize
     ensures { λ r. ⌜ r ≡ entrySizeOf entry ⌝ }
 {
     ENTRY_BYTES
 }
 
-// The bytes of a plan: of its counts and of its counted entries.
+// The bytes of a plan: its counts and its counted entries.
 pub fn plan_size(plan: Plan) -> usize
     ensures { λ r. ⌜ r ≡ planSize plan ⌝ }
 {
@@ -29,7 +28,7 @@ pub fn plan_size(plan: Plan) -> usize
     size
 }
 
-// The bytes of a mask, where it is printed or laid out, of a plan with so many processors.
+// The bytes of a mask, printed or laid out, for a plan with this many processors.
 pub fn mask_size(processors: u8) -> usize
     ensures { λ r. ⌜ r ≡ maskSizeFor processors ⌝ }
 {

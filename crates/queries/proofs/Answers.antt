@@ -29,11 +29,13 @@ use Rattle.queries.specs.inner.Rows.{directRows}
 
 -- ---- an answer says what its check found
 
-pub accepted-says : (verdict : Verdict) (fault v x : ℕ) → verdictNumber verdict ≡ fault → verdict ≡ Verdict.Accepted → v ≡ x
+pub accepted-says : (verdict : Verdict) (fault v x : ℕ) → verdictNumber verdict ≡ fault → verdict ≡ Verdict.Accepted → v
+    ≡ x
     → _≡_ {A = AsNumbers} (record { number = 0; value = v }) (asNumbers fault x)
 accepted-says verdict fault v x checked accepted e = rw (← checked, accepted, e) refl
 
-pub refused-says : (verdict : Verdict) (fault x : ℕ) (r : Refusal) → verdictNumber verdict ≡ fault → verdict ≡ Verdict.Refused r
+pub refused-says : (verdict : Verdict) (fault x : ℕ) (r : Refusal) → verdictNumber verdict ≡ fault → verdict
+    ≡ Verdict.Refused r
     → _≡_ {A = AsNumbers} (record { number = numberOf r; value = 0 }) (asNumbers fault x)
 refused-says verdict fault x r checked refused = rw (← checked, refused, number-not-zero r) refl
 
@@ -41,7 +43,8 @@ refused-says verdict fault x r checked refused = rw (← checked, refused, numbe
 
 pub processor-below : (terms : Terms) (p : ℕ) → processorFault terms p ≡ 0 → p < maxProcessors
 processor-below terms p e =
-    ltb-true p maxProcessors (and-left (ltb p maxProcessors) (ltb p (terms .processors)) (due-accepted (hasProcessor terms p) 11 (lit< tt) e))
+    ltb-true p maxProcessors (and-left (ltb p maxProcessors) (ltb p (terms .processors))
+    (due-accepted (hasProcessor terms p) 11 (lit< tt) e))
 
 pub reach-accepted : (terms : Terms) (p size : ℕ)
     → firstOf (processorFault terms p) (roomFault (scratchSize (terms .processors)) size 0) ≡ 0
@@ -54,10 +57,13 @@ reach-accepted terms p size e =
 -- ---- direct waits with the phases of the requests that count
 
 module _ (b : Board) (s : State) (ph : Phases) (counted : ph ≡ phasesOf b s) where
-  pub waits-counted : (p r : ℕ) → p < maxProcessors → r ≡ waitsOf (factsOf b s) ph p → r ≡ maskOf maxProcessors (waitsFor b s p)
+  pub waits-counted : (p r : ℕ) → p < maxProcessors → r ≡ waitsOf (factsOf b s) ph p → r
+      ≡ maskOf maxProcessors (waitsFor b s p)
   unfolding waitsFor
   waits-counted p r below e = rw (counted, lt-ltb p maxProcessors below) at e
 
-  pub rows-counted : (rows : List ℕ) → rows ≡ tabulate maxProcessors (λ p. maskOf maxProcessors (waitsIn (factsOf b s) ph p)) → rows ≡ directRows b s
+  pub rows-counted : (rows : List ℕ) → rows
+      ≡ tabulate maxProcessors (λ p. maskOf maxProcessors (waitsIn (factsOf b s) ph p)) → rows ≡ directRows b s
   unfolding waitsFor
-  rows-counted rows e = e ∙ ap (λ x. tabulate maxProcessors (λ p. maskOf maxProcessors (waitsIn (factsOf b s) x p))) counted
+  rows-counted rows e = e ∙ ap (λ x. tabulate maxProcessors (λ p. maskOf maxProcessors (waitsIn (factsOf b s) x p)))
+      counted

@@ -27,7 +27,8 @@ module _ (b : Board) (s : State) where
   chained-through : (n p r q : ℕ) → waitsFor b s p r ≡ true → chained b s n r q ≡ true → chained b s (suc n) p q ≡ true
   unfolding chained
   chained-through n p r q e f =
-      or-right (waitsFor b s p q) _ (some-at maxProcessors (next n p q) r (waits-below b s p r e .1) (and-both (waitsFor b s p r) _ e f))
+      or-right (waitsFor b s p q) _ (some-at maxProcessors (next n p q) r (waits-below b s p r e .1)
+      (and-both (waitsFor b s p r) _ e f))
 
   pub chained-cases : {A : Type 0} (n p q : ℕ) → chained b s (suc n) p q ≡ true → (waitsFor b s p q ≡ true → A)
       → ((r : ℕ) → waitsFor b s p r ≡ true → chained b s n r q ≡ true → A) → A
@@ -51,7 +52,8 @@ module _ (b : Board) (s : State) where
   chained-more : (n p q : ℕ) → chained b s n p q ≡ true → chained b s (suc n) p q ≡ true
   chained-more zero p q e = absurd (chained-nothing p q e)
   chained-more (suc n) p q e =
-      chained-cases n p q e (chained-direct (suc n) p q) (λ r w f. chained-through (suc n) p r q w (chained-more n r q f))
+      chained-cases n p q e (chained-direct (suc n) p q)
+      (λ r w f. chained-through (suc n) p r q w (chained-more n r q f))
 
   chained-up-to : (m n p q : ℕ) → m ≤ n → chained b s m p q ≡ true → chained b s n p q ≡ true
   chained-up-to m zero p q l e = absurd (chained-nothing p q (subst (λ k. chained b s k p q ≡ true) (zero-only m l) e))
@@ -65,9 +67,11 @@ module _ (b : Board) (s : State) where
       (eq-or-lt-of-le l)
 
   -- If m + 1 waits lead to q from no more processors than m waits do, then m waits are enough for every chain to q.
-  enough : (m q : ℕ) → Within maxProcessors (λ p. chained b s (suc m) p q) (λ p. chained b s m p q) → (p : ℕ) → Chain b s p q → chained b s m p q ≡ true
+  enough : (m q : ℕ) → Within maxProcessors (λ p. chained b s (suc m) p q) (λ p. chained b s m p q) → (p : ℕ)
+      → Chain b s p q → chained b s m p q ≡ true
   enough m q stable p (direct e) = stable p (waits-below b s p q e .0) (chained-direct m p q e)
-  enough m q stable p (through {r = r} e c) = stable p (waits-below b s p r e .0) (chained-through m p r q e (enough m q stable r c))
+  enough m q stable p (through {r = r} e c) = stable p (waits-below b s p r e .0)
+      (chained-through m p r q e (enough m q stable r c))
 
   pub chain-reaches : (p q : ℕ) → Chain b s p q → reaches b s p q ≡ true
   unfolding reaches

@@ -12,7 +12,8 @@ use Rattle.masks.proofs.Masks.{bit-mask}
 use Rattle.masks.proofs.Truth.{and-left, and-right, and-three, and-all-three, or-cases, or-left, or-right}
 use Rattle.plans.specs.Entries.{maxProcessors}
 use Rattle.rules.specs.declared.states.Phases.{Phases}
-use Rattle.rules.specs.Requests.{Facts, isWriter, isEarlier, conflicts, unsatisfied, active, holdingRead, holdingWrite, entitledRead, entitledWrite, waitingRead, waitingWrite}
+use Rattle.rules.specs.Requests.{Facts, isWriter, isEarlier, conflicts, unsatisfied, active, holdingRead, holdingWrite}
+use Rattle.rules.specs.Requests.{entitledRead, entitledWrite, waitingRead, waitingWrite}
 use Rattle.rules.specs.declared.states.Board.{Board}
 use Rattle.rules.specs.declared.states.State.{State}
 use Rattle.rules.specs.CountedRequests.{hasProcessor, inPlan, isHolding, isEntitled, isWaiting, cleaned}
@@ -71,14 +72,17 @@ module _ (f : Facts) (ph : Phases) (p q : ℕ) where
 
   pub reason-waits : Reason f ph p q → waitsIn f ph p q ≡ true
   unfolding waitsIn
-  reason-waits (entitled-read h k x) = or-left way1 _ (and-all-three (entitledRead f ph p) (holdingWrite f ph q) c h k x)
+  reason-waits (entitled-read h k x) = or-left way1 _
+      (and-all-three (entitledRead f ph p) (holdingWrite f ph q) c h k x)
   reason-waits (waiting-read h k x) =
       or-right way1 _ (or-left way2 _ (and-all-three (waitingRead f ph p) (entitledWrite f ph q) c h k x))
   reason-waits (entitled-write h k x) =
-      or-right way1 _ (or-right way2 _ (or-left way3 way4 (and-all-three (entitledWrite f ph p) (holdingRead f ph q) c h k x)))
+      or-right way1 _ (or-right way2 _ (or-left way3 way4
+      (and-all-three (entitledWrite f ph p) (holdingRead f ph q) c h k x)))
   reason-waits (waiting-write h before a w x) =
       let earlier : earlierWrite ≡ true = and-all-three (isEarlier f q p) (active ph q) (isWriter f q) before a w in
-      or-right way1 _ (or-right way2 _ (or-right way3 way4 (and-all-three (waitingWrite f ph p) earlierWrite c h earlier x)))
+      or-right way1 _ (or-right way2 _ (or-right way3 way4
+      (and-all-three (waitingWrite f ph p) earlierWrite c h earlier x)))
 
 -- ---- both are the plan's, and have a place in a state
 
@@ -102,15 +106,18 @@ module _ (b : Board) (s : State) where
 
   waiting-counted : (p : ℕ) → bit (ph .waiting) p ≡ true → Counted p
   unfolding cleaned isWaiting
-  waiting-counted p e = in-plan-counted p _ (marked-passes maxProcessors (isWaiting (b .terms) (s .requested) (s .phases)) p e)
+  waiting-counted p e = in-plan-counted p _
+      (marked-passes maxProcessors (isWaiting (b .terms) (s .requested) (s .phases)) p e)
 
   entitled-counted : (p : ℕ) → bit (ph .entitled) p ≡ true → Counted p
   unfolding cleaned isEntitled
-  entitled-counted p e = in-plan-counted p _ (marked-passes maxProcessors (isEntitled (b .terms) (s .requested) (s .phases)) p e)
+  entitled-counted p e = in-plan-counted p _
+      (marked-passes maxProcessors (isEntitled (b .terms) (s .requested) (s .phases)) p e)
 
   holding-counted : (p : ℕ) → bit (ph .holding) p ≡ true → Counted p
   unfolding cleaned isHolding
-  holding-counted p e = in-plan-counted p _ (marked-passes maxProcessors (isHolding (b .terms) (s .requested) (s .phases)) p e)
+  holding-counted p e = in-plan-counted p _
+      (marked-passes maxProcessors (isHolding (b .terms) (s .requested) (s .phases)) p e)
 
   unsatisfied-counted : (p : ℕ) → unsatisfied ph p ≡ true → Counted p
   unsatisfied-counted p e =

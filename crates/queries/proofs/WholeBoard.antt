@@ -48,7 +48,8 @@ module _ (b : Board) (s : State) where
   pub part-is-queries : (p : ℕ) → p < listed b
       → (phaseQuery b s p .number ≡ 0) × (waitsQuery b s p .number ≡ 0)
       × (take (partSize k) (drop (1 + partSize k * p) (boardBytes b s))
-      ≡ partBytes k (phaseQuery b s p .value) (entryShown (phasesOf b s) (s .requested) p) (waitedIn (phasesOf b s) (s .last) (s .since) p)
+      ≡ partBytes k (phaseQuery b s p .value) (entryShown (phasesOf b s) (s .requested) p)
+      (waitedIn (phasesOf b s) (s .last) (s .since) p)
       (waitsQuery b s p .value))
   unfolding boardPart
   part-is-queries p l =
@@ -61,9 +62,11 @@ module _ (b : Board) (s : State) where
     unfolding partIn boardPart stateNumber
     part-found p l =
         let mask : getD waits p 0 ≡ maskOf maxProcessors (waitsFor b s p) =
-        ap (λ ws. getD ws p 0) direct ∙ getD-tabulate maxProcessors (λ q. maskOf maxProcessors (waitsFor b s q)) p 0 (omega arith) in
+        ap (λ ws. getD ws p 0) direct ∙ getD-tabulate maxProcessors (λ q. maskOf maxProcessors (waitsFor b s q)) p 0
+        (omega arith) in
         rw (mask, counted)
 
     pub board-found : (buffer : List ℕ)
-        → listBuffer k (listed b) (partIn k ph (s .last) (s .requested) (s .since) waits) buffer ≡ boardBuffer b s buffer
+        → listBuffer k (listed b) (partIn k ph (s .last) (s .requested) (s .since) waits) buffer
+        ≡ boardBuffer b s buffer
     board-found buffer = list-agree k (listed b) _ _ buffer part-found

@@ -1,4 +1,4 @@
--- Words of one size in turn: how long they are together, and one word more stored. Assumes nothing.
+-- Words of one size, one after the other: their total length, and the store of one more word. Assumes nothing.
 use Prim.Native.Nat.{ℕ, suc, _+_, _*_, _≤_, _<_}
 use mathlib.Core.Path.{_≡_, ap, _∙_}
 use mathlib.Core.List.{List}
@@ -18,7 +18,7 @@ words-small k few =
     let count : wordCount k ≤ 32 = omega arith in
     omega (arith, mul-le-mul-left k count)
 
--- A word lies within those that have it.
+-- A word is within the bytes of the words that include it.
 pub word-inside : (k i : ℕ) → i < wordCount k → k * i ≤ wordsSize k
 word-inside k i low =
     let below : i ≤ wordCount k = omega arith in
@@ -29,7 +29,7 @@ module _ (k : ℕ) (f : ℕ → ℕ) where
   unfolding wordsOf
   length-words = length-in-turn k (λ p. bytesOf k (f p)) (λ p. length-bytesOf k (f p))
 
-  -- What `write_number` leaves of word n, where all of m words have room.
+  -- The scratch after `write_number` stores word n, if there is room for all m words.
   pub word-stored : (m n : ℕ) (l now next : List ℕ) → n < m → k * m ≤ length l → length now ≡ length l
       → now ≡ sets l 0 (wordsOf k n f)
       → next ≡ bufferAfter (roomFault k (length now) (k * n)) (bytesOf k (f n)) now (k * n)

@@ -1,4 +1,4 @@
-// When a reach is refused. `reach_queries` asks it first. Specification, clauses 7.4 and 7.5.
+// When a reach query is refused. Specification, clauses 7.4 and 7.5.
 use crate::row_words::room_of;
 use encoding::check_room;
 use queries::check_processor;
@@ -12,7 +12,7 @@ ghost use Rattle.encoding.specs.Buffers.{roomFault};
 ghost use Rattle.rules.specs.Faults.{processorFault};
 ghost use Rattle.queries.specs.Queries.{scratchSize};
 
-// Refuses by 11, then by 16 a scratch that is too short.
+// Refuses with 11, then with 16 a scratch that is too short.
 pub fn check_reach(terms: Terms, processor: u8, size: usize) -> Verdict
     ensures { λ r. ⌜ verdictNumber r
         ≡ firstOf (processorFault terms processor) (roomFault (scratchSize (terms .processors)) size 0) ⌝ }

@@ -1,4 +1,4 @@
-// Reach: all for whom a processor waits by a chain of direct waits. Nothing is changed but the lent scratch.
+// Reach: all that a processor waits for through a chain of direct waits. Only the lent scratch changes.
 // Specification, clauses 7.3 and 7.4.
 use crate::reach_checks::check_reach;
 use crate::reaching::reach_rows;
@@ -23,7 +23,8 @@ ghost use Rattle.queries.specs.Queries.{reaches, scratchSize, reachBytes, reach
 ghost use Rattle.queries.specs.Parts.{boardWith, stateWith};
 ghost use Rattle.queries.specs.inner.Rows.{directRows};
 
-// Writes the rows of all processors into the scratch, as words for so many, and answers the row asked for.
+// Writes the rows of all processors into the scratch, as words for a plan with this many processors, and returns the
+// row of one processor.
 fn write_reach(
     processors: u8,
     direct: [u32; MAX_PROCESSORS],
@@ -41,7 +42,7 @@ fn write_reach(
     rows[processor as usize]
 }
 
-// All that a processor reaches, from the direct waits of all. Refuses by 11, then by 16.
+// All that a processor reaches, from the direct waits of all. Refuses with 11, then with 16.
 fn reach_from(
     terms: Terms,
     direct: [u32; MAX_PROCESSORS],
@@ -61,8 +62,8 @@ fn reach_from(
     }
 }
 
-// Clause 7.3: all that a processor reaches, a mask, with the parts of a board and a state lent. The scratch is left
-// with a word for each processor, and bytes behind those stay. Refuses by 11, then by 16; a refusal writes nothing.
+// Clause 7.3: all that a processor reaches, as a mask, on lent parts of a board and a state. The scratch then contains
+// a word for each processor, and the bytes after them stay. Refuses with 11, then with 16. A refusal writes nothing.
 pub fn reach_in_place(
     terms: Terms,
     rows: &[u64; MAX_ENTRIES],

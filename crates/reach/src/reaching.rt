@@ -1,4 +1,4 @@
-// Reach in rows: row p is the mask of all that processor p reaches. The queries use it. Specification, clause 7.3.
+// Reach in rows: row p is the mask of all that processor p reaches. Specification, clause 7.3.
 use board_list::listed;
 use masks::has32;
 use masks::join_if;
@@ -10,7 +10,7 @@ ghost use Rattle.masks.specs.Tabulation.{tabulate};
 ghost use Rattle.board_list.specs.Sizes.{listedOf};
 ghost use Rattle.reach.specs.Rows.{joinedRow, rowsThrough};
 
-// Every row, joined with row k where k is in it.
+// Every row, joined with row k if it contains k.
 fn join_through(rows: [u32; MAX_PROCESSORS], k: usize) -> [u32; MAX_PROCESSORS]
     requires { ⌜ k < maxProcessors ⌝ }
     ensures { λ r. ⌜ r ≡ tabulate maxProcessors (joinedRow rows k) ⌝ }
@@ -25,8 +25,9 @@ fn join_through(rows: [u32; MAX_PROCESSORS], k: usize) -> [u32; MAX_PROCESSORS]
     next
 }
 
-// Clause 7.3: from the direct waits of all to all that each reaches, on a board with so many processors. One pass for
-// each processor that a chain may lead through: the rows of those before it already have the chains through them.
+// Clause 7.3: computes all that each processor reaches from the direct waits of all, on a board with this many
+// processors. There is one pass for each processor that a chain may lead through. Before pass k, the rows already
+// contain the chains through the processors below k.
 pub fn reach_rows(processors: u8, direct: [u32; MAX_PROCESSORS]) -> [u32; MAX_PROCESSORS]
     ensures { λ r. ⌜ r ≡ rowsThrough (listedOf processors) direct ⌝ }
 {

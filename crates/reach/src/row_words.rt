@@ -1,4 +1,4 @@
-// Rows, one mask for each processor, as the words of a scratch. The reach of a processor leaves all rows there.
+// Rows, one mask for each processor, as words in a scratch. A query for one processor's reach stores all rows there.
 // Specification, clause 7.4.
 use encoding::Outcome;
 use encoding::has_room;
@@ -18,10 +18,10 @@ ghost use Rattle.queries.specs.Words.{wordCount, wordsOf, wordsSize, wordsFault
 // The most bytes that the words of all rows take: four for each.
 pub const MAX_SCRATCH_BYTES: usize = 4 * MAX_PROCESSORS;
 
-// The bits of a byte: so many processors.
+// The bits of a byte, and so the processors in a byte of a mask.
 const BITS: usize = 8;
 
-// Clause 7.4: the bytes of the words of all rows, on a board with so many processors.
+// Clause 7.4: the bytes of the words of all rows, on a board with this many processors.
 pub fn room_of(processors: u8) -> usize
     ensures { λ r. ⌜ r ≡ wordsSize (maskSizeFor processors) ⌝ }
 {
@@ -29,7 +29,7 @@ pub fn room_of(processors: u8) -> usize
     size * (BITS * size)
 }
 
-// Stores the rows from the start of the scratch, in words of so many bytes, one for each processor that has a bit in a
+// Stores the rows from the start of the scratch, in words of `size` bytes, one for each processor that has a bit in a
 // word.
 fn store_rows(size: usize, rows: [u32; MAX_PROCESSORS], scratch: &mut [u8])
     requires { ⌜ (size ≤ 4) × (wordsSize size ≤ length (now scratch)) ⌝ }
@@ -45,8 +45,8 @@ fn store_rows(size: usize, rows: [u32; MAX_PROCESSORS], scratch: &mut [u8])
     }
 }
 
-// Clause 7.4: writes the rows into the scratch, a word for each, low byte first; bytes behind them stay. Refuses by 16
-// a scratch that is too short, and then writes nothing.
+// Clause 7.4: writes the rows into the scratch, a word for each, low byte first. The bytes after them stay. Refuses
+// with 16 a scratch that is too short, and then writes nothing.
 pub fn write_rows(processors: u8, rows: [u32; MAX_PROCESSORS], scratch: &mut [u8]) -> Outcome
     ensures outcome { λ r. ⌜ outcomeAsNumbers r ≡ asNumbers
         (wordsFault (maskSizeFor processors) (now (scratch .entry)))

@@ -7,7 +7,9 @@ use native.Mathlib.Omega.{arith}
 use lib.Dec.{eqb, lit<, eqb·suc-zero}
 use borrow.Author.Tests.{ne-eqb}
 use Rattle.refusals.specs.declared.Refusal.{Refusal}
-use Rattle.refusals.specs.declared.Refusal.the-variants.{Short, Tail, Processors, Resources, Entries, Kind, Set, Length, Verb, Tick, Processor, Entry, Busy, Idle, Unheld, Room, Held, Register}
+use Rattle.refusals.specs.declared.Refusal.the-variants.{Short, Tail, Processors, Resources, Entries, Kind, Set}
+use Rattle.refusals.specs.declared.Refusal.the-variants.{Length, Verb, Tick, Processor, Entry, Busy, Idle, Unheld}
+use Rattle.refusals.specs.declared.Refusal.the-variants.{Room, Held, Register}
 use Rattle.refusals.specs.declared.Verdict.{Verdict}
 use Rattle.refusals.specs.Number.{numberOf, verdictNumber}
 use Rattle.refusals.specs.Due.{due, firstOf, asNumbers}
@@ -68,7 +70,8 @@ first-passes v w e = rw e
 pub first-accepts-verdict : (v : Verdict) (w : ℕ) → v ≡ Verdict.Accepted → firstOf (verdictNumber v) w ≡ w
 first-accepts-verdict v w e = rw e
 
-pub first-refuses-verdict : (v : Verdict) (w : ℕ) (r : Refusal) → v ≡ Verdict.Refused r → firstOf (verdictNumber v) w ≡ numberOf r
+pub first-refuses-verdict : (v : Verdict) (w : ℕ) (r : Refusal) → v ≡ Verdict.Refused r → firstOf (verdictNumber v) w
+    ≡ numberOf r
 first-refuses-verdict v w r e = rw e (first-refuses (numberOf r) w (number-positive r))
 
 pub first-assoc : (a b c : ℕ) → firstOf (firstOf a b) c ≡ firstOf a (firstOf b c)

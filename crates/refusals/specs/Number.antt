@@ -1,7 +1,9 @@
 -- The number of each refusal word. Specification, section 8.
 use Prim.Native.Nat.{ℕ}
 use Rattle.refusals.specs.declared.Refusal.{Refusal}
-use Rattle.refusals.specs.declared.Refusal.the-variants.{Short, Tail, Processors, Resources, Entries, Kind, Set, Length, Verb, Tick, Processor, Entry, Busy, Idle, Unheld, Room, Held, Register}
+use Rattle.refusals.specs.declared.Refusal.the-variants.{Short, Tail, Processors, Resources, Entries, Kind, Set}
+use Rattle.refusals.specs.declared.Refusal.the-variants.{Length, Verb, Tick, Processor, Entry, Busy, Idle, Unheld}
+use Rattle.refusals.specs.declared.Refusal.the-variants.{Room, Held, Register}
 use Rattle.refusals.specs.declared.Verdict.{Verdict}
 
 -- Clause 8.1: one number for each word of the table.

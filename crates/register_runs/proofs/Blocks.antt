@@ -19,7 +19,8 @@ use Rattle.rules.specs.Replies.{Response, refusedWith}
 use Rattle.registers.specs.declared.Block.{Block}
 use Rattle.registers.specs.declared.Register.{Register}
 use Rattle.registers.specs.declared.Register.the-variants.{Pending}
-use Rattle.registers.specs.Registers.{registerAt, refusalIn, lateIn, grantedIn, entitledIn, pendingIn, raised, lineOf, withLine}
+use Rattle.registers.specs.Registers.{registerAt, refusalIn, lateIn, grantedIn, entitledIn, pendingIn, raised, lineOf}
+use Rattle.registers.specs.Registers.{withLine}
 use Rattle.registers.specs.Stores.{cleared, newByte, stored}
 use Rattle.register_block.specs.Registers.{withMask, joined, acceptedBlock, refusedBlock, repliedBlock}
 use Rattle.register_runs.specs.Steps.{replyIn}
@@ -55,7 +56,8 @@ line-same l m p e = rw (p, e)
 
 pub line-right : (l : List ℕ) → length l ≡ 32 → getD (withLine l .bytes) 28 0 ≡ lineOf (withLine l .bytes)
 unfolding withLine
-line-right l e = at-line l e (lineOf l) ∙ sym (line-same l _ (pending-under-line l (lineOf l)) (enabled-under-line l (lineOf l)))
+line-right l e = at-line l e (lineOf l) ∙ sym
+    (line-same l _ (pending-under-line l (lineOf l)) (enabled-under-line l (lineOf l)))
 
 pub line-pending : (l : List ℕ) → slice 20 24 (withLine l .bytes) ≡ slice 20 24 l
 unfolding withLine
@@ -64,7 +66,11 @@ line-pending l = pending-under-line l (lineOf l)
 pub line-whole : (l : List ℕ) → Whole l → Whole (withLine l .bytes)
 unfolding withLine
 line-whole l h =
-    record { full = length-set l 28 _ ∙ h .full; small = subst AreBytes (sym (pending-under-line l (lineOf l))) (h .small) }
+    record {
+      full = length-set l 28 _ ∙ h .full;
+      small = subst AreBytes (sym (pending-under-line l (lineOf l)))
+          (h .small);
+    }
 
 -- ---- a store
 
@@ -84,10 +90,12 @@ module _ (bytes : List ℕ) (h : Whole bytes) (o v : ℕ) where
   new-pending : (k : ℕ) → k < 4 → o ≡ 20 + k → new ≡ cleared (getD bytes o 0) v
   new-pending k l e = ap (λ r. newByte r (getD bytes o 0) v) (ap registerAt e ∙ pending-place k l)
 
-  byte-after : (k : ℕ) → k < 4 → getD (set bytes o new) (20 + k) 0 ≡ cond (eqb o (20 + k)) (cleared (getD bytes (20 + k) 0) v) (getD bytes (20 + k) 0)
+  byte-after : (k : ℕ) → k < 4 → getD (set bytes o new) (20 + k) 0
+      ≡ cond (eqb o (20 + k)) (cleared (getD bytes (20 + k) 0) v) (getD bytes (20 + k) 0)
   byte-after k l = go (eqb o (20 + k)) refl
     where
-      go : (t : Bool) → eqb o (20 + k) ≡ t → getD (set bytes o new) (20 + k) 0 ≡ cond t (cleared (getD bytes (20 + k) 0) v) (getD bytes (20 + k) 0)
+      go : (t : Bool) → eqb o (20 + k) ≡ t → getD (set bytes o new) (20 + k) 0
+          ≡ cond t (cleared (getD bytes (20 + k) 0) v) (getD bytes (20 + k) 0)
       go true e =
           let same : o ≡ 20 + k = eqb-true o (20 + k) e in
           let inside : o < length bytes = omega (arith, h .full) in
@@ -102,7 +110,8 @@ module _ (bytes : List ℕ) (h : Whole bytes) (o v : ℕ) where
   small-after k l = rw (byte-after k l) (go (eqb o (20 + k)))
     where
       old : getD bytes (20 + k) 0 < 2 ^ 8
-      old = rw (getD-slice 20 24 bytes k (omega arith)) at (h .small k (omega (arith, length-slice 20 24 bytes (omega (arith, h .full)))))
+      old = rw (getD-slice 20 24 bytes k (omega arith)) at
+          (h .small k (omega (arith, length-slice 20 24 bytes (omega (arith, h .full)))))
 
       go : (t : Bool) → cond t (cleared (getD bytes (20 + k) 0) v) (getD bytes (20 + k) 0) < 2 ^ 8
       go true = mask-below 8 _
@@ -114,7 +123,11 @@ module _ (bytes : List ℕ) (h : Whole bytes) (o v : ℕ) where
         full = length-set bytes o new ∙ h .full;
         small =
             λ i l.
-            let few : i < 4 = omega (arith, length-slice 20 24 (set bytes o new) (omega (arith, length-set bytes o new, h .full))) in
+            let few : i < 4 = omega (
+              arith,
+              length-slice 20 24 (set bytes o new)
+                  (omega (arith, length-set bytes o new, h .full)),
+            ) in
             rw (getD-slice 20 24 (set bytes o new) i (omega arith)) (small-after i few);
       }
 
@@ -122,13 +135,15 @@ module _ (bytes : List ℕ) (h : Whole bytes) (o v : ℕ) where
   unfolding stored
   stored-whole = line-whole (set bytes o new) set-whole
 
-  pub stored-line : getD (stored (record { bytes = bytes }) o v .bytes) 28 0 ≡ lineOf (stored (record { bytes = bytes }) o v .bytes)
+  pub stored-line : getD (stored (record { bytes = bytes }) o v .bytes) 28 0
+      ≡ lineOf (stored (record { bytes = bytes }) o v .bytes)
   unfolding stored
   stored-line = line-right (set bytes o new) (set-whole .full)
 
   -- A bit is cleared if a 1 is written to it, and every other bit stays.
   pub stored-pending : (p : ℕ) → p < 32
-      → bit (pendingIn (stored (record { bytes = bytes }) o v .bytes)) p ≡ (bit (pendingIn bytes) p && not (eqb o (20 + p / 8) && bit v (p % 8)))
+      → bit (pendingIn (stored (record { bytes = bytes }) o v .bytes)) p
+      ≡ (bit (pendingIn bytes) p && not (eqb o (20 + p / 8) && bit v (p % 8)))
   unfolding stored cleared
   stored-pending p few =
       ap (λ s. bit (number s) p) (line-pending (set bytes o new))
@@ -148,13 +163,19 @@ module _ (bytes : List ℕ) (h : Whole bytes) (o v : ℕ) where
 
 module _ (bytes : List ℕ) (h : Whole bytes) (x : ℕ) where
   refused-pending-slice : slice 20 24 (set bytes 3 x) ≡ slice 20 24 bytes
-  refused-pending-slice = ap (drop 20) (take-set-lt 24 bytes 3 x (lit< tt)) ∙ drop-set-lt 20 (take 24 bytes) 3 x (lit< tt)
+  refused-pending-slice = ap (drop 20) (take-set-lt 24 bytes 3 x (lit< tt))
+      ∙ drop-set-lt 20 (take 24 bytes) 3 x (lit< tt)
 
   refused-enabled-slice : slice 24 28 (set bytes 3 x) ≡ slice 24 28 bytes
-  refused-enabled-slice = ap (drop 24) (take-set-lt 28 bytes 3 x (lit< tt)) ∙ drop-set-lt 24 (take 28 bytes) 3 x (lit< tt)
+  refused-enabled-slice = ap (drop 24) (take-set-lt 28 bytes 3 x (lit< tt))
+      ∙ drop-set-lt 24 (take 28 bytes) 3 x (lit< tt)
 
   pub refused-whole : Whole (set bytes 3 x)
-  refused-whole = record { full = length-set bytes 3 x ∙ h .full; small = subst AreBytes (sym refused-pending-slice) (h .small) }
+  refused-whole = record {
+    full = length-set bytes 3 x
+        ∙ h .full;
+    small = subst AreBytes (sym refused-pending-slice) (h .small);
+  }
 
   pub refused-line : getD bytes 28 0 ≡ lineOf bytes → getD (set bytes 3 x) 28 0 ≡ lineOf (set bytes 3 x)
   refused-line e =
@@ -184,7 +205,8 @@ answeredBytes reply bytes =
     withMask 20 (joined (pendingIn bytes) (reply .granted))
     (withMask 16 (reply .entitled) (withMask 12 (reply .granted) (set (set bytes 3 0) 9 (reply .late))))
 
-answered-bytes : (reply : Response) (bytes : List ℕ) → length bytes ≡ 32 → Answered bytes reply (answeredBytes reply bytes)
+answered-bytes : (reply : Response) (bytes : List ℕ) → length bytes ≡ 32
+    → Answered bytes reply (answeredBytes reply bytes)
 unfolding listed bytesOf withLine
 answered-bytes reply =
     by-elements 32 (λ bytes. Answered bytes reply (answeredBytes reply bytes))
@@ -198,13 +220,18 @@ module _ (bytes : List ℕ) (h : Whole bytes) (reply : Response) (r : Holdable r
   unfolding acceptedBlock
   accepted-whole =
       line-whole (answeredBytes reply bytes)
-      (record { full = there .full; small = subst AreBytes (sym (there .pending)) (bytes-bytesOf 4 (joined (pendingIn bytes) (reply .granted))) })
+      (record {
+        full = there .full;
+        small = subst AreBytes (sym (there .pending))
+            (bytes-bytesOf 4 (joined (pendingIn bytes) (reply .granted)));
+      })
 
   accepted-line : getD (acceptedBlock bytes reply .bytes) 28 0 ≡ lineOf (acceptedBlock bytes reply .bytes)
   unfolding acceptedBlock
   accepted-line = line-right (answeredBytes reply bytes) (there .full)
 
-  accepted-pending : (p : ℕ) → p < 32 → bit (pendingIn (acceptedBlock bytes reply .bytes)) p ≡ (bit (pendingIn bytes) p || bit (reply .granted) p)
+  accepted-pending : (p : ℕ) → p < 32 → bit (pendingIn (acceptedBlock bytes reply .bytes)) p
+      ≡ (bit (pendingIn bytes) p || bit (reply .granted) p)
   unfolding acceptedBlock joined
   accepted-pending p few =
       ap (λ s. bit (number s) p) (line-pending (answeredBytes reply bytes) ∙ there .pending)
@@ -249,21 +276,26 @@ module _ (bytes : List ℕ) (h : Whole bytes) (reply : Response) (r : Holdable r
       go true = accepted-whole
       go false = refused-whole bytes h (reply .number)
 
-  pub replied-line : getD bytes 28 0 ≡ lineOf bytes → getD (repliedBlock bytes reply .bytes) 28 0 ≡ lineOf (repliedBlock bytes reply .bytes)
+  pub replied-line : getD bytes 28 0 ≡ lineOf bytes → getD (repliedBlock bytes reply .bytes) 28 0
+      ≡ lineOf (repliedBlock bytes reply .bytes)
   replied-line e = go (eqb (reply .number) 0)
     where
-      go : (t : Bool) → getD (cond t (acceptedBlock bytes reply) (refusedBlock bytes reply) .bytes) 28 0 ≡ lineOf (cond t (acceptedBlock bytes reply) (refusedBlock bytes reply) .bytes)
+      go : (t : Bool) → getD (cond t (acceptedBlock bytes reply) (refusedBlock bytes reply) .bytes) 28 0
+          ≡ lineOf (cond t (acceptedBlock bytes reply) (refusedBlock bytes reply) .bytes)
       go true = accepted-line
       go false = refused-line bytes h (reply .number) e
 
-  pub replied-pending : (p : ℕ) → p < 32 → bit (pendingIn (repliedBlock bytes reply .bytes)) p ≡ (bit (pendingIn bytes) p || bit (reply .granted) p)
+  pub replied-pending : (p : ℕ) → p < 32 → bit (pendingIn (repliedBlock bytes reply .bytes)) p
+      ≡ (bit (pendingIn bytes) p || bit (reply .granted) p)
   replied-pending p few = go (eqb (reply .number) 0) refl
     where
       go : (t : Bool) → eqb (reply .number) 0 ≡ t
-          → bit (pendingIn (cond t (acceptedBlock bytes reply) (refusedBlock bytes reply) .bytes)) p ≡ (bit (pendingIn bytes) p || bit (reply .granted) p)
+          → bit (pendingIn (cond t (acceptedBlock bytes reply) (refusedBlock bytes reply) .bytes)) p
+          ≡ (bit (pendingIn bytes) p || bit (reply .granted) p)
       go true e = accepted-pending p few
       go false e =
-          let none : bit (reply .granted) p ≡ false = ap (λ (a : Response). bit (a .granted) p) (r .alone e) ∙ bit-zero p in
+          let none : bit (reply .granted) p ≡ false = ap (λ (a : Response). bit (a .granted) p) (r .alone e)
+          ∙ bit-zero p in
           ap (λ (x : ℕ). bit x p) (refused-pending bytes h (reply .number))
           ∙ sym (or-false (bit (pendingIn bytes) p))
           ∙ ap (λ t. bit (pendingIn bytes) p || t) (sym none)
@@ -271,6 +303,7 @@ module _ (bytes : List ℕ) (h : Whole bytes) (reply : Response) (r : Holdable r
   pub replied-reply : replyIn (repliedBlock bytes reply .bytes) ≡ reply
   replied-reply = go (eqb (reply .number) 0) refl
     where
-      go : (t : Bool) → eqb (reply .number) 0 ≡ t → replyIn (cond t (acceptedBlock bytes reply) (refusedBlock bytes reply) .bytes) ≡ reply
+      go : (t : Bool) → eqb (reply .number) 0 ≡ t
+          → replyIn (cond t (acceptedBlock bytes reply) (refusedBlock bytes reply) .bytes) ≡ reply
       go true e = accepted-reply (eqb-true (reply .number) 0 e)
       go false e = refused-reply e

@@ -21,12 +21,18 @@ bit-low : (b n p : ℕ) → b < 256 → p < 8 → bit (b + 256 * n) p ≡ bit b 
 unfolding bit
 bit-low b n zero small few = let e : (b + 256 * n) / 1 % 2 ≡ b / 1 % 2 = omega arith in ap (λ (x : ℕ). eqb x 1) e
 bit-low b n (suc zero) small few = let e : (b + 256 * n) / 2 % 2 ≡ b / 2 % 2 = omega arith in ap (λ (x : ℕ). eqb x 1) e
-bit-low b n (suc (suc zero)) small few = let e : (b + 256 * n) / 4 % 2 ≡ b / 4 % 2 = omega arith in ap (λ (x : ℕ). eqb x 1) e
-bit-low b n (suc (suc (suc zero))) small few = let e : (b + 256 * n) / 8 % 2 ≡ b / 8 % 2 = omega arith in ap (λ (x : ℕ). eqb x 1) e
-bit-low b n (suc (suc (suc (suc zero)))) small few = let e : (b + 256 * n) / 16 % 2 ≡ b / 16 % 2 = omega arith in ap (λ (x : ℕ). eqb x 1) e
-bit-low b n (suc (suc (suc (suc (suc zero))))) small few = let e : (b + 256 * n) / 32 % 2 ≡ b / 32 % 2 = omega arith in ap (λ (x : ℕ). eqb x 1) e
-bit-low b n (suc (suc (suc (suc (suc (suc zero)))))) small few = let e : (b + 256 * n) / 64 % 2 ≡ b / 64 % 2 = omega arith in ap (λ (x : ℕ). eqb x 1) e
-bit-low b n (suc (suc (suc (suc (suc (suc (suc zero))))))) small few = let e : (b + 256 * n) / 128 % 2 ≡ b / 128 % 2 = omega arith in ap (λ (x : ℕ). eqb x 1) e
+bit-low b n (suc (suc zero)) small few = let e : (b + 256 * n) / 4 % 2
+    ≡ b / 4 % 2 = omega arith in ap (λ (x : ℕ). eqb x 1) e
+bit-low b n (suc (suc (suc zero))) small few = let e : (b + 256 * n) / 8 % 2
+    ≡ b / 8 % 2 = omega arith in ap (λ (x : ℕ). eqb x 1) e
+bit-low b n (suc (suc (suc (suc zero)))) small few = let e : (b + 256 * n) / 16 % 2
+    ≡ b / 16 % 2 = omega arith in ap (λ (x : ℕ). eqb x 1) e
+bit-low b n (suc (suc (suc (suc (suc zero))))) small few = let e : (b + 256 * n) / 32 % 2
+    ≡ b / 32 % 2 = omega arith in ap (λ (x : ℕ). eqb x 1) e
+bit-low b n (suc (suc (suc (suc (suc (suc zero)))))) small few = let e : (b + 256 * n) / 64 % 2
+    ≡ b / 64 % 2 = omega arith in ap (λ (x : ℕ). eqb x 1) e
+bit-low b n (suc (suc (suc (suc (suc (suc (suc zero))))))) small few = let e : (b + 256 * n) / 128 % 2
+    ≡ b / 128 % 2 = omega arith in ap (λ (x : ℕ). eqb x 1) e
 bit-low b n (suc (suc (suc (suc (suc (suc (suc (suc p)))))))) small few = absurd (omega arith)
 
 -- The others are those of the rest.

@@ -12,7 +12,8 @@ use Rattle.rules.specs.declared.states.Phases.{Phases}
 use Rattle.rules.specs.declared.states.Board.{Board}
 use Rattle.rules.specs.declared.states.State.{State}
 use Rattle.rules.specs.Faults.{issueFault, handoverFault}
-use Rattle.rules.specs.Calls.{Answer, phasesOf, putState, takenState, done, ruled, settledDone, issued, left, completed, withdrawn, both, handedOver, answered}
+use Rattle.rules.specs.Calls.{Answer, phasesOf, putState, takenState, done, ruled, settledDone, issued, left, completed}
+use Rattle.rules.specs.Calls.{withdrawn, both, handedOver, answered}
 
 -- A reply that fits into the registers.
 pub record Holdable (r : Response) : Type 0 where

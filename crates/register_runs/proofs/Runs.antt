@@ -25,10 +25,13 @@ use Rattle.register_block.specs.Calls.{commandCall}
 use Rattle.register_block.specs.Commands.{WriteAnswer, registerWrite}
 use Rattle.runs.specs.Events.{Event, events, stateAfter}
 use Rattle.runs.proofs.refinement.WholeRuns.{whole-runs}
-use Rattle.register_runs.specs.Steps.{Step, reads, writes, calls, Device, freshDevice, stepped, after, carries, grants, clears, unanswered, callsIn, callsOf, replyIn, seenIn, seenOf}
-use Rattle.register_runs.specs.Claim.{bytesAfter, PendingAreGrants, GrantStays, LineIsRight, CallsOfRun, RegisterRuns}
+use Rattle.register_runs.specs.Steps.{Step, reads, writes, calls, Device, freshDevice, stepped, after, carries}
+use Rattle.register_runs.specs.Steps.{grants, clears, unanswered, callsIn, callsOf, replyIn, seenIn, seenOf}
+use Rattle.register_runs.specs.Claim.{bytesAfter, PendingAreGrants, GrantStays, LineIsRight, CallsOfRun}
+use Rattle.register_runs.specs.Claim.{RegisterRuns}
 use Rattle.register_runs.proofs.Replies.{answer-holdable}
-use Rattle.register_runs.proofs.Blocks.{Whole, stored-whole, stored-line, stored-pending, replied-whole, replied-line, replied-pending, replied-reply}
+use Rattle.register_runs.proofs.Blocks.{Whole, stored-whole, stored-line, stored-pending, replied-whole}
+use Rattle.register_runs.proofs.Blocks.{replied-line, replied-pending, replied-reply}
 use Rattle.register_runs.proofs.Writes.{Wrote, unchanged, kept, carried, wrote}
 
 -- What is true of every block of a run.
@@ -51,20 +54,25 @@ step-sound b d (writes o v) h = go (wrote b (d .state) (d .block) v o)
         }
     go (kept c e) =
         record {
-          whole = subst (λ (w : WriteAnswer). Whole (w .block .bytes)) (sym e) (stored-whole (d .block .bytes) (h .whole) o v);
-          line = subst (λ (w : WriteAnswer). getD (w .block .bytes) 28 0 ≡ lineOf (w .block .bytes)) (sym e) (stored-line (d .block .bytes) (h .whole) o v);
+          whole = subst (λ (w : WriteAnswer). Whole (w .block .bytes)) (sym e)
+              (stored-whole (d .block .bytes) (h .whole) o v);
+          line = subst (λ (w : WriteAnswer). getD (w .block .bytes) 28 0 ≡ lineOf (w .block .bytes)) (sym e)
+              (stored-line (d .block .bytes) (h .whole) o v);
         }
     go (carried c free e) =
         let a = answered b (d .state) (commandCall (d .block .bytes) v) .reply in
         let held = answer-holdable b (d .state) (commandCall (d .block .bytes) v) in
         record {
-          whole = subst (λ (w : WriteAnswer). Whole (w .block .bytes)) (sym e) (replied-whole (d .block .bytes) (h .whole) a held);
-          line = subst (λ (w : WriteAnswer). getD (w .block .bytes) 28 0 ≡ lineOf (w .block .bytes)) (sym e) (replied-line (d .block .bytes) (h .whole) a held (h .line));
+          whole = subst (λ (w : WriteAnswer). Whole (w .block .bytes)) (sym e)
+              (replied-whole (d .block .bytes) (h .whole) a held);
+          line = subst (λ (w : WriteAnswer). getD (w .block .bytes) 28 0 ≡ lineOf (w .block .bytes)) (sym e)
+              (replied-line (d .block .bytes) (h .whole) a held (h .line));
         }
 
 -- A grant sets a bit, a 1 that is written to the bit clears it, and nothing else changes it.
 step-pending : (b : Board) (d : Device) (s : Step) → Sound d → (p : ℕ) → p < 32
-    → bit (pendingIn (stepped b d s .block .bytes)) p ≡ ((bit (pendingIn (d .block .bytes)) p || grants b d s p) && not (clears s p))
+    → bit (pendingIn (stepped b d s .block .bytes)) p
+    ≡ ((bit (pendingIn (d .block .bytes)) p || grants b d s p) && not (clears s p))
 step-pending b d (reads o) h p few = sym (and-true _ ∙ or-false _)
 step-pending b d (calls c) h p few = sym (and-true _ ∙ or-false _)
 step-pending b d (writes o v) h p few = go (wrote b (d .state) (d .block) v o)
@@ -83,7 +91,8 @@ step-pending b d (writes o v) h p few = go (wrote b (d .state) (d .block) v o)
         ≡ ((was || (carries o v && granted)) && not (eqb o (20 + p / 8) && bit v (p % 8)))
     go (unchanged n c free e) =
         ap (λ (w : WriteAnswer). bit (pendingIn (w .block .bytes)) p) e
-        ∙ sym (ap₂ (λ t u. (was || (t && granted)) && not (u && bit v (p % 8))) c (free (p / 8) byte) ∙ and-true _ ∙ or-false _)
+        ∙ sym (ap₂ (λ t u. (was || (t && granted)) && not (u && bit v (p % 8))) c (free (p / 8) byte) ∙ and-true _
+        ∙ or-false _)
     go (kept c e) =
         ap (λ (w : WriteAnswer). bit (pendingIn (w .block .bytes)) p) e
         ∙ stored-pending (d .block .bytes) (h .whole) o v p few
@@ -91,7 +100,8 @@ step-pending b d (writes o v) h p few = go (wrote b (d .state) (d .block) v o)
         ∙ ap (λ t. t && not (eqb o (20 + p / 8) && bit v (p % 8))) (or-false was))
     go (carried c free e) =
         ap (λ (w : WriteAnswer). bit (pendingIn (w .block .bytes)) p) e
-        ∙ replied-pending (d .block .bytes) (h .whole) _ (answer-holdable b (d .state) (commandCall (d .block .bytes) v)) p few
+        ∙ replied-pending (d .block .bytes) (h .whole) _
+        (answer-holdable b (d .state) (commandCall (d .block .bytes) v)) p few
         ∙ sym (ap₂ (λ t u. (was || (t && granted)) && not (u && bit v (p % 8))) c (free (p / 8) byte) ∙ and-true _)
 
 -- The replies that are seen are those of the calls, and so is the state.
@@ -106,16 +116,25 @@ step-seen b d (writes o v) h = go (wrote b (d .state) (d .block) v o)
 
     none : carries o v ≡ false → seenIn b d (writes o v) ≡ events b (d .state) (callsIn d (writes o v))
     none c =
-        ap (λ t. cond t (record { call = call; reply = replyIn (registerWrite b (d .state) (d .block) o v .block .bytes) } ∷ []) []) c
+        ap (λ t. cond t (record {
+          call = call;
+          reply = replyIn
+              (registerWrite b (d .state) (d .block) o v .block .bytes);
+        } ∷ []) []) c
         ∙ sym (ap (λ t. events b (d .state) (cond t (call ∷ []) [])) c)
 
     go : Wrote b (d .state) (d .block) o v → seenIn b d (writes o v) ≡ events b (d .state) (callsIn d (writes o v))
     go (unchanged n c free e) = none c
     go (kept c e) = none c
     go (carried c free e) =
-        ap (λ t. cond t (record { call = call; reply = replyIn (registerWrite b (d .state) (d .block) o v .block .bytes) } ∷ []) []) c
+        ap (λ t. cond t (record {
+          call = call;
+          reply = replyIn
+              (registerWrite b (d .state) (d .block) o v .block .bytes);
+        } ∷ []) []) c
         ∙ ap (λ (r : Response). record { call = call; reply = r } ∷ [])
-        (ap (λ (w : WriteAnswer). replyIn (w .block .bytes)) e ∙ replied-reply (d .block .bytes) (h .whole) _ (answer-holdable b (d .state) call))
+        (ap (λ (w : WriteAnswer). replyIn (w .block .bytes)) e
+        ∙ replied-reply (d .block .bytes) (h .whole) _ (answer-holdable b (d .state) call))
         ∙ sym (ap (λ t. events b (d .state) (cond t (call ∷ []) [])) c)
 
 step-state : (b : Board) (d : Device) (s : Step) → stepped b d s .state ≡ stateAfter b (d .state) (callsIn d s)
@@ -127,19 +146,26 @@ step-state b d (writes o v) = go (wrote b (d .state) (d .block) v o)
     call : Call
     call = commandCall (d .block .bytes) v
 
-    go : Wrote b (d .state) (d .block) o v → registerWrite b (d .state) (d .block) o v .state ≡ stateAfter b (d .state) (cond (carries o v) (call ∷ []) [])
-    go (unchanged n c free e) = ap (λ (w : WriteAnswer). w .state) e ∙ sym (ap (λ t. stateAfter b (d .state) (cond t (call ∷ []) [])) c)
-    go (kept c e) = ap (λ (w : WriteAnswer). w .state) e ∙ sym (ap (λ t. stateAfter b (d .state) (cond t (call ∷ []) [])) c)
-    go (carried c free e) = ap (λ (w : WriteAnswer). w .state) e ∙ sym (ap (λ t. stateAfter b (d .state) (cond t (call ∷ []) [])) c)
+    go : Wrote b (d .state) (d .block) o v → registerWrite b (d .state) (d .block) o v .state
+        ≡ stateAfter b (d .state) (cond (carries o v) (call ∷ []) [])
+    go (unchanged n c free e) = ap (λ (w : WriteAnswer). w .state) e
+        ∙ sym (ap (λ t. stateAfter b (d .state) (cond t (call ∷ []) [])) c)
+    go (kept c e) = ap (λ (w : WriteAnswer). w .state) e
+        ∙ sym (ap (λ t. stateAfter b (d .state) (cond t (call ∷ []) [])) c)
+    go (carried c free e) = ap (λ (w : WriteAnswer). w .state) e
+        ∙ sym (ap (λ t. stateAfter b (d .state) (cond t (call ∷ []) [])) c)
 
 -- ---- lists of calls, in two parts
 
-events-append : (b : Board) (s : State) (first later : List Call) → events b s (first ++ later) ≡ events b s first ++ events b (stateAfter b s first) later
+events-append : (b : Board) (s : State) (first later : List Call) → events b s (first ++ later)
+    ≡ events b s first ++ events b (stateAfter b s first) later
 unfolding events stateAfter
 events-append b s [] later = refl
-events-append b s (c ∷ first) later = ap (λ r. record { call = c; reply = answered b s c .reply } ∷ r) (events-append b (answered b s c .state) first later)
+events-append b s (c ∷ first) later = ap (λ r. record { call = c; reply = answered b s c .reply } ∷ r)
+    (events-append b (answered b s c .state) first later)
 
-state-append : (b : Board) (s : State) (first later : List Call) → stateAfter b s (first ++ later) ≡ stateAfter b (stateAfter b s first) later
+state-append : (b : Board) (s : State) (first later : List Call) → stateAfter b s (first ++ later)
+    ≡ stateAfter b (stateAfter b s first) later
 unfolding stateAfter
 state-append b s [] later = refl
 state-append b s (c ∷ first) later = state-append b (answered b s c .state) first later
@@ -159,15 +185,18 @@ after-pending b d (s ∷ later) h p few =
     after-pending b (stepped b d s) later (step-sound b d s h) p few
     ∙ ap (λ t. unanswered b (stepped b d s) t later p) (step-pending b d s h p few)
 
-after-seen : (b : Board) (d : Device) (steps : List Step) → Sound d → seenOf b d steps ≡ events b (d .state) (callsOf b d steps)
+after-seen : (b : Board) (d : Device) (steps : List Step) → Sound d → seenOf b d steps
+    ≡ events b (d .state) (callsOf b d steps)
 unfolding seenOf callsOf events
 after-seen b d [] h = refl
 after-seen b d (s ∷ later) h =
     ap₂ _++_ (step-seen b d s h)
-    (after-seen b (stepped b d s) later (step-sound b d s h) ∙ ap (λ x. events b x (callsOf b (stepped b d s) later)) (step-state b d s))
+    (after-seen b (stepped b d s) later (step-sound b d s h)
+    ∙ ap (λ x. events b x (callsOf b (stepped b d s) later)) (step-state b d s))
     ∙ sym (events-append b (d .state) (callsIn d s) (callsOf b (stepped b d s) later))
 
-after-state : (b : Board) (d : Device) (steps : List Step) → after b d steps .state ≡ stateAfter b (d .state) (callsOf b d steps)
+after-state : (b : Board) (d : Device) (steps : List Step) → after b d steps .state
+    ≡ stateAfter b (d .state) (callsOf b d steps)
 unfolding after callsOf stateAfter
 after-state b d [] = refl
 after-state b d (s ∷ later) =
@@ -175,7 +204,8 @@ after-state b d (s ∷ later) =
     ∙ ap (λ x. stateAfter b x (callsOf b (stepped b d s) later)) (step-state b d s)
     ∙ sym (state-append b (d .state) (callsIn d s) (callsOf b (stepped b d s) later))
 
-after-append : (b : Board) (d : Device) (first later : List Step) → after b d (first ++ later) ≡ after b (after b d first) later
+after-append : (b : Board) (d : Device) (first later : List Step) → after b d (first ++ later)
+    ≡ after b (after b d first) later
 unfolding after
 after-append b d [] later = refl
 after-append b d (s ∷ first) later = after-append b (stepped b d s) first later
@@ -211,7 +241,11 @@ pub line-is-right : (b : Board) (steps : List Step) → LineIsRight b steps
 line-is-right b steps = after-sound b freshDevice steps fresh-sound .line
 
 pub calls-of-run : (b : Board) (steps : List Step) → CallsOfRun b steps
-calls-of-run b steps = record { replies = after-seen b freshDevice steps fresh-sound; state = after-state b freshDevice steps }
+calls-of-run b steps = record {
+  replies = after-seen b freshDevice steps fresh-sound;
+  state = after-state b freshDevice
+      steps;
+}
 
 -- ---- a grant's bit
 
@@ -233,7 +267,8 @@ grant-clears-none b d (writes o v) p few g = go (wrote b (d .state) (d .block) v
     go (carried c free e) = ap (λ t. t && bit v (p % 8)) (free (p / 8) byte)
 
 -- If no 1 is written to the bit, it stays.
-stays : (b : Board) (d : Device) (other : Step) (later : List Step) (p : ℕ) → ((i : ℕ) → i < length later → clears (getD later i other) p ≡ false)
+stays : (b : Board) (d : Device) (other : Step) (later : List Step) (p : ℕ)
+    → ((i : ℕ) → i < length later → clears (getD later i other) p ≡ false)
     → unanswered b d true later p ≡ true
 unfolding unanswered
 stays b d other [] p none = refl
@@ -241,7 +276,8 @@ stays b d other (s ∷ later) p none =
     ap (λ t. unanswered b (stepped b d s) (not t) later p) (none 0 (omega arith))
     ∙ stays b (stepped b d s) other later p (λ i l. none (suc i) (omega arith))
 
-pub grant-stays : (b : Board) (before : List Step) (command : Step) (later : List Step) → GrantStays b before command later
+pub grant-stays : (b : Board) (before : List Step) (command : Step) (later : List Step)
+    → GrantStays b before command later
 unfolding after
 grant-stays b before command later p few g none =
     ap (λ (d : Device). bit (pendingIn (d .block .bytes)) p) (after-append b freshDevice before (command ∷ later))

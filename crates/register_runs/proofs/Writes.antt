@@ -24,10 +24,12 @@ abbrev pub Apart : ℕ → Type 0
 Apart o = (k : ℕ) → k < 4 → eqb o (20 + k) ≡ false
 
 pub data Wrote (b : Board) (s : State) (block : Block) (o v : ℕ) : Type 0 where
-  unchanged : (n : ℕ) → carries o v ≡ false → Apart o → registerWrite b s block o v ≡ unmoved n block s → Wrote b s block o v
+  unchanged : (n : ℕ) → carries o v ≡ false → Apart o → registerWrite b s block o v ≡ unmoved n block s
+      → Wrote b s block o v
   kept : carries o v ≡ false → registerWrite b s block o v ≡ unmoved 0 (stored block o v) s → Wrote b s block o v
   carried : carries o v ≡ true → Apart o
-      → registerWrite b s block o v ≡ carriedOut block (answered b s (commandCall (block .bytes) v)) → Wrote b s block o v
+      → registerWrite b s block o v ≡ carriedOut block (answered b s (commandCall (block .bytes) v))
+      → Wrote b s block o v
 
 -- ---- by register
 
@@ -42,7 +44,8 @@ apart : (o : ℕ) → (registerAt o ≡ Pending → ⊥) → Apart o
 apart o other k l = ne-eqb o (20 + k) (λ e. other (ap registerAt e ∙ pending-place k l))
 
 -- Only offset 0 is the command.
-none-is-command : (a b c d e : Bool) → cond a Argument (cond b Answer (cond c Pending (cond d Enabled (cond e Line Unlisted)))) ≡ Command → ⊥
+none-is-command : (a b c d e : Bool) → cond a Argument
+    (cond b Answer (cond c Pending (cond d Enabled (cond e Line Unlisted)))) ≡ Command → ⊥
 none-is-command true b c d e p = let z : _≡_ {A = ℕ} 0 1 = cc in omega arith
 none-is-command false true c d e p = let z : _≡_ {A = ℕ} 0 1 = cc in omega arith
 none-is-command false false true d e p = let z : _≡_ {A = ℕ} 0 1 = cc in omega arith
@@ -67,7 +70,9 @@ command-at-zero o e = go (eqb o 0) refl e
     enabled = leb 24 o && leb o 27
 
     go : (t : Bool) → eqb o 0 ≡ t
-        → cond t Command (cond argument Argument (cond answer Answer (cond pending Pending (cond enabled Enabled (cond (eqb o 28) Line Unlisted))))) ≡ Command
+        → cond t Command (cond argument Argument
+        (cond answer Answer (cond pending Pending (cond enabled Enabled (cond (eqb o 28) Line Unlisted)))))
+        ≡ Command
         → o ≡ 0
     go true z p = eqb-true o 0 z
     go false z p = absurd (none-is-command argument answer pending enabled (eqb o 28) p)
@@ -90,19 +95,22 @@ module _ (b : Board) (s : State) (block : Block) (v : ℕ) where
       go true z u l =
           let none : v ≡ 0 = eqb-true v 0 z in
           unchanged 0 (rw (none, here)) free
-          (says ∙ ap (λ x. cond x (unmoved 0 block s) (cond (ltb 4 v) (unmoved 18 block s) (carriedOut block (answered b s (commandCall (block .bytes) v))))) z)
+          (says ∙ ap (λ x. cond x (unmoved 0 block s)
+          (cond (ltb 4 v) (unmoved 18 block s) (carriedOut block (answered b s (commandCall (block .bytes) v))))) z)
       go false z true l =
           let above : 4 < v = ltb-true 4 v l in
           unchanged 18 (rw (here, lt-leb v 4 above, lt-ltb 0 v (omega arith))) free
           (says
-          ∙ ap (λ x. cond x (unmoved 0 block s) (cond (ltb 4 v) (unmoved 18 block s) (carriedOut block (answered b s (commandCall (block .bytes) v))))) z
+          ∙ ap (λ x. cond x (unmoved 0 block s)
+          (cond (ltb 4 v) (unmoved 18 block s) (carriedOut block (answered b s (commandCall (block .bytes) v))))) z
           ∙ ap (λ x. cond x (unmoved 18 block s) (carriedOut block (answered b s (commandCall (block .bytes) v)))) l)
       go false z false l =
           let most : v ≤ 4 = ltb-false 4 v l in
           let some : 0 < v = omega (arith, eqb-false v 0 z) in
           carried (rw (here, le-leb v 4 most, lt-ltb 0 v some)) free
           (says
-          ∙ ap (λ x. cond x (unmoved 0 block s) (cond (ltb 4 v) (unmoved 18 block s) (carriedOut block (answered b s (commandCall (block .bytes) v))))) z
+          ∙ ap (λ x. cond x (unmoved 0 block s)
+          (cond (ltb 4 v) (unmoved 18 block s) (carriedOut block (answered b s (commandCall (block .bytes) v))))) z
           ∙ ap (λ x. cond x (unmoved 18 block s) (carriedOut block (answered b s (commandCall (block .bytes) v)))) l)
 
   pub wrote : (o : ℕ) → Wrote b s block o v
@@ -111,12 +119,15 @@ module _ (b : Board) (s : State) (block : Block) (v : ℕ) where
     where
       go : (r : Register) → registerAt o ≡ r → Wrote b s block o v
       go Command e = command-wrote o e
-      go Argument e = kept (not-command o v (λ p. let z : _≡_ {A = ℕ} 0 1 = cc in omega arith)) (ap (λ r. writtenTo r b s block o v) e)
+      go Argument e = kept (not-command o v (λ p. let z : _≡_ {A = ℕ} 0 1 = cc in omega arith))
+          (ap (λ r. writtenTo r b s block o v) e)
       go Answer e =
           unchanged 18 (not-command o v (λ p. let z : _≡_ {A = ℕ} 0 1 = cc in omega arith))
           (apart o (λ p. let z : _≡_ {A = ℕ} 0 1 = cc in omega arith)) (ap (λ r. writtenTo r b s block o v) e)
-      go Pending e = kept (not-command o v (λ p. let z : _≡_ {A = ℕ} 0 1 = cc in omega arith)) (ap (λ r. writtenTo r b s block o v) e)
-      go Enabled e = kept (not-command o v (λ p. let z : _≡_ {A = ℕ} 0 1 = cc in omega arith)) (ap (λ r. writtenTo r b s block o v) e)
+      go Pending e = kept (not-command o v (λ p. let z : _≡_ {A = ℕ} 0 1 = cc in omega arith))
+          (ap (λ r. writtenTo r b s block o v) e)
+      go Enabled e = kept (not-command o v (λ p. let z : _≡_ {A = ℕ} 0 1 = cc in omega arith))
+          (ap (λ r. writtenTo r b s block o v) e)
       go Line e =
           unchanged 18 (not-command o v (λ p. let z : _≡_ {A = ℕ} 0 1 = cc in omega arith))
           (apart o (λ p. let z : _≡_ {A = ℕ} 0 1 = cc in omega arith)) (ap (λ r. writtenTo r b s block o v) e)

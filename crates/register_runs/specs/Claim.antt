@@ -11,7 +11,8 @@ use Rattle.boards.specs.Fresh.{boardOf, freshState}
 use Rattle.registers.specs.Registers.{pendingIn, lineOf}
 use Rattle.runs.specs.Events.{events, stateAfter}
 use Rattle.runs.specs.Claim.{WholeRuns}
-use Rattle.register_runs.specs.Steps.{Step, Device, freshDevice, after, grants, clears, unanswered, callsOf, seenOf}
+use Rattle.register_runs.specs.Steps.{Step, Device, freshDevice, after, grants, clears, unanswered, callsOf}
+use Rattle.register_runs.specs.Steps.{seenOf}
 
 -- The bytes of the block after a run.
 abbrev pub bytesAfter : Board → List Step → List ℕ

@@ -10,7 +10,8 @@ use Rattle.refusals.specs.Number.{numberOf}
 use Rattle.refusals.specs.Due.{AsNumbers, asNumbers}
 use Rattle.encoding.specs.Numbers.{number}
 use Rattle.registers.specs.declared.Register.{Register}
-use Rattle.registers.specs.declared.Register.the-variants.{Command, Argument, Answer, Pending, Enabled, Line, Unlisted}
+use Rattle.registers.specs.declared.Register.the-variants.{Command, Argument, Answer, Pending, Enabled, Line}
+use Rattle.registers.specs.declared.Register.the-variants.{Unlisted}
 use Rattle.registers.specs.declared.Block.{Block}
 use Rattle.registers.specs.declared.ReadAnswer.{ReadAnswer}
 
@@ -89,7 +90,8 @@ shownAt Unlisted bytes offset = 0
 
 -- Clause 10.4: reading an offset of a block.
 unfoldable pub registerRead : Block → ℕ → AsNumbers
-registerRead block offset = asNumbers (registerFault (registerAt offset)) (shownAt (registerAt offset) (block .bytes) offset)
+registerRead block offset = asNumbers (registerFault (registerAt offset))
+    (shownAt (registerAt offset) (block .bytes) offset)
 
 -- The answer to a read as numbers: the value, or the refusal.
 abbrev pub registerAsNumbers : ReadAnswer → AsNumbers

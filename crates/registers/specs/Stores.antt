@@ -4,7 +4,8 @@ use mathlib.Core.Bool.{not, _&&_}
 use lib.ListN.{getD, set}
 use Rattle.masks.specs.Sets.{bit, maskOf}
 use Rattle.registers.specs.declared.Register.{Register}
-use Rattle.registers.specs.declared.Register.the-variants.{Command, Argument, Answer, Pending, Enabled, Line, Unlisted}
+use Rattle.registers.specs.declared.Register.the-variants.{Command, Argument, Answer, Pending, Enabled, Line}
+use Rattle.registers.specs.declared.Register.the-variants.{Unlisted}
 use Rattle.registers.specs.declared.Block.{Block}
 use Rattle.registers.specs.Registers.{registerAt, withLine}
 

@@ -28,17 +28,20 @@ use Rattle.replay.proofs.Turns.{over-over}
 
 -- Before a record, or after one that ended the replay: what is left, from the state st and the bytes after the calls so
 -- far, still gives the whole block.
-pub record Leaves (whole : Ran) (b : Board) (due : ℕ) (s out₀ : List ℕ) (st : State) (calls at : ℕ) (ended : Bool) (out : List ℕ) : Type 0 where
+pub record Leaves (whole : Ran) (b : Board) (due : ℕ) (s out₀ : List ℕ) (st : State) (calls at : ℕ) (ended : Bool)
+    (out : List ℕ) : Type 0 where
   pub some : calls ≤ due
   pub room : ended ≡ false → at ≤ lineRoom * calls
   pub long : length out ≡ length out₀
-  pub stands : overwritten out at (remaining ended b st (due - calls) (drop (8 * calls) s) .lines) ≡ overwritten out₀ 0 (whole .lines)
+  pub stands : overwritten out at (remaining ended b st (due - calls) (drop (8 * calls) s) .lines)
+      ≡ overwritten out₀ 0 (whole .lines)
   pub size : at + length (remaining ended b st (due - calls) (drop (8 * calls) s) .lines) ≡ length (whole .lines)
   pub after : remaining ended b st (due - calls) (drop (8 * calls) s) .state ≡ whole .state
   pub counts : calls + remaining ended b st (due - calls) (drop (8 * calls) s) .calls ≡ whole .calls
   pub ends : remaining ended b st (due - calls) (drop (8 * calls) s) .ended ≡ whole .ended
 
-pub first-turn : (b : Board) (st : State) (due : ℕ) (s out : List ℕ) → Leaves (ran b st due s) b due s out st 0 0 false out
+pub first-turn : (b : Board) (st : State) (due : ℕ) (s out : List ℕ)
+    → Leaves (ran b st due s) b due s out st 0 0 false out
 first-turn b st due s out =
     let all : due - 0 ≡ due = omega arith in
     record {
@@ -78,7 +81,13 @@ pub written-room : (pairs : List ℕ) (b : Board) (st : State) (s : List ℕ) (s
 unfolding stands
 written-room pairs b st s size at r table told =
     let e : r ≡ stands (step b st s) size at = rw table at told in
-    omega (arith, ap (λ (x : Stands). x .written) e, at-most (eqb (lineFault (step b st s .line) size at) 0) (length (step b st s .line)), step-room b st s)
+    omega (
+      arith,
+      ap (λ (x : Stands). x .written) e,
+      at-most (eqb (lineFault (step b st s .line) size at) 0)
+          (length (step b st s .line)),
+      step-room b st s,
+    )
   where
     at-most : (t : Bool) (n : ℕ) → cond t n 0 ≤ n
     at-most true n = omega arith
@@ -91,7 +100,8 @@ unfolding ran
 none-left b st calls due true s e = refl
 none-left b st calls due false s e = go (ltb calls due) refl e
   where
-    go : (t : Bool) → ltb calls due ≡ t → (t && true) ≡ false → ran b st (due - calls) s ≡ record { lines = []; state = st; calls = 0; ended = false }
+    go : (t : Bool) → ltb calls due ≡ t → (t && true) ≡ false → ran b st (due - calls) s
+        ≡ record { lines = []; state = st; calls = 0; ended = false }
     go true h f = absurd (let z : _≡_ {A = ℕ} 0 1 = cc in omega arith)
     go false h f = let none : due - calls ≡ 0 = omega (arith, ltb-false calls due h) in rw none refl
 
@@ -99,7 +109,8 @@ module _ (whole : Ran) (b : Board) (due : ℕ) (s out₀ : List ℕ) (st : State
     (h : Leaves whole b due s out₀ st calls at ended out) where
   -- After the last turn.
   pub last-turn : (ltb calls due && not ended) ≡ false
-      → (_≡_ {A = RanBlock} (record { state = st; calls = calls; written = at; ended = ended }) (ranBlock whole)) × (out ≡ overwritten out₀ 0 (whole .lines))
+      → (_≡_ {A = RanBlock} (record { state = st; calls = calls; written = at; ended = ended }) (ranBlock whole))
+      × (out ≡ overwritten out₀ 0 (whole .lines))
   last-turn e =
       let none = none-left b st calls due ended (drop (8 * calls) s) e in
       let size : at + 0 ≡ length (whole .lines) = rw none at (h .size) in
@@ -129,7 +140,8 @@ module _ (whole : Ran) (b : Board) (due : ℕ) (s out₀ : List ℕ) (st : State
 
     module _ (pairs : List ℕ) (table : pairs ≡ hexPairs) (r : Stands) (out′ : List ℕ)
         (told : r ≡ stands (recordStep pairs b st (take (length s - 8 * calls) (drop (8 * calls) s))) (length out) at)
-        (put : out′ ≡ lineBuffer (recordStep pairs b st (take (length s - 8 * calls) (drop (8 * calls) s)) .line) out at) where
+        (put : out′ ≡ lineBuffer (recordStep pairs b st (take (length s - 8 * calls) (drop (8 * calls) s)) .line) out
+        at) where
       -- All bytes from the position on are lent.
       lent : take (length s - 8 * calls) (drop (8 * calls) s) ≡ drop (8 * calls) s
       lent = take-all (length s - 8 * calls) (drop (8 * calls) s) (rw length-drop (le-refl _))
@@ -142,7 +154,8 @@ module _ (whole : Ran) (b : Board) (due : ℕ) (s out₀ : List ℕ) (st : State
 
       one-written : r .written ≡ length (step b st rest .line)
       unfolding stands
-      one-written = ap (λ (x : Stands). x .written) e ∙ ap (λ x. x .value) (fitting-line (step b st rest .line) out at line-fits)
+      one-written = ap (λ (x : Stands). x .written) e
+          ∙ ap (λ x. x .value) (fitting-line (step b st rest .line) out at line-fits)
 
       module _ (n : ℕ) (one : n ≡ boolByte (not (r .ended))) where
         one-call : r .ended ≡ false → n ≡ 1
@@ -152,7 +165,8 @@ module _ (whole : Ran) (b : Board) (due : ℕ) (s out₀ : List ℕ) (st : State
         later = remaining (r .ended) b (r .state) (due - (calls + n)) (drop (8 * (calls + n)) s)
 
         behind : (t : Bool) → n ≡ boolByte (not t)
-            → remaining t b (r .state) (due - (calls + 1)) (drop 8 rest) ≡ remaining t b (r .state) (due - (calls + n)) (drop (8 * (calls + n)) s)
+            → remaining t b (r .state) (due - (calls + 1)) (drop 8 rest)
+            ≡ remaining t b (r .state) (due - (calls + n)) (drop (8 * (calls + n)) s)
         behind true k = refl
         behind false k =
             let eight : 8 * calls + 8 ≡ 8 * (calls + 1) = omega arith in
@@ -164,18 +178,36 @@ module _ (whole : Ran) (b : Board) (due : ℕ) (s out₀ : List ℕ) (st : State
             let left-over : due - calls ≡ suc (due - (calls + 1)) = omega (arith, more) in
             let state : r .state ≡ step b st rest .state = ap (λ (x : Stands). x .state) e in
             let end : r .ended ≡ step b st rest .ended = ap (λ (x : Stands). x .ended) e in
-            rw (go-on, left-over, step-then-more b st (due - (calls + 1)) rest, ← end, ← state, ← one, behind (r .ended) one) refl
+            rw (
+              go-on,
+              left-over,
+              step-then-more b st (due - (calls + 1)) rest,
+              ← end,
+              ← state,
+              ← one,
+              behind
+                  (r .ended) one,
+            ) refl
 
         -- After a record.
-        pub next-turn : length out′ ≡ length out → Leaves whole b due s out₀ (r .state) (calls + n) (at + r .written) (r .ended) out′
+        pub next-turn : length out′ ≡ length out
+            → Leaves whole b due s out₀ (r .state) (calls + n) (at + r .written) (r .ended) out′
         next-turn kept =
-            let lines : remaining ended b st (due - calls) rest .lines ≡ step b st rest .line ++ later .lines = ap (λ (x : Ran). x .lines) split in
+            let lines : remaining ended b st (due - calls) rest .lines
+            ≡ step b st rest .line ++ later .lines = ap (λ (x : Ran). x .lines) split in
             record {
               some = omega (arith, more, one, at-most-one (r .ended));
               room = λ k. omega (arith, h .room go-on, one-call k, one-written, step-room b st rest);
               long = kept ∙ h .long;
-              stands = rw (eo, one-written) (over-over out at (step b st rest .line) (later .lines) line-fits ∙ ap (overwritten out at) (sym lines) ∙ h .stands);
-              size = omega (arith, one-written, h .size, ap length lines ∙ length-append (step b st rest .line) (later .lines));
+              stands = rw (eo, one-written) (over-over out at (step b st rest .line) (later .lines) line-fits
+                  ∙ ap (overwritten out at) (sym lines) ∙ h .stands);
+              size = omega (
+                arith,
+                one-written,
+                h .size,
+                ap length lines
+                    ∙ length-append (step b st rest .line) (later .lines),
+              );
               after = sym (ap (λ (x : Ran). x .state) split) ∙ h .after;
               counts = omega (arith, ap (λ (x : Ran). x .calls) split, h .counts);
               ends = sym (ap (λ (x : Ran). x .ended) split) ∙ h .ends;

@@ -65,7 +65,8 @@ module _ (b : Board) (st : State) (s : List ℕ) where
   unfolding recordStep callStep
   step-call e = rw (e, line-by-table (b .terms .processors) (callIn s) (answered b st (callIn s) .reply)) refl
 
-  step-refused : eqb (recordFault s) 0 ≡ false → step ≡ record { line = refusalLine (recordFault s); state = st; ended = true }
+  step-refused : eqb (recordFault s) 0 ≡ false → step
+      ≡ record { line = refusalLine (recordFault s); state = st; ended = true }
   unfolding recordStep
   step-refused e = rw e refl
 
@@ -73,7 +74,11 @@ module _ (b : Board) (st : State) (s : List ℕ) where
   pub step-room : length (step .line) ≤ lineRoom
   step-room =
       elim (found s) [
-        | call e ↦ rw (step-call e) (omega (arith, any-plans-call (b .terms .processors) (callIn s) (answered b st (callIn s) .reply)))
+        | call e ↦ rw (step-call e) (omega (
+          arith,
+          any-plans-call (b .terms .processors) (callIn s)
+              (answered b st (callIn s) .reply),
+        ))
         | refused e ↦ rw (step-refused e) (omega (arith, any-refusal (recordFault s)))
       ]
 
@@ -88,7 +93,8 @@ remaining ended b st k s = cond ended (record { lines = []; state = st; calls = 
 -- One step, and then what is left.
 pub step-then-more : (b : Board) (st : State) (k : ℕ) (s : List ℕ)
     → ran b st (suc k) s
-    ≡ front (step b st s .line) (boolByte (not (step b st s .ended))) (remaining (step b st s .ended) b (step b st s .state) k (drop recordSize s))
+    ≡ front (step b st s .line) (boolByte (not (step b st s .ended)))
+    (remaining (step b st s .ended) b (step b st s .state) k (drop recordSize s))
 step-then-more b st k s =
     elim (found s) [
       | call e ↦ rw (ran-call b st s k e, step-call b st s e, one-add)

@@ -32,7 +32,8 @@ over-over x at l m h =
     (simp (append-assoc, length-append, add-assoc))
 
 -- Records read only those parts of a board that a call reads.
-pub ran-reads : (b : Board) (k : ℕ) (st : State) (s : List ℕ) → ran (boardBy (b .terms) (b .rows) (b .lengths)) st k s ≡ ran b st k s
+pub ran-reads : (b : Board) (k : ℕ) (st : State) (s : List ℕ) → ran (boardBy (b .terms) (b .rows) (b .lengths)) st k s
+    ≡ ran b st k s
 unfolding ran
 ran-reads b zero st s = refl
 ran-reads b (suc k) st s =

@@ -28,7 +28,8 @@ pub struct Begun {
 // The first line of an accepted plan, or the line of the plan's refusal.
 fn opening_line(outcome: Outcome, plan: Plan, out: &mut [u8]) -> Outcome
     ensures outcome { λ r. ⌜
-        outcomeAsNumbers r ≡ lineAsNumbers (openingBy (outcomeAsNumbers outcome .number) plan) (length (now (out .entry))) 0
+        outcomeAsNumbers r
+        ≡ lineAsNumbers (openingBy (outcomeAsNumbers outcome .number) plan) (length (now (out .entry))) 0
         ⌝ }
     ensures written { λ _. ⌜
         now (out .exit) ≡ lineBuffer (openingBy (outcomeAsNumbers outcome .number) plan) (now (out .entry)) 0

@@ -43,7 +43,8 @@ pub fn replay_record(
         now (out .exit)
         ≡ lineBuffer
         (recordStep (now (pairs .entry)) (boardBy terms (now (rows .entry)) (now (lengths .entry)))
-        (stateBy moment (now (requested .entry)) (now (since .entry)) (now (earlier .entry))) (now (bytes .entry)) .line)
+        (stateBy moment (now (requested .entry)) (now (since .entry)) (now (earlier .entry)))
+        (now (bytes .entry)) .line)
         (now (out .entry)) at
         ⌝ }
 {

@@ -1,5 +1,5 @@
--- What an act that was carried out at a tick says: the answer of an accepted call, with the arrays as they are left.
--- Specification, clauses 4.6 and 4.7.
+-- The effect of a request that entered or left at a tick, as numbers: the answer to an accepted call, with the arrays
+-- after it. Specification, clauses 4.6 and 4.7.
 use Prim.Native.Nat.{ℕ}
 use mathlib.Core.List.{List}
 use Rattle.rules.specs.Calls.{Answer}

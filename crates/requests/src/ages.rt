@@ -1,5 +1,5 @@
-// What a state keeps of each processor's request beside its phase: who is earlier, and since when it holds or waits.
-// Specification, clauses 4.2 and 4.8. A processor that a state has no place for changes nothing.
+// What a state keeps for each processor's request in addition to its phase: who is earlier, and since when it holds or
+// waits. A processor that a state has no place for changes nothing. Specification, clauses 4.2 and 4.8.
 use masks::remove32;
 use plans::MAX_PROCESSORS;
 use rules::Phases;
@@ -14,7 +14,7 @@ ghost use Rattle.plans.specs.Entries.{maxProcessors};
 ghost use Rattle.masks.specs.Tabulation.{tabulate};
 ghost use Rattle.rules.specs.Acts.{putLast};
 
-// What the types of two lent arrays say, for the proofs. Compiled, there is nothing left of them.
+// These two give the proofs the lengths of two lent arrays. They compile to nothing.
 fn ticks_are_whole(since: [u64; MAX_PROCESSORS])
     ensures { λ r. ⌜ length since ≡ maxProcessors ⌝ }
 {}
@@ -30,7 +30,7 @@ pub fn all_but(processor: u8) -> u32
     remove32(ALL, processor as u32)
 }
 
-// Each set with just the places that are kept.
+// Each set with only the places that are kept.
 fn keep_each(sets: &mut [u32; MAX_PROCESSORS], keep: u32)
     ensures { λ r. ⌜ now (sets .exit) ≡ tabulate maxProcessors (λ q. bitAnd (getD (now (sets .entry)) q 0) keep) ⌝ }
 {
@@ -42,8 +42,8 @@ fn keep_each(sets: &mut [u32; MAX_PROCESSORS], keep: u32)
     }
 }
 
-// All that are active are earlier than the processor's new request, and it is earlier than none. The test comes first:
-// a call has made it already, and compiled into it this one is gone.
+// All active requests are earlier than the processor's new request, and it is earlier than none. A call has already
+// tested the processor: once this is inlined into the call, the compiler removes the test here.
 pub fn put_last(earlier: &mut [u32; MAX_PROCESSORS], phases: Phases, processor: u8)
     ensures { λ r. ⌜ now (earlier .exit) ≡ putLast (now (earlier .entry)) phases processor ⌝ }
 {
@@ -55,7 +55,7 @@ pub fn put_last(earlier: &mut [u32; MAX_PROCESSORS], phases: Phases, processor: 
     }
 }
 
-// The ticks with this one for the processors in the mask.
+// Stores this tick for the processors in the mask.
 pub fn stamp(since: &mut [u64; MAX_PROCESSORS], among: u32, tick: u64)
     ensures { λ r. ⌜ now (since .exit)
         ≡ tabulate maxProcessors (λ p. cond (bit among p) tick (getD (now (since .entry)) p 0)) ⌝ }

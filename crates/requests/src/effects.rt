@@ -1,8 +1,7 @@
-// What an act did: who began to hold by it, who became entitled, whether the hold that it ended was late, and the
-// phases that it leaves; and two acts answered as one. Specification, clauses 4.7 and 4.8.
+// The effect of a request that enters or leaves. Specification, clauses 4.7 and 4.8.
 use rules::Phases;
 
-// What an act that was carried out answers, and the phases that it leaves.
+// Who began to hold, who became entitled, whether the hold that ended was late, and the phases afterwards.
 pub struct Effect {
     pub granted: u32,
     pub entitled: u32,

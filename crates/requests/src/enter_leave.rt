@@ -1,5 +1,5 @@
-// An act carried out on the arrays of a state: a request enters or leaves, all requests are settled, and the answer has
-// who began to hold and who became entitled by it. Specification, clauses 4.4 to 4.8.
+// A request enters or leaves on the arrays of a state. All requests are settled, and the effect contains who began to
+// hold and who became entitled. Specification, clauses 4.4 to 4.8.
 use crate::effects::Effect;
 use crate::grants::accept;
 use crate::placing::settle_left;
@@ -19,8 +19,8 @@ ghost use Rattle.rules.specs.Calls.{done};
 ghost use Rattle.rules.specs.InPlace.{stateBy};
 ghost use Rattle.requests.specs.Effect.{effectAsNumbers};
 
-// The processor's request for the entry is put in, beside the requests of these phases. Who is earlier is told. It is
-// never late.
+// The processor's request for the entry enters, in addition to the requests of these phases. The caller gives who is
+// earlier. The effect is never late.
 pub fn enter(
     rows: &[u64; MAX_ENTRIES],
     writes: u64,
@@ -45,7 +45,7 @@ pub fn enter(
     accept(tick, phases, after, since, 0)
 }
 
-// The processor's request is taken out of the requests of these phases, and what is left is settled.
+// The processor's request leaves the requests of these phases, and the others are settled.
 pub fn leave(
     rows: &[u64; MAX_ENTRIES],
     writes: u64,

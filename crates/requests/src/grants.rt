@@ -1,5 +1,5 @@
-// What an act did, from the phases before and after all were settled: who began to hold by it and who became entitled.
-// Specification, clauses 4.6 to 4.8.
+// The effect of a request that enters or leaves, from the phases before and after settling: who began to hold and who
+// became entitled. Specification, clauses 4.6 to 4.8.
 use crate::ages::stamp;
 use crate::effects::Effect;
 use masks::without32;
@@ -12,7 +12,7 @@ ghost use Rattle.rules.specs.Calls.{done};
 ghost use Rattle.rules.specs.InPlace.{stateBy};
 ghost use Rattle.requests.specs.Effect.{effectAsNumbers};
 
-// The two masks. `before` has the request put in or taken out, `after` is settled. Those that began to hold have this
+// The two masks. In `before` the request has entered or left, and `after` is settled. Those that began to hold get this
 // tick.
 pub fn accept(
     tick: u64,

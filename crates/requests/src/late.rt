@@ -5,7 +5,7 @@ ghost use Prim.Native.Nat.{_-_};
 ghost use lib.Dec.{ltb};
 ghost use lib.ListN.{getD};
 
-// The ticks from one to the other. Clause 4.10: none where the time would run backwards.
+// The ticks from one to the other. Clause 4.10: 0 if the time would run backwards.
 fn ticks_between(from: u64, to: u64) -> u64
     ensures { λ r. ⌜ r ≡ to - from ⌝ }
 {

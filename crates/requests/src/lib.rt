@@ -1,4 +1,5 @@
-// A request enters or leaves: it is put in or taken out, all requests settle, and the masks and the late mark say what changed. Specification, section 4.
+// A request enters or leaves, all requests are settled, and an `Effect` contains what changed: two masks, the late mark
+// and the phases. `calls_in_place` uses it. Specification, section 4.
 mod ages;
 mod effects;
 mod enter_leave;

@@ -1,4 +1,4 @@
-// Two acts that are answered as one. Specification, clause 4.7.
+// Two effects merged into one answer. Specification, clause 4.7.
 use crate::effects::Effect;
 use settling::ALL;
 ghost use mathlib.Core.Path.{_≡_};
@@ -7,7 +7,8 @@ ghost use Prim.Native.Nat.{ℕ};
 ghost use Rattle.rules.specs.Calls.{both};
 ghost use Rattle.requests.specs.Effect.{effectAsNumbers};
 
-// The second was carried out right after the first. Who is no longer entitled after both is in no mask.
+// The second comes right after the first. A processor that is no longer entitled after both is not in the entitled
+// mask.
 pub fn merge(first: Effect, second: Effect) -> Effect
     ensures { λ r. ⌜ ((tick : ℕ) (requested requested₂ : List ℕ) (since since₂ : List ℕ) (earlier earlier₂ : List ℕ)
         → effectAsNumbers r tick requested₂ since₂ earlier₂

@@ -1,5 +1,5 @@
-// Where a call puts a request in and takes one out, and what is settled then. Specification, clauses 4.4 and 5.2. A
-// processor that a state has no place for changes nothing.
+// The phases after a request enters or leaves, and after all requests are settled. A processor that a state has no
+// place for changes nothing. Specification, clauses 4.4 and 5.2.
 use crate::ages::all_but;
 use masks::add32;
 use plans::MAX_ENTRIES;
@@ -12,7 +12,7 @@ ghost use Rattle.rules.specs.Requests.{factsBy};
 ghost use Rattle.rules.specs.Settling.{settled};
 ghost use Rattle.rules.specs.Acts.{putIn, takenOut};
 
-// The phases with the processor's new request put in, waiting.
+// The phases after the processor's new request enters. It waits.
 fn put_in(phases: Phases, processor: u8) -> Phases
     ensures { λ r. ⌜ r ≡ putIn phases processor ⌝ }
 {
@@ -23,8 +23,8 @@ fn put_in(phases: Phases, processor: u8) -> Phases
     }
 }
 
-// The phases with the processor's new request put in and settled. Where nobody else is active and nobody is earlier it
-// holds, read or write, and no row has to be looked at.
+// The phases after the processor's new request enters and all are settled. If nobody else is active and nobody is
+// earlier, it holds, read or write, and no row is read.
 pub fn settle_new(
     rows: &[u64; MAX_ENTRIES],
     writes: u64,
@@ -51,7 +51,7 @@ pub fn settle_new(
     settle(rows, writes, requested, earlier, put_in(phases, processor))
 }
 
-// The phases with the processor's request taken out.
+// The phases after the processor's request leaves.
 pub fn take_out(phases: Phases, processor: u8) -> Phases
     ensures { λ r. ⌜ r ≡ takenOut phases processor ⌝ }
 {
@@ -63,8 +63,8 @@ pub fn take_out(phases: Phases, processor: u8) -> Phases
     }
 }
 
-// The phases of the requests that are left, settled. Where nobody waits or is entitled there is nothing to settle: a
-// request that is put in always waits, so this test stands here alone.
+// The phases of the requests that are left, settled. If nobody waits or is entitled there is nothing to settle. A new
+// request always waits, so only this function needs the test.
 pub fn settle_left(
     rows: &[u64; MAX_ENTRIES],
     writes: u64,

@@ -1,4 +1,4 @@
-// One place of an array of a state. A processor that it has no place for changes nothing.
+// Stores into one place of an array of a state. A processor that the array has no place for changes nothing.
 ghost use mathlib.Core.Path.{_≡_};
 ghost use lib.ListN.{set};
 

@@ -1,5 +1,5 @@
--- Settling moves requests from phase to phase and leaves who is active, so one mask of the active writes serves all
--- four steps. Assumes nothing.
+-- Settling moves requests from phase to phase and does not change which are active. So one mask of the active writes
+-- serves all four steps. Assumes nothing.
 use mathlib.Core.Path.{_≡_, refl, ap, ap₂, _∙_}
 use mathlib.Core.Bool.{Bool, true, false, not, _&&_, _||_, false≢true, and-true, or-true, or-false}
 use Prim.Native.Nat.{ℕ, _<_}
@@ -13,7 +13,8 @@ use Rattle.rules.specs.declared.states.Phases.{Phases}
 
 -- ---- a phase is within the active ones
 
-pub unsatisfied-active : (ph : Phases) (p : ℕ) → (bit (ph .waiting) p || bit (ph .entitled) p) ≡ true → active ph p ≡ true
+pub unsatisfied-active : (ph : Phases) (p : ℕ) → (bit (ph .waiting) p || bit (ph .entitled) p) ≡ true → active ph p
+    ≡ true
 unsatisfied-active ph p e = or-left (bit (ph .waiting) p || bit (ph .entitled) p) (bit (ph .holding) p) e
 
 pub waiting-active : (ph : Phases) (p : ℕ) → bit (ph .waiting) p ≡ true → active ph p ≡ true
@@ -25,7 +26,7 @@ entitled-active ph p e = unsatisfied-active ph p (or-right (bit (ph .waiting) p)
 pub holding-active : (ph : Phases) (p : ℕ) → bit (ph .holding) p ≡ true → active ph p ≡ true
 holding-active ph p e = or-right (bit (ph .waiting) p || bit (ph .entitled) p) (bit (ph .holding) p) e
 
--- So of a phase's requests the active writes are the writes.
+-- So the active writes in a phase are the writes of the phase.
 pub within-and : (p a w : Bool) → (p ≡ true → a ≡ true) → (p && (a && w)) ≡ (p && w)
 within-and false a w h = refl
 within-and true a w h = ap (λ t. t && w) (h refl)
@@ -36,7 +37,8 @@ within-not true a w h = ap (λ t. not (t && w)) (h refl)
 
 -- ---- a move from phase to phase
 
-held-same : (x e h t : Bool) → (t ≡ true → (x || e) ≡ true) → (((x && not t) || (e && not t)) || (h || t)) ≡ ((x || e) || h)
+held-same : (x e h t : Bool) → (t ≡ true → (x || e) ≡ true) → (((x && not t) || (e && not t)) || (h || t))
+    ≡ ((x || e) || h)
 held-same x e h false i = λ k. ((and-true x k || and-true e k) || or-false h k)
 held-same true e h true i = ap (λ u. (e && false) || u) (or-true h) ∙ or-true (e && false)
 held-same false true h true i = or-true h
@@ -48,7 +50,8 @@ entitled-same true e h true i = ap (λ u. u || h) (or-true e)
 entitled-same false e h true i = absurd (false≢true (i refl))
 
 module _ (ph : Phases) (test : ℕ → Bool) (p : ℕ) (l : p < maxProcessors) where
-  pub active-held : (test p ≡ true → (bit (ph .waiting) p || bit (ph .entitled) p) ≡ true) → active (hold ph test) p ≡ active ph p
+  pub active-held : (test p ≡ true → (bit (ph .waiting) p || bit (ph .entitled) p) ≡ true) → active (hold ph test) p
+      ≡ active ph p
   active-held i =
       (λ k.
       ((bit-mask-at maxProcessors (λ q. bit (ph .waiting) q && not (test q)) p l k

@@ -1,4 +1,4 @@
--- A new read that nothing stops may as well hold before step 1: settling gives the same. Assumes nothing.
+-- A new read that nothing stops may hold before step 1: settling gives the same phases. Assumes nothing.
 use mathlib.Core.Path.{_≡_, refl, sym, ap, ap₂, subst, _∙_}
 use mathlib.Core.Bool.{Bool, true, false, not, _&&_, _||_, and-true, and-false, or-false}
 use Prim.Native.Nat.{ℕ, _<_}
@@ -13,8 +13,8 @@ use Rattle.rules.specs.Requests.{Facts, isWriter, conflicts, against, ho
 use Rattle.rules.specs.Settling.{hold, test1, step1, step2, step3, step4, settled, holdsAtOnce, admitted}
 use Rattle.rules.specs.declared.states.Phases.{Phases}
 
--- Of a processor: w, e and h are its bits in the three phases, t whether it was let to hold, r whether its request is a
--- read, a and b whether an entitled and a holding write is against it.
+-- For one processor: w, e and h are its bits in the three phases, t is whether it holds at once, r is whether its
+-- request is a read, and a and b are whether an entitled write and a holding write conflict with it.
 module _ (w e h t r a b : Bool) where
   abbrev passes : Bool
   passes = (e && r || w && r && not a) && not b
@@ -54,11 +54,13 @@ same w e h false r a b i = subst (λ u. Same u e h false r a b) refl (plain w e 
         }
 
 out : (x t w : Bool) → (t ≡ true → w ≡ false) → (x && not t && w) ≡ (x && w)
-out x true w i = ap (λ u. x && false && u) (i refl) ∙ and-false (x && false) ∙ sym (ap (λ u. x && u) (i refl) ∙ and-false x)
+out x true w i = ap (λ u. x && false && u) (i refl) ∙ and-false (x && false)
+    ∙ sym (ap (λ u. x && u) (i refl) ∙ and-false x)
 out x false w i = ap (λ u. u && w) (and-true x)
 
 into : (x t w : Bool) → (t ≡ true → w ≡ false) → ((x || t) && w) ≡ (x && w)
-into x true w i = ap (λ u. (x || true) && u) (i refl) ∙ and-false (x || true) ∙ sym (ap (λ u. x && u) (i refl) ∙ and-false x)
+into x true w i = ap (λ u. (x || true) && u) (i refl) ∙ and-false (x || true)
+    ∙ sym (ap (λ u. x && u) (i refl) ∙ and-false x)
 into x false w i = ap (λ u. u && w) (or-false x)
 
 module _ (f : Facts) (ph : Phases) (p : ℕ) (waits : bit (ph .waiting) p ≡ true) where
@@ -69,7 +71,7 @@ module _ (f : Facts) (ph : Phases) (p : ℕ) (waits : bit (ph .waiting) p ≡ tr
   abbrev after : Phases
   after = hold ph newcomer
 
-  -- The newcomer waits, is a read, and no entitled and no holding write is against it.
+  -- The new request waits and is a read, and no entitled and no holding write conflicts with it.
   newcomer-free : (q : ℕ) → newcomer q ≡ true
       → (bit (ph .waiting) q ≡ true) × (not (isWriter f q) ≡ true)
       × (against f q (entitledWrite f ph) ≡ false) × (against f q (holdingWrite f ph) ≡ false)
@@ -131,7 +133,8 @@ module _ (f : Facts) (ph : Phases) (p : ℕ) (waits : bit (ph .waiting) p ≡ tr
     unfolding test1
     test-after =
         λ k.
-        (at-e k && not (isWriter f q) || at-w k && not (isWriter f q) && not (same-entitled q k)) && not (same-holding q k)
+        (at-e k && not (isWriter f q) || at-w k && not (isWriter f q) && not (same-entitled q k))
+        && not (same-holding q k)
 
     moves : Same w e (bit (ph .holding) q) (newcomer q) (not (isWriter f q)) a b
     moves = same w e (bit (ph .holding) q) (newcomer q) (not (isWriter f q)) a b (newcomer-free q)
@@ -140,12 +143,15 @@ module _ (f : Facts) (ph : Phases) (p : ℕ) (waits : bit (ph .waiting) p ≡ tr
   unfolding test1 step1 admitted
   held-before-step-1 =
       λ i. record {
-        waiting = mask-agree maxProcessors _ _ (λ q l. ap₂ (λ u v. u && not v) (at-w q l) (test-after q l) ∙ moves q l .waits) i;
-        entitled = mask-agree maxProcessors _ _ (λ q l. ap₂ (λ u v. u && not v) (at-e q l) (test-after q l) ∙ moves q l .entitles) i;
-        holding = mask-agree maxProcessors _ _ (λ q l. ap₂ (λ u v. u || v) (at-h q l) (test-after q l) ∙ moves q l .holds) i;
+        waiting = mask-agree maxProcessors _ _
+            (λ q l. ap₂ (λ u v. u && not v) (at-w q l) (test-after q l) ∙ moves q l .waits) i;
+        entitled = mask-agree maxProcessors _ _
+            (λ q l. ap₂ (λ u v. u && not v) (at-e q l) (test-after q l) ∙ moves q l .entitles) i;
+        holding = mask-agree maxProcessors _ _
+            (λ q l. ap₂ (λ u v. u || v) (at-h q l) (test-after q l) ∙ moves q l .holds) i;
       }
 
--- Clause 5.1: a new request that may hold at once could do so before step 1, and all would be as it is.
+-- Clause 5.1: if a new request that may hold at once did so before step 1, nothing would change.
 pub at-once-is-step-1 : (f : Facts) (ph : Phases) (p : ℕ) → bit (ph .waiting) p ≡ true
     → settled f (admitted f ph p) ≡ settled f ph
 unfolding settled

@@ -1,5 +1,5 @@
--- The halves of a handover that is not refused: neither is refused, on any state value. So 13 is never due for its
--- issue. Assumes nothing.
+-- If a handover is not refused, neither of its halves is refused, on any state value. So 13 is never due for its issue.
+-- Assumes nothing.
 use mathlib.Core.Path.{_≡_, refl, sym, ap, ap₂, _∙_}
 use mathlib.Core.Bool.{Bool, true, false, cond, not, _&&_, _||_, false≢true, and-false}
 use mathlib.Core.List.{List}
@@ -24,9 +24,10 @@ use Rattle.rules.specs.declared.states.State.{State}
 use Rattle.rules.specs.CountedRequests.{hasProcessor, inPlan, isWaiting, isEntitled, isHolding, cleaned}
 use Rattle.rules.specs.Faults.{tickFault, processorFault, issueFault, completeFault, handoverFault}
 use Rattle.rules.specs.Acts.{takenOut}
-use Rattle.rules.specs.Calls.{Answer, phasesOf, factsOf, takenState, done, ruled, settledDone, lateMark, left, completed}
+use Rattle.rules.specs.Calls.{Answer, phasesOf, factsOf, takenState, done, ruled, settledDone, lateMark, left}
+use Rattle.rules.specs.Calls.{completed}
 
--- ---- who is active stays so while requests are settled
+-- ---- settling leaves every active request active
 
 unsatisfied-by-1 : (w e wr a h : Bool) → (((e && not wr) || ((w && not wr) && not a)) && not h) ≡ true → (w || e) ≡ true
 unsatisfied-by-1 true e wr a h _ = refl
@@ -63,7 +64,7 @@ module _ (f : Facts) (p : ℕ) (l : p < maxProcessors) where
   unfolding settled
   active-settled ph = active-4 _ ∙ active-3 _ ∙ active-2 _ ∙ active-1 ph
 
--- ---- who was taken out is idle
+-- ---- a processor is idle after its request left
 
 none-of : (w e h : Bool) → (w || e || h) ≡ false → (w ≡ false) × (e ≡ false) × (h ≡ false)
 none-of true e h t = absurd (false≢true (sym t))
@@ -77,12 +78,14 @@ taken-idle ph p l = λ i. (out (ph .waiting) i || out (ph .entitled) i || out (p
     out : (n : ℕ) → bit (maskOf maxProcessors (λ q. bit n q && not (eqb q p))) p ≡ false
     out n = bit-mask-at maxProcessors _ p l ∙ ap (λ t. bit n p && not t) (eq-eqb p p refl) ∙ and-false (bit n p)
 
-idle-cleaned : (terms : Terms) (entry : List ℕ) (ph : Phases) (p : ℕ) → p < maxProcessors → active ph p ≡ false → active (cleaned terms entry ph) p ≡ false
+idle-cleaned : (terms : Terms) (entry : List ℕ) (ph : Phases) (p : ℕ) → p < maxProcessors → active ph p ≡ false
+    → active (cleaned terms entry ph) p ≡ false
 unfolding isWaiting isEntitled isHolding cleaned
 idle-cleaned terms entry ph p l idle =
     λ i. ((bit-mask-at maxProcessors (isWaiting terms entry ph) p l ∙ gone _ _ (no .0)) i
     || (bit-mask-at maxProcessors (isEntitled terms entry ph) p l ∙ gone _ _ (no .1)) i
-    || (bit-mask-at maxProcessors (isHolding terms entry ph) p l ∙ ap (λ t. inPlan terms entry p && t) (no .2) ∙ and-false (inPlan terms entry p)) i)
+    || (bit-mask-at maxProcessors (isHolding terms entry ph) p l ∙ ap (λ t. inPlan terms entry p && t) (no .2)
+    ∙ and-false (inPlan terms entry p)) i)
   where
     no : (bit (ph .waiting) p ≡ false) × (bit (ph .entitled) p ≡ false) × (bit (ph .holding) p ≡ false)
     no = none-of (bit (ph .waiting) p) (bit (ph .entitled) p) (bit (ph .holding) p) idle
@@ -93,7 +96,7 @@ idle-cleaned terms entry ph p l idle =
 -- ---- a handover that is not refused
 
 module _ (b : Board) (s : State) (p e t : ℕ) (ok : handoverFault (b .terms) (s .last) (phasesOf b s) p e t ≡ 0) where
-  -- Its tick, its processor and its entry pass, and its processor's request holds.
+  -- Its tick, its processor and its entry pass their checks, and its processor's request holds.
   record Passed : Type 0 where
     in-time : (leb (s .last) t && leb t 1099511627775) ≡ true
     in-plan : hasProcessor (b .terms) p ≡ true
@@ -122,7 +125,7 @@ module _ (b : Board) (s : State) (p e t : ℕ) (ok : handoverFault (b .terms) (s
       first-passes (tickFault (s .last) t) _ (due-passed _ 10 (passed .in-time))
       ∙ first-passes (processorFault (b .terms) p) _ (due-passed _ 11 (passed .in-plan)) ∙ passed .held
 
-  -- So the state after the first half is that of the completion carried out.
+  -- So the state after the first half is the state after the accepted completion.
   pub first-half : completed b s p t ≡ settledDone b (takenState b s p t) (lateMark b s p t)
   unfolding left completed
   first-half =
@@ -139,12 +142,14 @@ module _ (b : Board) (s : State) (p e t : ℕ) (ok : handoverFault (b .terms) (s
   unfolding takenState done settledDone
   last-after = ap (λ a. a .state .last) first-half
 
-  pub issue-accepted : issueFault (b .terms) (completed b s p t .state .last) (phasesOf b (completed b s p t .state)) p e t ≡ 0
+  pub issue-accepted : issueFault (b .terms) (completed b s p t .state .last)
+      (phasesOf b (completed b s p t .state)) p e t ≡ 0
   unfolding issueFault
   issue-accepted =
       first-passes (tickFault (completed b s p t .state .last) t) _
       (due-passed _ 10
-      (ap₂ _&&_ (ap (λ n. leb n t) last-after ∙ le-leb t t (omega arith)) (and-right (leb (s .last) t) _ (passed .in-time))))
+      (ap₂ _&&_ (ap (λ n. leb n t) last-after ∙ le-leb t t (omega arith))
+      (and-right (leb (s .last) t) _ (passed .in-time))))
       ∙ first-passes (processorFault (b .terms) p) _ (due-passed _ 11 (passed .in-plan))
       ∙ first-passes (due (ltb e (b .terms .count)) 12) _ (due-passed _ 12 (passed .listed))
       ∙ due-passed _ 13 (ap not idle-after)

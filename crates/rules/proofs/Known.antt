@@ -1,5 +1,5 @@
--- The processors whose requests' entries have a row: masks of them alone, and that the others play no part in the
--- steps. Assumes nothing.
+-- The known processors: those whose requests' entries have a row. Masks of them alone, and that the steps ignore the
+-- others. Assumes nothing.
 use mathlib.Core.Path.{_≡_, refl, sym, ap, ap₂, _∙_}
 use mathlib.Core.Bool.{Bool, true, false, not, _&&_, _||_, and-true, and-false}
 use mathlib.Core.List.{List}
@@ -25,7 +25,8 @@ use Rattle.rules.proofs.FourSteps.{fit}
 -- ---- masks of such processors alone
 
 module _ {entry : List ℕ} where
-  pub known-kept : {a b : ℕ} (P : ℕ → Bool) → Known entry a → b ≡ maskOf maxProcessors (λ p. bit a p && P p) → Known entry b
+  pub known-kept : {a b : ℕ} (P : ℕ → Bool) → Known entry a → b ≡ maskOf maxProcessors (λ p. bit a p && P p)
+      → Known entry b
   known-kept {a} {b} P h e =
       record {
         within = rw e (mask-below maxProcessors _);
@@ -40,7 +41,8 @@ module _ {entry : List ℕ} where
         within = rw e (mask-below maxProcessors _);
         entries = λ p i.
             ltb-true (getD entry p 0) maxEntries (and-right (ltb p maxProcessors) (ltb (getD entry p 0) maxEntries)
-            (sym (bit-mask maxProcessors (λ p. ltb (getD entry p 0) maxEntries) p) ∙ ap (λ (x : ℕ). bit x p) (sym e) ∙ i));
+            (sym (bit-mask maxProcessors (λ p. ltb (getD entry p 0) maxEntries) p) ∙ ap (λ (x : ℕ). bit x p) (sym e)
+            ∙ i));
       }
 
   pub and-known : {b : ℕ} (a : ℕ) → Known entry b → Known entry (bitAnd a b)
@@ -64,7 +66,7 @@ module _ {entry : List ℕ} where
         entries = λ p i. ⊎-elim (h .entries p) (g .entries p) (or-cases (bit a p) (bit b p) (sym (bit-or a b p) ∙ i));
       }
 
--- ---- the others are no writes and conflict with none
+-- ---- the others' requests are not writes and conflict with none
 
 abbrev hasRow : Facts → ℕ → Bool
 hasRow f p = ltb (entryOf f p) maxEntries
@@ -73,8 +75,9 @@ module _ (f : Facts) (small : f .writes < 2 ^ maxEntries) where
   pub unknown-read : (p : ℕ) → hasRow f p ≡ false → isWriter f p ≡ false
   unknown-read p e = bit-past maxEntries (f .writes) (entryOf f p) small (ltb-false (entryOf f p) maxEntries e)
 
-  -- A test that the others fail passes the same ones of a mask and of its known processors.
-  known-alone : {k : ℕ} (a : ℕ) (P : ℕ → Bool) → k ≡ knownIn (f .requested) → ((p : ℕ) → hasRow f p ≡ false → P p ≡ false)
+  -- A test that the others fail selects the same processors from a mask and from its known processors.
+  known-alone : {k : ℕ} (a : ℕ) (P : ℕ → Bool) → k ≡ knownIn (f .requested)
+      → ((p : ℕ) → hasRow f p ≡ false → P p ≡ false)
       → (p : ℕ) → p < maxProcessors → (bit (bitAnd a k) p && P p) ≡ (bit a p && P p)
   known-alone {k} a P e none p l =
       ap (λ t. t && P p) (bit-and a k p ∙ ap (λ t. bit a p && t) (bit-is {P = hasRow f} (record { is = e }) p l))
@@ -86,7 +89,8 @@ module _ (f : Facts) (small : f .writes < 2 ^ maxEntries) where
       at false false t h = refl
 
   pub known-writers : {k : ℕ} (a : ℕ) → k ≡ knownIn (f .requested)
-      → maskOf maxProcessors (λ p. bit (bitAnd a k) p && isWriter f p) ≡ maskOf maxProcessors (λ p. bit a p && isWriter f p)
+      → maskOf maxProcessors (λ p. bit (bitAnd a k) p && isWriter f p)
+      ≡ maskOf maxProcessors (λ p. bit a p && isWriter f p)
   known-writers a e = mask-agree maxProcessors _ _ (known-alone a (isWriter f) e unknown-read)
 
 module _ (f : Facts) (table : Table (f .rows)) where
@@ -103,23 +107,27 @@ module _ (f : Facts) (table : Table (f .rows)) where
   unknown-opposes-none p q e =
       bit-past maxEntries _ (entryOf f q) (table .places (entryOf f p)) (ltb-false (entryOf f q) maxEntries e)
 
-  -- So of the others only the known ones matter.
-  unopposed-same : {P Q : ℕ → Bool} {x y : ℕ} (c : ℕ) → ((q : ℕ) → hasRow f q ≡ true → P q ≡ Q q) → Mask maxProcessors P x → Mask maxProcessors Q y
+  -- So among the opposing processors only the known ones matter.
+  unopposed-same : {P Q : ℕ → Bool} {x y : ℕ} (c : ℕ) → ((q : ℕ) → hasRow f q ≡ true → P q ≡ Q q)
+      → Mask maxProcessors P x → Mask maxProcessors Q y
       → unopposedIn f c x ≡ unopposedIn f c y
   unopposed-same {P} {Q} {x} {y} c same mx my =
-      mask-agree maxProcessors _ _ (λ p l. ap (λ t. bit c p && not t) (some-agree maxProcessors _ _ (λ q m. at p q m (hasRow f q) refl)))
+      mask-agree maxProcessors _ _ (λ p l. ap (λ t. bit c p && not t)
+      (some-agree maxProcessors _ _ (λ q m. at p q m (hasRow f q) refl)))
     where
-      at : (p q : ℕ) → q < maxProcessors → (t : Bool) → hasRow f q ≡ t → (bit x q && conflicts f p q) ≡ (bit y q && conflicts f p q)
+      at : (p q : ℕ) → q < maxProcessors → (t : Bool) → hasRow f q ≡ t → (bit x q && conflicts f p q)
+          ≡ (bit y q && conflicts f p q)
       at p q m true e = ap (λ t. t && conflicts f p q) (bit-is mx q m ∙ same q e ∙ sym (bit-is my q m))
       at p q m false e =
           let none = unknown-opposes-none p q e in
           ap (λ t. bit x q && t) none ∙ and-false (bit x q) ∙ sym (ap (λ t. bit y q && t) none ∙ and-false (bit y q))
 
-unopposed-of : (f : Facts) {P : ℕ → Bool} {c : ℕ} (o : ℕ) → Mask maxProcessors P c → Mask maxProcessors (λ p. P p && not (against f p (bit o))) (unopposedIn f c o)
+unopposed-of : (f : Facts) {P : ℕ → Bool} {c : ℕ} (o : ℕ) → Mask maxProcessors P c
+    → Mask maxProcessors (λ p. P p && not (against f p (bit o))) (unopposedIn f c o)
 unopposed-of f o m =
     record { is = mask-agree maxProcessors _ _ (λ p l. ap (λ t. t && not (against f p (bit o))) (bit-is m p l)) }
 
--- ---- the masks of each step, with the known reads for the reads
+-- ---- the masks of each step, with the known reads in place of the reads
 
 clauses1-unknown : (e x a b : Bool)
     → ((x || e) && true || (e && false || x && false && not a) && not b) ≡ ((e && true || x && true && true) && true)
@@ -137,15 +145,18 @@ clauses1 e x false w a b h =
     ∙ sym (λ i. (e && not (h refl .0 i) || x && not (h refl .0 i) && not (h refl .1 i)) && not (h refl .2 i))
 
 clauses4 : (x k w a b : Bool) → (k ≡ false → a ≡ false)
-    → (x && (k && not w) && not (x && (k && not w) && not a) && not b) ≡ (x && not w && not (x && not w && not a) && not b)
+    → (x && (k && not w) && not (x && (k && not w) && not a) && not b)
+    ≡ (x && not w && not (x && not w && not a) && not b)
 clauses4 true true w a b h = refl
 clauses4 true false true a b h = refl
 clauses4 true false false a b h = sym (ap (λ t. not (not t) && not b) (h refl))
 clauses4 false k w a b h = refl
 
-module _ (f : Facts) (table : Table (f .rows)) {W : ℕ → Bool} {k w : ℕ} (all : k ≡ knownIn (f .requested)) (writes : Mask maxProcessors W w)
+module _ (f : Facts) (table : Table (f .rows)) {W : ℕ → Bool} {k w : ℕ} (all : k ≡ knownIn (f .requested))
+    (writes : Mask maxProcessors W w)
     (none : (p : ℕ) → hasRow f p ≡ false → W p ≡ false) where
-  known-reads : {P : ℕ → Bool} {a : ℕ} → Mask maxProcessors P a → Mask maxProcessors (λ p. P p && (hasRow f p && not (W p))) (bitAnd a (without 32 k w))
+  known-reads : {P : ℕ → Bool} {a : ℕ} → Mask maxProcessors P a
+      → Mask maxProcessors (λ p. P p && (hasRow f p && not (W p))) (bitAnd a (without 32 k w))
   known-reads m = and-is m (without-is {P = hasRow f} 32 fit (record { is = all }) writes)
 
   reads : {P : ℕ → Bool} {a : ℕ} → Mask maxProcessors P a → Mask maxProcessors (λ p. P p && not (W p)) (without 32 a w)
@@ -168,9 +179,11 @@ module _ (f : Facts) (table : Table (f .rows)) {W : ℕ → Bool} {k w : ℕ} (a
   pub known2 : {P Q : ℕ → Bool} {b e : ℕ} (c : ℕ) → Mask maxProcessors Q b → Mask maxProcessors P e
       → unopposedIn f c (bitOr b (bitAnd e (without 32 k w))) ≡ unopposedIn f c (bitOr b (without 32 e w))
   known2 {P} {Q} c mb m =
-      unopposed-same f table c (λ q n. ap (λ t. Q q || P q && (t && not (W q))) n) (or-is mb (known-reads m)) (or-is mb (reads m))
+      unopposed-same f table c (λ q n. ap (λ t. Q q || P q && (t && not (W q))) n) (or-is mb (known-reads m))
+      (or-is mb (reads m))
 
-  pub known3 : {P : ℕ → Bool} {h : ℕ} (c : ℕ) → Mask maxProcessors P h → unopposedIn f c (bitAnd h (without 32 k w)) ≡ unopposedIn f c (without 32 h w)
+  pub known3 : {P : ℕ → Bool} {h : ℕ} (c : ℕ) → Mask maxProcessors P h → unopposedIn f c (bitAnd h (without 32 k w))
+      ≡ unopposedIn f c (without 32 h w)
   known3 {P} c m = unopposed-same f table c (λ q n. ap (λ t. P q && (t && not (W q))) n) (known-reads m) (reads m)
 
   pub known4 : {P : ℕ → Bool} {x : ℕ} (o b : ℕ) → Mask maxProcessors P x
@@ -179,6 +192,7 @@ module _ (f : Facts) (table : Table (f .rows)) {W : ℕ → Bool} {k w : ℕ} (a
   known4 {P} o b m =
       same-is
       (agree-is
-      (λ p l. clauses4 (P p) (hasRow f p) (W p) (against f p (bit o)) (against f p (bit b)) (unknown-against f table p (bit o)))
+      (λ p l. clauses4 (P p) (hasRow f p) (W p) (against f p (bit o)) (against f p (bit b))
+      (unknown-against f table p (bit o)))
       (unopposed-of f b (without-is 32 fit (known-reads m) (unopposed-of f o (known-reads m)))))
       (unopposed-of f b (without-is 32 fit (reads m) (unopposed-of f o (reads m))))

@@ -1,4 +1,4 @@
--- The two acts that calls are made of: a request is put in, or taken out. Specification, section 4.
+-- The two changes that calls are made of: a request enters (`putIn`) or leaves (`takenOut`). Specification, section 4.
 use Prim.Native.Nat.{ℕ}
 use mathlib.Core.Bool.{Bool, cond, not, _&&_, _||_}
 use mathlib.Core.List.{List}
@@ -10,7 +10,7 @@ use Rattle.masks.specs.Tabulation.{tabulate}
 use Rattle.rules.specs.declared.states.Phases.{Phases}
 use Rattle.rules.specs.Requests.{active}
 
--- Clauses 4.4 and 5.1: the phases with processor p's request put in, waiting.
+-- Clauses 4.4 and 5.1: the phases after processor p's request enters. It waits.
 unfoldable pub putIn : Phases → ℕ → Phases
 putIn ph p =
     record {
@@ -19,13 +19,15 @@ putIn ph p =
       holding = ph .holding;
     }
 
--- Clause 4.2: who is earlier, with p's request put in last: all that are active are earlier than it, and it than none.
+-- Clause 4.2: who is earlier once p's request enters last: all active requests are earlier than it, and it is earlier
+-- than none.
 unfoldable pub putLast : List ℕ → Phases → ℕ → List ℕ
 putLast earlier ph p =
     tabulate maxProcessors
-    (λ q. cond (eqb q p) (maskOf maxProcessors (active ph)) (maskOf maxProcessors (λ r. bit (getD earlier q 0) r && not (eqb r p))))
+    (λ q. cond (eqb q p) (maskOf maxProcessors (active ph))
+    (maskOf maxProcessors (λ r. bit (getD earlier q 0) r && not (eqb r p))))
 
--- Clause 4.4: the phases with processor p's request taken out, in whatever phase it is.
+-- Clause 4.4: the phases after processor p's request leaves, whatever its phase was.
 unfoldable pub takenOut : Phases → ℕ → Phases
 takenOut ph p =
     record {
@@ -34,7 +36,7 @@ takenOut ph p =
       holding = maskOf maxProcessors (λ q. bit (ph .holding) q && not (eqb q p));
     }
 
--- Clause 4.7: processor p began to hold: `before` is with the request put in or taken out, `after` is settled.
+-- Clause 4.7: processor p began to hold. In `before` the request has entered or left, and `after` is settled.
 abbrev pub began : Phases → Phases → ℕ → Bool
 began before after p = bit (after .holding) p && not (bit (before .holding) p)
 
@@ -42,6 +44,6 @@ began before after p = bit (after .holding) p && not (bit (before .holding) p)
 abbrev pub became : Phases → Phases → ℕ → Bool
 became before after p = bit (after .entitled) p && not (bit (before .entitled) p)
 
--- Clause 4.8: the tick of the call for those that began to hold by it, and the old one for all others.
+-- Clause 4.8: the call's tick for those that began to hold in it, and the old tick for all others.
 unfoldable pub stamped : List ℕ → Phases → Phases → ℕ → List ℕ
 stamped since before after t = tabulate maxProcessors (λ p. cond (began before after p) t (getD since p 0))

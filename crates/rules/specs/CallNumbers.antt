@@ -18,13 +18,14 @@ callAsNumbers (Call.Complete p t) = record { verb = 1; processor = p; entry = 0;
 callAsNumbers (Call.Withdraw p t) = record { verb = 2; processor = p; entry = 0; tick = t }
 callAsNumbers (Call.Handover p e t) = record { verb = 3; processor = p; entry = e; tick = t }
 
--- The call that some fields say: 0 issues, 1 completes, 2 withdraws, any other verb hands over. Which verbs are taken,
--- a log's reader says.
+-- The call with these fields: 0 issues, 1 completes, 2 withdraws, any other verb hands over. The reader of a log
+-- decides which verbs are accepted.
 abbrev pub callOf : Fields → Call
 callOf f =
     cond (eqb (f .verb) 0) (Call.Issue (f .processor) (f .entry) (f .tick))
     (cond (eqb (f .verb) 1) (Call.Complete (f .processor) (f .tick))
-    (cond (eqb (f .verb) 2) (Call.Withdraw (f .processor) (f .tick)) (Call.Handover (f .processor) (f .entry) (f .tick))))
+    (cond (eqb (f .verb) 2) (Call.Withdraw (f .processor) (f .tick))
+    (Call.Handover (f .processor) (f .entry) (f .tick))))
 
 abbrev pub tickOf : Call → ℕ
 tickOf (Call.Issue p e t) = t

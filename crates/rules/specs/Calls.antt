@@ -16,7 +16,7 @@ use Rattle.rules.specs.CountedRequests.{cleaned}
 use Rattle.rules.specs.Faults.{issueFault, completeFault, withdrawFault, handoverFault}
 use Rattle.rules.specs.Acts.{putIn, putLast, takenOut, began, became, stamped}
 
--- What settling goes by, of a board and a state.
+-- What settling uses from a board and a state.
 abbrev pub factsOf : Board → State → Facts
 factsOf b s = factsBy (b .rows) (b .terms .writes) (s .requested) (s .earlier)
 
@@ -24,7 +24,7 @@ factsOf b s = factsBy (b .rows) (b .terms .writes) (s .requested) (s .earlier)
 abbrev pub phasesOf : Board → State → Phases
 phasesOf b s = cleaned (b .terms) (s .requested) (s .phases)
 
--- Clause 4.4: the state, of requests that count, with processor p's request for entry e put in at tick t.
+-- Clause 4.4: the state, with only the requests that count, after processor p's request for entry e enters at tick t.
 unfoldable pub putState : Board → State → ℕ → ℕ → ℕ → State
 putState b s p e t =
     record {
@@ -35,7 +35,7 @@ putState b s p e t =
       requested = set (s .requested) p e;
     }
 
--- Clause 4.4: the state, of requests that count, with processor p's taken out at tick t.
+-- Clause 4.4: the state, with only the requests that count, after processor p's request leaves at tick t.
 unfoldable pub takenState : Board → State → ℕ → ℕ → State
 takenState b s p t =
     record {
@@ -51,8 +51,9 @@ pub record Answer : Type 0 where
   pub reply : Response
   pub state : State
 
--- Clauses 4.6 and 4.7: what an accepted call answers and leaves. The state x has the request put in or taken out, and
--- `after` are the phases that settling left: who holds or is entitled in them and was not in x goes into the masks.
+-- Clauses 4.6 and 4.7: the answer to an accepted call, and the state after it. In the state x the request has entered
+-- or left, and `after` are the phases after settling. The masks contain who holds or is entitled in `after` but was not
+-- in x.
 unfoldable pub done : State → Phases → ℕ → Answer
 done x after late =
     record {
@@ -73,20 +74,20 @@ done x after late =
           };
     }
 
--- Clauses 4.6 and 4.9: a refused call answers its number alone, and the state is the one given.
+-- Clauses 4.6 and 4.9: a refused call returns only its number, and the state does not change.
 abbrev pub ruled : ℕ → State → Answer → Answer
 ruled number s accepted = cond (eqb number 0) accepted (record { reply = refusedWith number; state = s })
 
--- Clauses 4.6 and 5.2: the state x has the request put in or taken out; then all requests are settled.
+-- Clauses 4.6 and 5.2: in the state x the request has entered or left. Then all requests are settled.
 unfoldable pub settledDone : Board → State → ℕ → Answer
 settledDone b x late = done x (settled (factsOf b x) (x .phases)) late
 
--- Clause 4.4: issue: processor p asks for entry e at tick t. An issue is never late.
+-- Clause 4.4: issue: processor p requests entry e at tick t. An issue is never late.
 unfoldable pub issued : Board → State → ℕ → ℕ → ℕ → Answer
 issued b s p e t =
     ruled (issueFault (b .terms) (s .last) (phasesOf b s) p e t) s (settledDone b (putState b s p e t) 0)
 
--- Clauses 4.8 and 4.10: late is 1 where the hold was longer than its entry's length. A hold that would run backwards
+-- Clauses 4.8 and 4.10: late is 1 if the hold was longer than its entry's length. A hold that would run backwards
 -- lasted 0.
 abbrev pub lateMark : Board → State → ℕ → ℕ → ℕ
 lateMark b s p t = cond (ltb (getD (b .lengths) (getD (s .requested) p 0) 0) (t - getD (s .since) p 0)) 1 0
@@ -95,16 +96,16 @@ lateMark b s p t = cond (ltb (getD (b .lengths) (getD (s .requested) p 0) 0) (t 
 unfoldable pub left : Board → State → ℕ → ℕ → ℕ → ℕ → Answer
 left b s p t number late = ruled number s (settledDone b (takenState b s p t) late)
 
--- Clause 4.4: complete: processor p gives its request back at tick t.
+-- Clause 4.4: complete: processor p ends its hold at tick t.
 unfoldable pub completed : Board → State → ℕ → ℕ → Answer
 completed b s p t = left b s p t (completeFault (b .terms) (s .last) (phasesOf b s) p t) (lateMark b s p t)
 
--- Clauses 4.4 and 4.8: withdraw: processor p leaves the line at tick t. It held nothing, so it is never late.
+-- Clauses 4.4 and 4.8: withdraw: processor p leaves the queue at tick t. It held nothing, so it is never late.
 unfoldable pub withdrawn : Board → State → ℕ → ℕ → Answer
 withdrawn b s p t = left b s p t (withdrawFault (b .terms) (s .last) (phasesOf b s) p t) 0
 
--- Clause 4.7: the answer of a handover's two halves, the completion first: who began to hold by either; who became
--- entitled by either and still is after both; the completion's late; and the state after both.
+-- Clause 4.7: the answer to a handover's two halves, the completion first: who began to hold in either half; who became
+-- entitled in either half and still is after both; the completion's late mark; and the state after both.
 unfoldable pub both : Answer → Answer → Answer
 both first second =
     record {
@@ -122,8 +123,8 @@ both first second =
       state = second .state;
     }
 
--- Clause 4.4: hand over: processor p gives its request back and asks for entry e, at one tick t, as a completion and
--- then an issue would. All requests are settled after each.
+-- Clause 4.4: hand over: processor p ends its hold and requests entry e at the same tick t, as a completion and then an
+-- issue would. All requests are settled after each half.
 unfoldable pub handedOver : Board → State → ℕ → ℕ → ℕ → Answer
 handedOver b s p e t =
     ruled (handoverFault (b .terms) (s .last) (phasesOf b s) p e t) s

@@ -9,11 +9,11 @@ use Rattle.plans.specs.Entries.{maxProcessors}
 use Rattle.rules.specs.declared.states.Phases.{Phases}
 use Rattle.rules.specs.declared.states.Terms.{Terms}
 
--- Clause 4.10: processor p is one of the plan's, and one of those that a state holds.
+-- Clause 4.10: processor p is one of the plan's, and a state has a place for it.
 abbrev pub hasProcessor : Terms → ℕ → Bool
 hasProcessor terms p = ltb p maxProcessors && ltb p (terms .processors)
 
--- Clause 4.10: the request of p has its processor and its entry in the plan; otherwise it is none.
+-- Clause 4.10: the processor and the entry of p's request are in the plan. Otherwise the request is ignored.
 abbrev pub inPlan : Terms → List ℕ → ℕ → Bool
 inPlan terms requested p = hasProcessor terms p && ltb (getD requested p 0) (terms .count)
 
@@ -28,7 +28,7 @@ unfoldable pub isWaiting : Terms → List ℕ → Phases → ℕ → Bool
 isWaiting terms requested ph p =
     inPlan terms requested p && (bit (ph .waiting) p && not (bit (ph .entitled) p || bit (ph .holding) p))
 
--- Clause 4.10: the phases of just the requests that count. Calls and queries go by them.
+-- Clause 4.10: the phases of only the requests that count. Calls and queries use them.
 unfoldable pub cleaned : Terms → List ℕ → Phases → Phases
 cleaned terms requested ph =
     record {

@@ -1,4 +1,4 @@
--- When a call is refused, and by which number: 10 to 15, and 17. The phases are of the requests that count.
+-- When a call is refused, and with which number: 10 to 15, and 17. The phases are those of the requests that count.
 -- Specification, section 4.
 use Prim.Native.Nat.{ℕ}
 use mathlib.Core.Bool.{not, _&&_}
@@ -18,14 +18,14 @@ tickFault last t = due (leb last t && leb t 1099511627775) 10
 abbrev pub processorFault : Terms → ℕ → ℕ
 processorFault terms p = due (hasProcessor terms p) 11
 
--- Clauses 4.5 and 8.2: an issue by 10, 11, then 12 for an entry that is not counted, 13 for an active request of p.
+-- Clauses 4.5 and 8.2: an issue: 10, 11, then 12 for an entry that is not counted, 13 for an active request of p.
 unfoldable pub issueFault : Terms → ℕ → Phases → ℕ → ℕ → ℕ → ℕ
 issueFault terms last ph p e t =
     firstOf (tickFault last t)
     (firstOf (processorFault terms p) (firstOf (due (ltb e (terms .count)) 12) (due (not (active ph p)) 13)))
 
--- Clauses 4.5 and 8.2: a call that takes p's request out, by 10, 11, then 14 for no active request of p; then what is
--- due for the phase that the request is in.
+-- Clauses 4.5 and 8.2: a call after which p's request leaves: 10, 11, then 14 for no active request of p; then the
+-- number that is due for the phase of the request.
 abbrev pub takeFault : Terms → ℕ → Phases → ℕ → ℕ → ℕ → ℕ
 takeFault terms last ph p t phaseFault =
     firstOf (tickFault last t) (firstOf (processorFault terms p) (firstOf (due (active ph p) 14) phaseFault))
@@ -38,7 +38,7 @@ completeFault terms last ph p t = takeFault terms last ph p t (due (not (unsatis
 unfoldable pub withdrawFault : Terms → ℕ → Phases → ℕ → ℕ → ℕ
 withdrawFault terms last ph p t = takeFault terms last ph p t (due (not (bit (ph .holding) p)) 17)
 
--- Clauses 4.5 and 8.2: a handover to entry e, by 10, 11, 12, then as a completion by 14 and 15.
+-- Clauses 4.5 and 8.2: a handover to entry e: 10, 11, 12, then as a completion 14 and 15.
 unfoldable pub handoverFault : Terms → ℕ → Phases → ℕ → ℕ → ℕ → ℕ
 handoverFault terms last ph p e t =
     firstOf (tickFault last t)

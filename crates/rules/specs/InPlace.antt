@@ -1,4 +1,4 @@
--- Calls in place: the parts of a board and of a state that they are lent, and the answer that they leave.
+-- Calls in place: the parts of a board and of a state that are lent to them, and the answer.
 use Prim.Native.Nat.{ℕ}
 use mathlib.Core.List.{List, []}
 use Rattle.rules.specs.Replies.{replyAsNumbers}
@@ -9,11 +9,11 @@ use Rattle.rules.specs.declared.states.Moment.{Moment}
 use Rattle.rules.specs.declared.calls.Changed.{Changed}
 use Rattle.rules.specs.Calls.{Answer}
 
--- The board of these terms, conflict rows and lengths. No call reads names or a widened set.
+-- The board with these terms, conflict rows and lengths. No call reads names or a widened set.
 abbrev pub boardBy : Terms → List ℕ → List ℕ → Board
 boardBy terms rows lengths = record { terms = terms; lengths = lengths; names = []; widened = []; rows = rows }
 
--- The state of this moment and these arrays.
+-- The state with this moment and these arrays.
 abbrev pub stateBy : Moment → List ℕ → List ℕ → List ℕ → State
 stateBy now requested since earlier =
     record { last = now .last; phases = now .phases; since = since; earlier = earlier; requested = requested }

@@ -7,8 +7,8 @@ use Rattle.masks.specs.Sets.{bit, some}
 use Rattle.plans.specs.Entries.{maxProcessors}
 use Rattle.rules.specs.declared.states.Phases.{Phases}
 
--- What settling goes by and leaves as it is: the conflict rows of the entries, which entries are writes, the entry of
--- each processor's request, and the set of processors whose requests are earlier than it.
+-- What settling uses and does not change: the conflict rows of the entries, which entries are writes, the entry of each
+-- processor's request, and the set of processors whose requests are earlier.
 pub record Facts : Type 0 where
   pub rows : List ℕ
   pub writes : ℕ
@@ -16,7 +16,8 @@ pub record Facts : Type 0 where
   pub earlier : List ℕ
 
 abbrev pub factsBy : List ℕ → ℕ → List ℕ → List ℕ → Facts
-factsBy rows writes requested earlier = record { rows = rows; writes = writes; requested = requested; earlier = earlier }
+factsBy rows writes requested earlier = record
+    { rows = rows; writes = writes; requested = requested; earlier = earlier }
 
 -- The entry of processor p's request, and whether it is a write.
 abbrev pub entryOf : Facts → ℕ → ℕ
@@ -25,11 +26,11 @@ entryOf f p = getD (f .requested) p 0
 abbrev pub isWriter : Facts → ℕ → Bool
 isWriter f p = bit (f .writes) (entryOf f p)
 
--- Clause 4.2: processor q's request is earlier than p's, by the order of the calls that issued them.
+-- Clause 4.2: processor q's request is earlier than p's, in the order of the calls that issued them.
 abbrev pub isEarlier : Facts → ℕ → ℕ → Bool
 isEarlier f q p = bit (getD (f .earlier) p 0) q
 
--- Clause 5.7: the requests of p and q conflict as their entries do.
+-- Clause 5.7: the requests of p and q conflict if their entries do.
 abbrev pub conflicts : Facts → ℕ → ℕ → Bool
 conflicts f p q = bit (getD (f .rows) (entryOf f p) 0) (entryOf f q)
 
@@ -37,7 +38,7 @@ conflicts f p q = bit (getD (f .rows) (entryOf f p) 0) (entryOf f q)
 abbrev pub against : Facts → ℕ → (ℕ → Bool) → Bool
 against f p test = some maxProcessors (λ q. test q && conflicts f p q)
 
--- Clause 4.1: unsatisfied is who waits or is entitled; active is who is unsatisfied or holds.
+-- Clause 4.1: a request that waits or is entitled is unsatisfied. One that is unsatisfied or holds is active.
 abbrev pub unsatisfied : Phases → ℕ → Bool
 unsatisfied ph p = bit (ph .waiting) p || bit (ph .entitled) p
 

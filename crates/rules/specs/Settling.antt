@@ -1,10 +1,11 @@
--- The four steps of settling. Specification, section 5; clause 5.8 has where they depart from their source.
+-- The four steps of settling. Specification, section 5; clause 5.8 lists where they depart from their source.
 use Prim.Native.Nat.{ℕ}
 use mathlib.Core.Bool.{Bool, not, _&&_, _||_}
 use lib.Dec.{eqb}
 use Rattle.masks.specs.Sets.{bit, maskOf}
 use Rattle.plans.specs.Entries.{maxProcessors}
-use Rattle.rules.specs.Requests.{Facts, isWriter, isEarlier, against, holdingRead, holdingWrite, entitledRead, entitledWrite, waitingRead, waitingWrite, unsatisfiedWrite}
+use Rattle.rules.specs.Requests.{Facts, isWriter, isEarlier, against, holdingRead, holdingWrite, entitledRead}
+use Rattle.rules.specs.Requests.{entitledWrite, waitingRead, waitingWrite, unsatisfiedWrite}
 use Rattle.rules.specs.declared.states.Phases.{Phases}
 
 -- The processors that pass the test begin to hold, whether they were waiting or entitled.
@@ -25,7 +26,7 @@ entitle ph test =
       holding = ph .holding;
     }
 
--- Clause 5.3, step 1: a read begins to hold where no write that holds conflicts, if it is entitled, or if it waits and
+-- Clause 5.3, step 1: a read with which no holding write conflicts begins to hold if it is entitled, or if it waits and
 -- no entitled write conflicts either.
 unfoldable pub test1 : Facts → Phases → ℕ → Bool
 test1 f ph p =
@@ -35,8 +36,8 @@ test1 f ph p =
 unfoldable pub step1 : Facts → Phases → Phases
 step1 f ph = hold ph (test1 f ph)
 
--- Clause 5.4, step 2: waiting writes become entitled where nothing conflicts of these: an unsatisfied write that is
--- earlier, a write that holds, a read that is entitled.
+-- Clause 5.4, step 2: a waiting write becomes entitled if none of these conflicts: an earlier unsatisfied write, a
+-- holding write, an entitled read.
 unfoldable pub test2 : Facts → Phases → ℕ → Bool
 test2 f ph p =
     waitingWrite f ph p
@@ -46,14 +47,14 @@ test2 f ph p =
 unfoldable pub step2 : Facts → Phases → Phases
 step2 f ph = entitle ph (test2 f ph)
 
--- Clause 5.5, step 3: entitled writes begin to hold where no read that holds conflicts.
+-- Clause 5.5, step 3: an entitled write begins to hold if no holding read conflicts.
 unfoldable pub test3 : Facts → Phases → ℕ → Bool
 test3 f ph p = entitledWrite f ph p && not (against f p (holdingRead f ph))
 
 unfoldable pub step3 : Facts → Phases → Phases
 step3 f ph = hold ph (test3 f ph)
 
--- Clause 5.6, step 4: waiting reads become entitled where a write that holds conflicts, and no entitled write does.
+-- Clause 5.6, step 4: a waiting read becomes entitled if a holding write conflicts and no entitled write does.
 unfoldable pub test4 : Facts → Phases → ℕ → Bool
 test4 f ph p = waitingRead f ph p && (against f p (holdingWrite f ph) && not (against f p (entitledWrite f ph)))
 
@@ -64,12 +65,12 @@ step4 f ph = entitle ph (test4 f ph)
 unfoldable pub settled : Facts → Phases → Phases
 settled f ph = step4 f (step3 f (step2 f (step1 f ph)))
 
--- Clause 5.1: processor p's new request is a read with which no write conflicts that is entitled or holds. Step 1 then
--- lets it hold: that it held before step 1 would change nothing, which is proved beside it.
+-- Clause 5.1: processor p's new request is a read, and no entitled or holding write conflicts with it. Step 1 then lets
+-- it hold. If it already held before step 1, nothing would change (proofs/AtOnce).
 unfoldable pub holdsAtOnce : Facts → Phases → ℕ → Bool
 holdsAtOnce f ph p =
     not (isWriter f p) && (not (against f p (entitledWrite f ph)) && not (against f p (holdingWrite f ph)))
 
--- Clause 5.1: the phases, p's new request among them and waiting, with p holding where it holds at once.
+-- Clause 5.1: the phases in which p's new request waits, changed so that it holds if it may hold at once.
 unfoldable pub admitted : Facts → Phases → ℕ → Phases
 admitted f ph p = hold ph (λ q. eqb q p && holdsAtOnce f ph p)

@@ -1,9 +1,9 @@
-// The vocabulary of the arbiter: a call, and the reply to it. Logs are read to calls; listings are written from both.
+// A call to the arbiter, and the reply to it. Logs are read as calls, and listings print both.
 use crate::states::Moment;
 use refusals::Refusal;
 
-// A processor asks for an entry, gives its request back, leaves the line with a request that does not hold, or gives
-// its request back and asks for an entry in one call, at a tick.
+// At a tick, a processor requests an entry, completes its request, withdraws a request that does not hold, or completes
+// its request and requests an entry in one call.
 pub enum Call {
     Issue { processor: u8, entry: u8, tick: u64 },
     Complete { processor: u8, tick: u64 },

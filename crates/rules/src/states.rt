@@ -2,16 +2,16 @@
 use plans::MAX_ENTRIES;
 use plans::MAX_PROCESSORS;
 
-// The counts of a plan, and which of its entries are writes: what a call reads of a board besides the conflict rows and
-// the lengths.
+// The counts of a plan, and which of its entries are writes. A call reads these from a board, and also the conflict
+// rows and the lengths.
 pub struct Terms {
     pub processors: u8,
     pub count: u8,
     pub writes: u64,
 }
 
-// What the calls and queries read. It is made from a plan: its terms, the lengths, names and widened sets of its entries,
-// and which entries conflict.
+// What the calls and queries read. A board is made from a plan: its terms, the lengths, names and widened sets of its
+// entries, and which entries conflict.
 pub struct Board {
     pub terms: Terms,
     pub lengths: [u16; MAX_ENTRIES],
@@ -27,8 +27,8 @@ pub struct Phases {
     pub holding: u32,
 }
 
-// The last accepted tick, and one request for each processor: its phase, the tick of its issue, or of its grant while it
-// holds, the processors whose requests were active when it was issued, and the entry that it requests.
+// The last accepted tick, and one request for each processor: its phase, the tick of its issue (of its grant while it
+// holds), the processors whose requests were active when it was issued, and the entry that it requests.
 pub struct State {
     pub last: u64,
     pub phases: Phases,
@@ -37,7 +37,7 @@ pub struct State {
     pub requested: [u8; MAX_PROCESSORS],
 }
 
-// What every call changes of a state, beside its arrays: the last accepted tick and the phases.
+// What every call changes in a state in addition to its arrays: the last accepted tick and the phases.
 pub struct Moment {
     pub last: u64,
     pub phases: Phases,

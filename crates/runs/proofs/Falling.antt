@@ -19,7 +19,8 @@ use Rattle.runs.proofs.refinement.Clean.{phaseIn, clean-phases}
 use Rattle.waits.specs.Waits.{waitsIn}
 use Rattle.queries.specs.Queries.{waitsFor, Chain, direct, through}
 use Rattle.masks.proofs.Truth.{and-left}
-use Rattle.queries.proofs.Waits.{Reason, entitled-read, waiting-read, entitled-write, waiting-write, waits-reason, waits-below}
+use Rattle.queries.proofs.Waits.{Reason, entitled-read, waiting-read, entitled-write, waiting-write, waits-reason}
+use Rattle.queries.proofs.Waits.{waits-below}
 use Rattle.runs.proofs.Reached.{Reached}
 
 unfoldable cost : Phase → ℕ → ℕ

@@ -38,7 +38,8 @@ module _ (b : Board) (s : State) (r : Reached b s) where
   holds : (h : ℕ) → h < maxProcessors → phaseIn s h ≡ holding → holdsIn b s h ≡ true
   unfolding cleaned
   holds h l e =
-      sym (bit-mask-at maxProcessors (isHolding (b .terms) (s .requested) (s .phases)) h l) ∙ ap (λ x. bit (x .holding) h) same
+      sym (bit-mask-at maxProcessors (isHolding (b .terms) (s .requested) (s .phases)) h l)
+      ∙ ap (λ x. bit (x .holding) h) same
       ∙ held-bit (s .phases) h e
 
   to-a-holder : (q : ℕ) → unsatisfied (phasesOf b s) q ≡ true → (h : ℕ) × Chain b s q h × (holdsIn b s h ≡ true)

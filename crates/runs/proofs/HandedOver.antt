@@ -35,7 +35,10 @@ answer granted entitled late = record { number = 0; granted = granted; entitled 
 
 pub handover-answers : map (λ e. e .reply) (events (boardOf planF) freshState calls)
     ≡ answer 1 0 0 ∷ answer 0 0 0 ∷ answer 2 1 0 ∷ answer 1 0 0 ∷ answer 1 0 1 ∷ []
-unfolding planF read write calls answer bit some maskOf widen widenedSet shared conflict inConflict tabulate conflictsOf isHolding isEntitled isWaiting cleaned test1 step1 test2 step2 test3 step3 test4 step4 settled boardOf issueFault completeFault handoverFault putIn putLast takenOut stamped putState takenState done settledDone issued left completed both handedOver events
+unfolding planF read write calls answer bit some maskOf widen widenedSet shared conflict inConflict tabulate conflictsOf
+    isHolding isEntitled isWaiting cleaned test1 step1 test2 step2 test3 step3 test4 step4 settled boardOf issueFault
+    completeFault handoverFault putIn putLast takenOut stamped putState takenState done settledDone issued left
+    completed both handedOver events
 handover-answers = refl
 
 pub handed-over-requests : historyOf planF calls
@@ -48,5 +51,8 @@ pub handed-over-requests : historyOf planF calls
           ∷ [];
       last = 18;
     }
-unfolding planF read write calls counted bit some maskOf widen widenedSet shared conflict inConflict tabulate conflictsOf isHolding isEntitled isWaiting cleaned test1 step1 test2 step2 test3 step3 test4 step4 settled boardOf issueFault completeFault handoverFault putIn putLast takenOut stamped putState takenState done settledDone issued left completed both handedOver events allActing countedIn historyOf
+unfolding planF read write calls counted bit some maskOf widen widenedSet shared conflict inConflict tabulate
+    conflictsOf isHolding isEntitled isWaiting cleaned test1 step1 test2 step2 test3 step3 test4 step4 settled boardOf
+    issueFault completeFault handoverFault putIn putLast takenOut stamped putState takenState done settledDone issued
+    left completed both handedOver events allActing countedIn historyOf
 handed-over-requests = refl

@@ -14,11 +14,13 @@ use Rattle.rules.specs.Calls.{factsOf}
 use Rattle.runs.specs.Claim.{everyEntry}
 use Rattle.runs.proofs.columns.Columns.{waiting, entitled, holding, Settled}
 use Rattle.runs.proofs.columns.Phases.{Unsatisfied, unsatisfied-or-holding}
-use Rattle.runs.proofs.refinement.State.{requestsOf, Marks, not-idle-active, held-bit, marks-waiting, marks-entitled}
+use Rattle.runs.proofs.refinement.State.{requestsOf, Marks, not-idle-active, held-bit, marks-waiting}
+use Rattle.runs.proofs.refinement.State.{marks-entitled}
 use Rattle.runs.proofs.refinement.Clean.{phaseIn}
 use Rattle.queries.specs.Queries.{waitsFor, Chain, direct, through}
 use Rattle.masks.proofs.Truth.{and-both}
-use Rattle.queries.proofs.Waits.{Reason, entitled-read, waiting-read, entitled-write, waiting-write, reason-waits, waits-below}
+use Rattle.queries.proofs.Waits.{Reason, entitled-read, waiting-read, entitled-write, waiting-write, reason-waits}
+use Rattle.queries.proofs.Waits.{waits-below}
 use Rattle.runs.proofs.Reached.{Reached}
 use Rattle.runs.proofs.Falling.{distance, waits-here, wait-falls}
 

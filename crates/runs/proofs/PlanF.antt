@@ -63,5 +63,8 @@ table =
 
 -- The arbiter's answers to the twelve calls are those of the table.
 pub twelve-calls : events (boardOf planF) freshState (map (λ e. e .call) table) ≡ table
-unfolding planF table read write line done-with bit some maskOf widen widenedSet shared conflict inConflict tabulate conflictsOf isHolding isEntitled isWaiting cleaned test1 step1 test2 step2 test3 step3 test4 step4 settled boardOf issueFault completeFault putIn putLast takenOut stamped putState takenState done settledDone issued left completed events
+unfolding planF table read write line done-with bit some maskOf widen widenedSet shared conflict inConflict tabulate
+    conflictsOf isHolding isEntitled isWaiting cleaned test1 step1 test2 step2 test3 step3 test4 step4 settled boardOf
+    issueFault completeFault putIn putLast takenOut stamped putState takenState done settledDone issued left completed
+    events
 twelve-calls = refl

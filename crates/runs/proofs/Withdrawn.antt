@@ -23,7 +23,8 @@ use Rattle.runs.proofs.PlanF.{planF, read, write}
 -- processor 0 completes.
 unfoldable pub calls : List Call
 calls =
-    Call.Issue 0 0 0 ∷ Call.Issue 1 0 1 ∷ Call.Withdraw 1 5 ∷ Call.Issue 1 4 6 ∷ Call.Withdraw 0 7 ∷ Call.Complete 0 8 ∷ []
+    Call.Issue 0 0 0 ∷ Call.Issue 1 0 1 ∷ Call.Withdraw 1 5 ∷ Call.Issue 1 4 6 ∷ Call.Withdraw 0 7 ∷ Call.Complete 0 8
+    ∷ []
 
 -- A request of the history.
 unfoldable pub counted : ℕ → ℕ → ℕ → When → When → Request
@@ -34,11 +35,15 @@ pub withdrawn-request : historyOf planF calls
       requests = counted 0 0 0 (at 0) (at 8) ∷ counted 1 0 1 never (at 5) ∷ counted 1 4 6 (at 8) never ∷ [];
       last = 8;
     }
-unfolding planF read write calls counted bit some maskOf widen widenedSet shared conflict inConflict tabulate conflictsOf isHolding isEntitled isWaiting cleaned test1 step1 test2 step2 test3 step3 test4 step4 settled boardOf issueFault completeFault withdrawFault putIn putLast takenOut stamped putState takenState done settledDone issued left completed withdrawn events allActing countedIn historyOf
+unfolding planF read write calls counted bit some maskOf widen widenedSet shared conflict inConflict tabulate
+    conflictsOf isHolding isEntitled isWaiting cleaned test1 step1 test2 step2 test3 step3 test4 step4 settled boardOf
+    issueFault completeFault withdrawFault putIn putLast takenOut stamped putState takenState done settledDone issued
+    left completed withdrawn events allActing countedIn historyOf
 withdrawn-request = refl
 
 -- The waits of the three requests: the withdrawn one waited from tick 1 to tick 5.
-pub withdrawn-wait : map (waitOf 8) (counted 0 0 0 (at 0) (at 8) ∷ counted 1 0 1 never (at 5) ∷ counted 1 4 6 (at 8) never ∷ [])
+pub withdrawn-wait : map (waitOf 8) (counted 0 0 0 (at 0) (at 8) ∷ counted 1 0 1 never (at 5)
+    ∷ counted 1 4 6 (at 8) never ∷ [])
     ≡ 0 ∷ 4 ∷ 2 ∷ []
 unfolding counted
 withdrawn-wait = refl

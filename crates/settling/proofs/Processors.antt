@@ -1,4 +1,4 @@
--- A word is a mask of processors: the walk through it, and the entry of the lowest one, if all are known. Assumes
+-- A word as a mask of processors: the walk through it, and the entry of the lowest processor, if all are known. Assumes
 -- nothing.
 use Prim.Native.Nat.{ℕ, _^_, _<_, _≤_}
 use mathlib.Core.List.{List}

@@ -1,8 +1,7 @@
-// Whose requests conflict with whose, by masks of processors and 64-bit sets of entries. A row has the entries that an
-// entry conflicts with (specification, clause 5.7). Every walk goes through the processors of a mask, one after the
-// other. The masks are of known processors: there is a row for each one's entry, and a place in a set.
+// Whose requests conflict, using masks of processors and 64-bit sets of entries. A row contains the entries that an
+// entry conflicts with (specification, clause 5.7). Every walk goes through the processors of a mask one by one. Except
+// in `those_in`, the masks contain known processors: there is a row, and a place in a set, for the entry of each.
 use crate::known_requests::add_if;
-use masks::has64;
 use masks::meet64;
 use plans::MAX_ENTRIES;
 use plans::MAX_PROCESSORS;
@@ -18,7 +17,8 @@ ghost use Rattle.rules.specs.inner.Moves.{Known, unopposedIn, firstInLine};
 
 // ---- one processor
 
-// The set with the place in it, where the row has the entry. It does not branch: nobody foresees which are in the row.
+// Adds the place to the set if the row contains the entry. It does not branch, because a branch on a row is hard to
+// predict.
 fn add_if_in(set: u32, place: u32, row: u64, entry: u8) -> u32
     requires { ⌜ (place < 32) × (entry < maxEntries) ⌝ }
     ensures { λ r. ⌜ r ≡ cond (bit row entry) (added set place) set ⌝ }
@@ -44,7 +44,7 @@ fn row_at(rows: &[u64; MAX_ENTRIES], requested: &[u8; MAX_PROCESSORS], p: u32) -
 
 // ---- the processors in a mask
 
-// Those among known processors whose entries are in the set.
+// The processors of a mask of known ones whose entries are in the set.
 pub fn known_among(requested: &[u8; MAX_PROCESSORS], set: u64, among: u32) -> u32
     requires { ⌜ Known (now requested) among ⌝ }
     ensures { λ r. ⌜ r ≡ maskOf maxProcessors (λ p. bit among p && bit set (getD (now (requested .entry)) p 0)) ⌝ }
@@ -59,12 +59,16 @@ pub fn known_among(requested: &[u8; MAX_PROCESSORS], set: u64, among: u32) -> u3
     out
 }
 
-// The set with the place in it, if the row contains the entry. A row contains no entry past its 64 places.
+// Adds the place to the set if the row contains the entry. A row contains no entry past its 64 places.
 fn add_if_there(set: u32, place: u32, row: u64, entry: u8) -> u32
     requires { ⌜ place < 32 ⌝ }
     ensures { λ r. ⌜ r ≡ cond (bit row entry) (added set place) set ⌝ }
 {
-    add_if(set, place, has64(row, entry as u32))
+    if entry < MAX_ENTRIES as u8 {
+        add_if_in(set, place, row, entry)
+    } else {
+        set
+    }
 }
 
 // The processors of any mask whose entries are in the set.
@@ -81,7 +85,7 @@ pub fn those_in(requested: &[u8; MAX_PROCESSORS], set: u64, among: u32) -> u32
     out
 }
 
-// The set of their entries: a row meets it where it has one of them.
+// The set of their entries. A row meets it if the row contains one of them.
 fn entries_of(requested: &[u8; MAX_PROCESSORS], among: u32) -> u64
     requires { ⌜ Known (now requested) among ⌝ }
     ensures { λ r. ⌜ ((row : ℕ) → meets row r
@@ -96,7 +100,7 @@ fn entries_of(requested: &[u8; MAX_PROCESSORS], among: u32) -> u64
     set
 }
 
-// One of them has its entry in the row. It stops at the first.
+// Whether the row contains the entry of one of them. It stops at the first.
 fn in_row(row: u64, requested: &[u8; MAX_PROCESSORS], among: u32) -> bool
     requires { ⌜ Known (now requested) among ⌝ }
     ensures { λ r. ⌜ r ≡ some maxProcessors (λ q. bit among q && bit row (getD (now (requested .entry)) q 0)) ⌝ }
@@ -134,8 +138,8 @@ fn clear_of(
 
 // ---- candidates and others
 
-// The candidates whose requests conflict with that of none of the others. Where there are no candidates or no others,
-// nothing is looked at.
+// The candidates whose requests conflict with none of the others' requests. Without candidates or others it reads no
+// row.
 pub fn unopposed(
     rows: &[u64; MAX_ENTRIES],
     requested: &[u8; MAX_PROCESSORS],
@@ -154,7 +158,7 @@ pub fn unopposed(
     clear_of(rows, requested, candidates, entries_of(requested, others))
 }
 
-// The candidates whose requests conflict with that of no earlier one of the others.
+// The candidates whose requests conflict with none of the others' earlier requests.
 pub fn first_in_queue(
     rows: &[u64; MAX_ENTRIES],
     requested: &[u8; MAX_PROCESSORS],

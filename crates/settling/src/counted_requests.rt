@@ -22,7 +22,7 @@ fn processors_of(terms: Terms) -> u32
     }
 }
 
-// Clause 4.10: the phases of the requests that count, each in one of them at most.
+// Clause 4.10: the phases of the requests that count. Each request is in at most one phase.
 pub fn clean(terms: Terms, requested: [u8; MAX_PROCESSORS], phases: Phases) -> Phases
     ensures { λ r. ⌜ r ≡ cleaned terms requested phases ⌝ }
 {

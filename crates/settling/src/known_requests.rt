@@ -1,6 +1,6 @@
-// Known requests: those whose entries are below a count, as masks of processors. By the number of a plan's entries they
-// are those that count (specification, clause 4.10), and by the number of rows those that conflict with some at all
-// (clause 5.7).
+// Known requests: those whose entries are below a count, as masks of processors. With the number of a plan's entries as
+// the count, they are the requests that count (specification, clause 4.10). With the number of rows, they are those
+// that can conflict at all (clause 5.7).
 use plans::MAX_PROCESSORS;
 ghost use mathlib.Core.Path.{_≡_};
 ghost use mathlib.Core.Bool.{cond, _&&_};
@@ -13,7 +13,7 @@ ghost use Rattle.plans.specs.Entries.{maxProcessors};
 // A mask of all processors.
 pub const ALL: u32 = ((1u64 << MAX_PROCESSORS as u64) - 1) as u32;
 
-// The set with the place in it, where the test says so.
+// Adds the place to the set if the test is true.
 pub fn add_if(set: u32, place: u32, test: bool) -> u32
     requires { ⌜ place < 32 ⌝ }
     ensures { λ r. ⌜ r ≡ cond test (added set place) set ⌝ }
@@ -21,7 +21,7 @@ pub fn add_if(set: u32, place: u32, test: bool) -> u32
     if test { set | (1 << place) } else { set }
 }
 
-// Those among the processors whose requests' entries are below the count, one after the other.
+// Those among the processors whose requests' entries are below the count, checked one by one.
 fn each_below(among: u32, count: u8, requested: &[u8; MAX_PROCESSORS]) -> u32
     ensures { λ r. ⌜ r ≡ maskOf maxProcessors (λ p. bit among p && ltb (getD (now (requested .entry)) p 0) count) ⌝ }
 {
@@ -41,7 +41,7 @@ fn larger(a: u8, b: u8) -> u8
     if a < b { b } else { a }
 }
 
-// No request's entry is above it. Nothing else in the loop: compiled, it compares 16 of them at once.
+// The largest entry of a request. The loop does nothing else, so that the compiled code compares 16 entries at once.
 fn largest(requested: &[u8; MAX_PROCESSORS]) -> u8
     ensures { λ r. ⌜ ((p : ℕ) → p < maxProcessors → getD (now (requested .entry)) p 0 ≤ r) ⌝ }
 {
@@ -55,7 +55,8 @@ fn largest(requested: &[u8; MAX_PROCESSORS]) -> u8
 }
 
 // Those among the processors whose requests' entries are below the count. On a board that was made from a plan all are,
-// and a call pays for one comparison. The walk is over a mask that is not fixed: compiled, it then stays a short loop.
+// and one comparison with the largest is enough. The walk is over a mask that is not a constant, so that it compiles to
+// a short loop.
 pub fn entries_below(among: u32, count: u8, requested: &[u8; MAX_PROCESSORS]) -> u32
     ensures { λ r. ⌜ r ≡ maskOf maxProcessors (λ p. bit among p && ltb (getD (now (requested .entry)) p 0) count) ⌝ }
 {
@@ -65,8 +66,8 @@ pub fn entries_below(among: u32, count: u8, requested: &[u8; MAX_PROCESSORS]) ->
     each_below(among, count, requested)
 }
 
-// All processors whose requests' entries are below the count. It looks at the largest first, so that where all are,
-// compiled, it calls nothing.
+// All processors whose requests' entries are below the count. It compares the largest first: if all are below, the
+// compiled code calls nothing.
 pub fn all_below(count: u8, requested: &[u8; MAX_PROCESSORS]) -> u32
     ensures { λ r. ⌜ r ≡ maskOf maxProcessors (λ p. ltb (getD (now (requested .entry)) p 0) count) ⌝ }
 {

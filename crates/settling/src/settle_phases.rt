@@ -1,5 +1,5 @@
-// Settling carried out: which requests become entitled, and which begin to hold, when a request was put in or taken out.
-// It goes by masks of processors, and changes the phases alone. Specification, section 5.
+// Settling: which requests become entitled, and which begin to hold, after a request entered or left. It uses masks of
+// processors and changes only the phases. Specification, section 5.
 use crate::known_requests::ALL;
 use crate::known_requests::all_below;
 use crate::steps::four_steps;
@@ -13,7 +13,7 @@ ghost use Rattle.rules.specs.Requests.{factsBy};
 ghost use Rattle.rules.specs.Settling.{settled};
 ghost use Rattle.rules.specs.inner.Moves.{Table, knownIn};
 
-// The processors whose requests' entries have a row, which is for every entry below 64.
+// The processors whose requests' entries have a row. Every entry below 64 has one.
 fn known_in(rows: &[u64], requested: &[u8; MAX_PROCESSORS]) -> u32
     requires { ⌜ length (now rows) ≡ maxEntries ⌝ }
     ensures { λ r. ⌜ (r ≡ knownIn (now (requested .entry))) × Table (now (rows .entry)) ⌝ }

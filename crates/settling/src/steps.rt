@@ -11,8 +11,8 @@ ghost use Rattle.rules.specs.Settling.{settled};
 ghost use Rattle.rules.specs.declared.states.Phases.{Phases};
 ghost use Rattle.rules.specs.inner.Moves.{Table, knownIn, Follows};
 
-// The phases after the four steps, by their masks. Each step goes by those that the one before it left. Of the known
-// processors, w are the active ones whose requests are writes, and r are the others.
+// The phases after the four steps. Each step uses the masks that the step before it left. Of the known processors, w
+// are the active ones whose requests are writes, and r are the others.
 pub fn four_steps(
     rows: &[u64; MAX_ENTRIES],
     writes: u64,
@@ -29,25 +29,25 @@ pub fn four_steps(
 {
     let w = known_among(requested, writes, (waiting | entitled | holding) & known);
     let r = known & !w;
-    // Step 1 (5.3): reads that no holding write is against, entitled, or waiting with no entitled write against them
-    // either. One that is not known conflicts with none.
+    // Step 1 (5.3): reads that conflict with no holding write, if they are entitled, or if they wait and conflict with
+    // no entitled write either. A request that is not known conflicts with none.
     let ahead = unopposed(rows, requested, waiting & r, entitled & w);
     let free = unopposed(rows, requested, (entitled & r) | ahead, holding & w);
     let reads = ((waiting | entitled) & !known) | free;
     waiting = waiting & !reads;
     entitled = entitled & !reads;
     holding = holding | reads;
-    // Step 2 (5.4): waiting writes that no holding write, entitled read or earlier write in line is against.
+    // Step 2 (5.4): waiting writes that conflict with no holding write, entitled read or earlier unsatisfied write.
     let clear = unopposed(rows, requested, waiting & w, (holding & w) | (entitled & r));
     let next = first_in_queue(rows, requested, earlier, clear, (waiting | entitled) & w);
     waiting = waiting & !next;
     entitled = entitled | next;
-    // Step 3 (5.5): entitled writes that no holding read is against.
+    // Step 3 (5.5): entitled writes that conflict with no holding read.
     let granted = unopposed(rows, requested, entitled & w, holding & r);
     waiting = waiting & !granted;
     entitled = entitled & !granted;
     holding = holding | granted;
-    // Step 4 (5.6): waiting reads that a holding write is against, and no entitled one.
+    // Step 4 (5.6): waiting reads that conflict with a holding write and with no entitled write.
     let clear = unopposed(rows, requested, waiting & r, holding & w);
     let behind = unopposed(rows, requested, waiting & r & !clear, entitled & w);
     Phases {

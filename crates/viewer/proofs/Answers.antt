@@ -16,7 +16,8 @@ use Rattle.plans.specs.declared.Read.{Read}
 pub value-read : (o : Outcome) (n x : ℕ) → o ≡ Outcome.Bytes n → x ≡ asNumbers (outcomeAsNumbers o .number) x .value
 value-read o n x e = rw e
 
-pub value-refused : (o : Outcome) (r : Refusal) (x : ℕ) → o ≡ Outcome.Refused r → 0 ≡ asNumbers (outcomeAsNumbers o .number) x .value
+pub value-refused : (o : Outcome) (r : Refusal) (x : ℕ) → o ≡ Outcome.Refused r → 0
+    ≡ asNumbers (outcomeAsNumbers o .number) x .value
 value-refused o r x e = rw (e, number-not-zero r)
 
 -- Either figure of the plan that was read.

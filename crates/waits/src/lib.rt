@@ -1,4 +1,5 @@
-// Direct waits: the processors that a request waits for, of one processor and of all. Specification, clause 7.2.
+// Direct waits: the processors that a request waits for, for one processor and for all. `queries` uses it.
+// Specification, clause 7.2.
 mod waits_of_each;
 mod waits_of_one;
 

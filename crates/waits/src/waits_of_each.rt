@@ -1,5 +1,4 @@
-// The direct waits of every processor at once: who writes is worked out once. The queries use it. Specification,
-// clause 7.2.
+// The direct waits of every processor. The writers are computed once for all of them. Specification, clause 7.2.
 use crate::waits_of_one::waits_from;
 use crate::waits_of_one::writers_of;
 use plans::MAX_ENTRIES;
@@ -12,7 +11,7 @@ ghost use Rattle.masks.specs.Tabulation.{tabulate};
 ghost use Rattle.rules.specs.Requests.{factsBy};
 ghost use Rattle.waits.specs.Waits.{waitsIn};
 
-// The direct waits of every processor. Who neither waits nor is entitled waits for nobody.
+// A processor whose request neither waits nor is entitled waits for nobody.
 pub fn waits_of_all(
     rows: &[u64; MAX_ENTRIES],
     writes: u64,

@@ -1,5 +1,5 @@
-// For whom a request waits directly, by masks of processors, on the parts of a board and a state. An entry past the
-// rows conflicts with none. The queries use it. Specification, clause 7.2.
+// The processors that a request waits for directly, using masks of processors and the parts of a board and a state. An
+// entry past the rows conflicts with none. Specification, clause 7.2.
 use masks::has32;
 use masks::join_if;
 use masks::row_at;
@@ -38,7 +38,7 @@ fn row_of(rows: &[u64; MAX_ENTRIES], entry: u8) -> u64
     row_at(rows, entry as u32)
 }
 
-// The direct waits of processor p, from who writes: those that it waits for in each of the four cases, if their
+// The direct waits of processor p, given the writers: those that it waits for in each of the four cases, if their
 // requests conflict with its own.
 pub fn waits_from(
     rows: &[u64; MAX_ENTRIES],
@@ -64,7 +64,7 @@ pub fn waits_from(
     those_in(requested, row_of(rows, requested[p as usize]), others)
 }
 
-// The direct waits of processor p, a mask. A number past the processors waits for nobody.
+// The direct waits of processor p, as a mask. A number past the last processor waits for nobody.
 pub fn waits_of(
     rows: &[u64; MAX_ENTRIES],
     writes: u64,

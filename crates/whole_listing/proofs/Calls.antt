@@ -27,7 +27,8 @@ unfoldable pub callsBy : Bool → Board → State → ℕ → List ℕ → List 
 callsBy closed b st zero s = faultLine (tailFault s)
 callsBy closed b st (suc n) s =
     cond (closed || leb recordSize (length s))
-    (cond (eqb (recordFault s) 0) (lineIn b st s ++ callsBy closed b (stateIn b st s) n (drop recordSize s)) (refusalLine (recordFault s)))
+    (cond (eqb (recordFault s) 0) (lineIn b st s ++ callsBy closed b (stateIn b st s) n (drop recordSize s))
+    (refusalLine (recordFault s)))
     []
 
 pub closed-calls : (b : Board) (n : ℕ) (st : State) (s : List ℕ) → callsBy true b st n s ≡ callsListing b st n s
@@ -55,7 +56,8 @@ module _ (closed : Bool) (b : Board) (st : State) (s : List ℕ) (k : ℕ) (ther
   listed-refused e = rw (looked-at, e)
 
 -- A line in front of what some records and the rest give.
-line-in-front : (line : List ℕ) (e : Bool) (x y : List ℕ) → line ++ cond e x (x ++ y) ≡ cond e (line ++ x) ((line ++ x) ++ y)
+line-in-front : (line : List ℕ) (e : Bool) (x y : List ℕ) → line ++ cond e x (x ++ y)
+    ≡ cond e (line ++ x) ((line ++ x) ++ y)
 line-in-front line true x y = refl
 line-in-front line false x y = sym (append-assoc line x y)
 
@@ -75,18 +77,28 @@ records-then-rest closed b (suc k) m st s whole =
     let there : 8 ≤ length s = omega arith in
     let rest : 8 * k ≤ length (drop 8 s) = simp length-drop (omega arith) in
     elim (found s) [
-      | Found.call e ↦ rw (suc-add, drop-record, listed-call closed b st s (k + m) there e, ran-call b st s k e, records-then-rest closed b k m (stateIn b st s) (drop recordSize s) rest)
+      | Found.call e ↦ rw (
+        suc-add,
+        drop-record,
+        listed-call closed b st s
+            (k + m) there e,
+        ran-call b st s k e,
+        records-then-rest closed b k m (stateIn b st s)
+            (drop recordSize s) rest,
+      )
           (line-in-front (lineIn b st s) (later .ended) (later .lines) _)
       | Found.refused e ↦ rw (suc-add, listed-refused closed b st s (k + m) there e, ran-refused b st s k e)
     ]
 
 -- If no refusal ended the records, all of them were carried out.
-pub all-carried-out : (b : Board) (k : ℕ) (st : State) (s : List ℕ) → ran b st k s .ended ≡ false → ran b st k s .calls ≡ k
+pub all-carried-out : (b : Board) (k : ℕ) (st : State) (s : List ℕ) → ran b st k s .ended ≡ false → ran b st k s .calls
+    ≡ k
 unfolding ran
 all-carried-out b zero st s e = refl
 all-carried-out b (suc k) st s e =
     elim (found s) [
-      | Found.call h ↦ rw (ran-call b st s k h) (ap suc (all-carried-out b k (stateIn b st s) (drop recordSize s) (rw (ran-call b st s k h) at e)))
+      | Found.call h ↦ rw (ran-call b st s k h)
+          (ap suc (all-carried-out b k (stateIn b st s) (drop recordSize s) (rw (ran-call b st s k h) at e)))
       | Found.refused h ↦ absurd (no-end (rw (ran-refused b st s k h) at e))
     ]
   where
@@ -111,22 +123,36 @@ module _ (s t : List ℕ) (h : recordSize ≤ length s) where
       rw (fields-in-front, le-leb 8 (length (s ++ t)) longer, le-leb 8 (length s) h)
 
 -- The same for several records.
-records-in-front : (b : Board) (k : ℕ) (st : State) (s t : List ℕ) → recordSize * k ≤ length s → ran b st k (s ++ t) ≡ ran b st k s
+records-in-front : (b : Board) (k : ℕ) (st : State) (s t : List ℕ) → recordSize * k ≤ length s → ran b st k (s ++ t)
+    ≡ ran b st k s
 unfolding ran
 records-in-front b zero st s t h = refl
 records-in-front b (suc k) st s t h =
     let one : 8 ≤ length s = omega arith in
     let later : 8 * k ≤ length (drop 8 s) = simp length-drop (omega arith) in
-    rw (fault-in-front s t one, fields-in-front s t one, drop-append-le 8 s t one, records-in-front b k (stateIn b st s) (drop 8 s) t later)
+    rw (
+      fault-in-front s t one,
+      fields-in-front s t one,
+      drop-append-le 8 s t one,
+      records-in-front b k (stateIn b st s)
+          (drop 8 s) t later,
+    )
 
 -- For the bytes s that have arrived and t that are still to come: the lines of the records in s, and then those of the
 -- rest of s with t.
-pub piece-then-rest : (closed : Bool) (b : Board) (k n : ℕ) (st : State) (s t : List ℕ) → k ≤ n → recordSize * k ≤ length s
-    → callsBy closed b st n (s ++ t) ≡ goingOn (ran b st k s) (λ st′. callsBy closed b st′ (n - k) (drop (recordSize * k) s ++ t))
+pub piece-then-rest : (closed : Bool) (b : Board) (k n : ℕ) (st : State) (s t : List ℕ) → k ≤ n
+    → recordSize * k ≤ length s
+    → callsBy closed b st n (s ++ t) ≡ goingOn (ran b st k s)
+    (λ st′. callsBy closed b st′ (n - k) (drop (recordSize * k) s ++ t))
 piece-then-rest closed b k n st s t h w =
     let longer : 8 * k ≤ length (s ++ t) = simp length-append (omega arith) in
     ap (λ (m : ℕ). callsBy closed b st m (s ++ t)) (sym (add-sub-of-le h))
-    ∙ rw (records-then-rest closed b k (n - k) st (s ++ t) longer, records-in-front b k st s t w, drop-append-le (8 * k) s t w)
+    ∙ rw (
+      records-then-rest closed b k (n - k) st (s ++ t) longer,
+      records-in-front b k st s t w,
+      drop-append-le
+          (8 * k) s t w,
+    )
 
 -- While a call is left, the program waits for a record.
 pub record-due : (n : ℕ) → dueSize (suc n) ≡ recordSize
@@ -134,7 +160,8 @@ record-due n = rw (ne-eqb (suc n) 0 (λ e. omega arith))
 
 -- With fewer bytes than the program waits for: at the end of the input the line that ends the listing, if any, and
 -- otherwise nothing.
-pub end-of-input : (b : Board) (n : ℕ) (st : State) (s : List ℕ) → length s < dueSize n → callsBy true b st n s ≡ endLine n s
+pub end-of-input : (b : Board) (n : ℕ) (st : State) (s : List ℕ) → length s < dueSize n → callsBy true b st n s
+    ≡ endLine n s
 unfolding callsBy endFault recordFault
 end-of-input b zero st s h = refl
 end-of-input b (suc n) st s h =
@@ -150,7 +177,8 @@ still-open b (suc n) st s h =
     rw (lt-leb 8 (length s) few)
 
 -- A byte after the last call gives its line, whatever follows it.
-pub tail-is-told : (closed : Bool) (b : Board) (st : State) (s t : List ℕ) → 0 < length s → callsBy closed b st 0 (s ++ t) ≡ endLine 0 s
+pub tail-is-told : (closed : Bool) (b : Board) (st : State) (s t : List ℕ) → 0 < length s
+    → callsBy closed b st 0 (s ++ t) ≡ endLine 0 s
 unfolding callsBy endFault
 tail-is-told closed b st [] t h = absurd (omega arith)
 tail-is-told closed b st (x ∷ s) t h =

@@ -16,7 +16,8 @@ use Rattle.plans.specs.declared.Entry.{Entry}
 use Rattle.plans.specs.declared.Plan.{Plan}
 use Rattle.plans.specs.Entries.{maxProcessors, maxResources, maxEntries, isRead, isWrite}
 use Rattle.plans.specs.Entries.{countsSize, entrySize, entrySizeOf, largestEntry, sectionSize, countedEntries}
-use Rattle.plans.specs.Acceptance.{within, processorsFault, resourcesFault, countFault, countsFault, kindFault, setFault, lengthFault, entryFault}
+use Rattle.plans.specs.Acceptance.{within, processorsFault, resourcesFault, countFault, countsFault, kindFault}
+use Rattle.plans.specs.Acceptance.{setFault, lengthFault, entryFault}
 use Rattle.plans.specs.Reading.{entryIn, entriesIn, sectionFault, readFault, blankPlan, planIn, readAsNumbers, planRead}
 use Rattle.plans.proofs.Sizes.{entry-size-least, entry-size-most, entry-size-due}
 use Rattle.plans.proofs.EntryBytes.{first-there, later-there}
@@ -45,11 +46,13 @@ look-same zero b c h decided = h refl decided
 look-same (suc n) b c h decided = rw (eqb·suc-zero n)
 
 -- The same after bytes that are due and are there.
-due-same : (k : ℕ) (s t : List ℕ) (b c : ℕ) → (k ≤ length s → NotShort b → b ≡ c) → NotShort (firstOf (shortFault k s) b)
+due-same : (k : ℕ) (s t : List ℕ) (b c : ℕ) → (k ≤ length s → NotShort b → b ≡ c)
+    → NotShort (firstOf (shortFault k s) b)
     → firstOf (shortFault k s) b ≡ firstOf (shortFault k (s ++ t)) c
 due-same k s t b c h decided = go (leb k (length s)) refl decided
   where
-    go : (there : Bool) → leb k (length s) ≡ there → NotShort (firstOf (due there 1) b) → firstOf (shortFault k s) b ≡ firstOf (shortFault k (s ++ t)) c
+    go : (there : Bool) → leb k (length s) ≡ there → NotShort (firstOf (due there 1) b) → firstOf (shortFault k s) b
+        ≡ firstOf (shortFault k (s ++ t)) c
     go true e d =
         let whole : k ≤ length s = leb-true k (length s) e in
         let longer : k ≤ length (s ++ t) = simp length-append (omega arith) in
@@ -80,7 +83,8 @@ entries-in-front (suc n) s t h =
     rw (entry-in-front s t one, drop-append-le k s t whole, entries-in-front n (drop k s) t (later-there n s h))
 
 -- The same for their first fault, unless it is that they are short.
-section-decided : (r n : ℕ) (s t : List ℕ) → NotShort (sectionFault r n s) → sectionFault r n s ≡ sectionFault r n (s ++ t)
+section-decided : (r n : ℕ) (s t : List ℕ) → NotShort (sectionFault r n s) → sectionFault r n s
+    ≡ sectionFault r n (s ++ t)
 unfolding sectionFault
 section-decided r zero s t decided = refl
 section-decided r (suc n) s t decided =
@@ -96,7 +100,8 @@ entry-not-short : (r : ℕ) (e : Entry) → NotShort (entryFault r e)
 unfolding entryFault
 entry-not-short r e =
     first-not-short (kindFault e) _ (due-not-short (isRead e || isWrite e) 6 (omega arith))
-    (λ z. first-not-short (setFault r e) _ (due-not-short (not (eqb (e .set) 0) && ltb (e .set) (2 ^ r)) 7 (omega arith))
+    (λ z. first-not-short (setFault r e) _ (due-not-short (not (eqb (e .set) 0) && ltb (e .set) (2 ^ r)) 7
+    (omega arith))
     (λ z′. due-not-short (ltb 0 (e .length)) 8 (omega arith)))
 
 section-not-short : (r n : ℕ) (s : List ℕ) → largestEntry * n ≤ length s → NotShort (sectionFault r n s)
@@ -120,8 +125,10 @@ full-plan s h = rw (ne-eqb (readFault s) 1 decided)
     decided e =
         let counts = countsFault (getD s 0 0) (getD s 1 0) (getD s 2 0) in
         first-not-short counts _
-        (first-not-short (processorsFault (getD s 0 0)) _ (due-not-short (within 1 maxProcessors (getD s 0 0)) 3 (omega arith))
-        (λ z. first-not-short (resourcesFault (getD s 1 0)) _ (due-not-short (within 1 maxResources (getD s 1 0)) 4 (omega arith))
+        (first-not-short (processorsFault (getD s 0 0)) _
+        (due-not-short (within 1 maxProcessors (getD s 0 0)) 3 (omega arith))
+        (λ z. first-not-short (resourcesFault (getD s 1 0)) _
+        (due-not-short (within 1 maxResources (getD s 1 0)) 4 (omega arith))
         (λ z′. due-not-short (within 1 maxEntries (getD s 2 0)) 5 (omega arith))))
         (λ z. section-not-short (getD s 1 0) (getD s 2 0) (drop countsSize s)
         (omega (arith, length-drop countsSize s, counts-at-most (getD s 0 0) (getD s 1 0) (getD s 2 0) z)))

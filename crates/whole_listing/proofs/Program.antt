@@ -25,7 +25,8 @@ use Rattle.log_input.specs.Stages.{isShort}
 use Rattle.whole_listing.specs.Rooms.{planRoom, blockRoom}
 use Rattle.whole_listing.specs.Listing.{listingOf}
 use Rattle.whole_listing.specs.SoFar.{listingSoFar}
-use Rattle.whole_listing.specs.Arrivals.{together, Arrived, fed, waited, planThere, countThere, callThere, inBlocks, fromCount, fromPlan, programListing}
+use Rattle.whole_listing.specs.Arrivals.{together, Arrived, fed, waited, planThere, countThere, callThere}
+use Rattle.whole_listing.specs.Arrivals.{inBlocks, fromCount, fromPlan, programListing}
 use Rattle.whole_listing.proofs.Waits.{Fed, fed-until-enough, after-wait, all-at-hand}
 use Rattle.whole_listing.proofs.Calls.{callsBy}
 use Rattle.whole_listing.proofs.Blocks.{waits-for-call, in-blocks}
@@ -44,7 +45,8 @@ module _ (closed : Bool) (b : Board) (st : State) where
   -- What is written from a block that begins with the number of calls is what its bytes give.
   written-from : (s : List ℕ) (t : List (List ℕ)) → readCount s .number ≡ 0
       → fromCount closed b st s t
-      ≡ waited closed (callThere (readCount s .value)) (fed blockRoom (callThere (readCount s .value)) (drop countSize s) t)
+      ≡ waited closed (callThere (readCount s .value))
+      (fed blockRoom (callThere (readCount s .value)) (drop countSize s) t)
       (λ s′ t′. inBlocks closed (suc (readCount s .value)) b st (readCount s .value) s′ t′)
   written-from s t none = rw none
 
@@ -52,15 +54,18 @@ module _ (closed : Bool) (b : Board) (st : State) where
       → countedBy closed b st (s ++ u) ≡ callsBy closed b st (readCount s .value) (drop countSize s ++ u)
   counted-from s u two none =
       let longer : 2 ≤ length (s ++ u) = simp length-append (omega arith) in
-      ap (λ c. cond c (by (readCount (s ++ u)) (s ++ u)) []) (or-right closed (countThere (s ++ u)) (le-leb 2 (length (s ++ u)) longer))
+      ap (λ c. cond c (by (readCount (s ++ u)) (s ++ u)) [])
+      (or-right closed (countThere (s ++ u)) (le-leb 2 (length (s ++ u)) longer))
       ∙ ap (λ x. by x (s ++ u)) (count-in-front s u two)
-      ∙ ap (λ k. cond (eqb k 0) (callsBy closed b st (readCount s .value) (drop countSize (s ++ u))) (refusalLine k)) none
+      ∙ ap (λ k. cond (eqb k 0) (callsBy closed b st (readCount s .value) (drop countSize (s ++ u))) (refusalLine k))
+      none
       ∙ ap (callsBy closed b st (readCount s .value)) (drop-append-le 2 s u two)
     where
       by : AsNumbers → List ℕ → List ℕ
       by x v = cond (eqb (x .number) 0) (callsBy closed b st (x .value) (drop countSize v)) (refusalLine (x .number))
 
-  counted : (s : List ℕ) (t : List (List ℕ)) → length s ≤ blockRoom → countThere s ≡ true → fromCount closed b st s t ≡ countedBy closed b st (s ++ together t)
+  counted : (s : List ℕ) (t : List (List ℕ)) → length s ≤ blockRoom → countThere s ≡ true → fromCount closed b st s t
+      ≡ countedBy closed b st (s ++ together t)
   counted s t holds there =
       let two : 2 ≤ length s = leb-true 2 (length s) there in
       let none : readCount s .number ≡ 0 = enough-at countSize s two in
@@ -72,7 +77,8 @@ module _ (closed : Bool) (b : Board) (st : State) where
       ∙ sym (counted-from s (together t) two none)
 
   -- The input ends without a number of calls.
-  not-counted : (s : List ℕ) (t : List (List ℕ)) → countThere s ≡ false → fromCount closed b st s t ≡ countedBy true b st s
+  not-counted : (s : List ℕ) (t : List (List ℕ)) → countThere s ≡ false → fromCount closed b st s t
+      ≡ countedBy true b st s
   not-counted s t few = rw (few, append-nil)
 
   -- The wait for the number of calls, from the bytes after the plan.
@@ -98,7 +104,8 @@ module _ (closed : Bool) (b : Board) (st : State) where
 
 module _ (closed : Bool) (s : List ℕ) (t : List (List ℕ)) where
   -- A plan that is there and is refused gives its line.
-  pub listed-refused : (u : List ℕ) → planThere s ≡ true → eqb (readFault s) 0 ≡ false → listedBy closed (s ++ u) ≡ refusalLine (readFault s)
+  pub listed-refused : (u : List ℕ) → planThere s ≡ true → eqb (readFault s) 0 ≡ false → listedBy closed (s ++ u)
+      ≡ refusalLine (readFault s)
   unfolding listedBy
   listed-refused u there faulty = rw (← fault-decided s u there, or-right closed (planThere s) there, faulty)
 
@@ -119,12 +126,14 @@ module _ (closed : Bool) (s : List ℕ) (t : List (List ℕ)) where
 
   pub listed-after : (u : List ℕ) → planThere s ≡ true → readFault s ≡ 0
       → listedBy closed (s ++ u)
-      ≡ firstLine (planRead s) ++ countedBy closed (boardOf (planRead s)) freshState (drop (readAsNumbers s .value) s ++ u)
+      ≡ firstLine (planRead s) ++ countedBy closed (boardOf (planRead s)) freshState
+      (drop (readAsNumbers s .value) s ++ u)
   unfolding listedBy
   listed-after u there none =
       let same : readFault (s ++ u) ≡ readFault s = sym (fault-decided s u there) in
       let size = readAsNumbers s .value in
-      ap (λ c. cond c (cond (eqb (readFault (s ++ u)) 0) (acceptedBy closed (s ++ u)) (refusalLine (readFault (s ++ u)))) [])
+      ap (λ c. cond c (cond (eqb (readFault (s ++ u)) 0) (acceptedBy closed (s ++ u))
+      (refusalLine (readFault (s ++ u)))) [])
       (or-right closed (planThere (s ++ u)) (ap (λ f. not (eqb f 1)) same ∙ there))
       ∙ ap (λ f. cond (eqb f 0) (acceptedBy closed (s ++ u)) (refusalLine f)) (same ∙ none)
       ∙ ap (λ v. from v (planRead (s ++ u)) (s ++ u)) (size-decided s u there none)
@@ -135,12 +144,14 @@ module _ (closed : Bool) (s : List ℕ) (t : List (List ℕ)) where
       from : ℕ → Plan → List ℕ → List ℕ
       from v p w = firstLine p ++ countedBy closed (boardOf p) freshState (drop v w)
 
-  accepted : length s ≤ planRoom → planThere s ≡ true → readFault s ≡ 0 → fromPlan closed s t ≡ listedBy closed (s ++ together t)
+  accepted : length s ≤ planRoom → planThere s ≡ true → readFault s ≡ 0 → fromPlan closed s t
+      ≡ listedBy closed (s ++ together t)
   accepted holds there none =
       let size = readAsNumbers s .value in
       let fits : length (drop size s) ≤ blockRoom = omega (arith, length-drop size s) in
       written-after none
-      ∙ ap (λ l. firstLine (planRead s) ++ l) (waits-for-count closed (boardOf (planRead s)) freshState (drop size s) t fits)
+      ∙ ap (λ l. firstLine (planRead s) ++ l)
+      (waits-for-count closed (boardOf (planRead s)) freshState (drop size s) t fits)
       ∙ sym (listed-after (together t) there none)
 
   there-listed : length s ≤ planRoom → planThere s ≡ true → fromPlan closed s t ≡ listedBy closed (s ++ together t)
@@ -158,7 +169,8 @@ module _ (closed : Bool) (s : List ℕ) (t : List (List ℕ)) where
       rw (one, append-nil)
 
 -- What the program writes is what the bytes of all pieces give.
-pub program-lists : (closed : Bool) (pieces : List (List ℕ)) → programListing closed pieces ≡ listedBy closed (together pieces)
+pub program-lists : (closed : Bool) (pieces : List (List ℕ)) → programListing closed pieces
+    ≡ listedBy closed (together pieces)
 unfolding programListing listedBy
 program-lists closed pieces =
     after-wait closed planThere a (λ s t. fromPlan closed s t) (listedBy closed (together pieces))

@@ -34,14 +34,17 @@ calls-within b (suc k) st s =
     ]
 
 -- A line takes no more bytes than the buffer has.
-pub line-within : (bytes : List ℕ) (size at : ℕ) (la : Outcome) → outcomeAsNumbers la ≡ lineAsNumbers bytes size at → outcomeAsNumbers la .value ≤ size
-line-within bytes size at la e = rw (ap (λ (x : AsNumbers). x .value) e) (go (eqb (roomFault (length bytes) size at) 0) refl)
+pub line-within : (bytes : List ℕ) (size at : ℕ) (la : Outcome) → outcomeAsNumbers la ≡ lineAsNumbers bytes size at
+    → outcomeAsNumbers la .value ≤ size
+line-within bytes size at la e = rw (ap (λ (x : AsNumbers). x .value) e)
+    (go (eqb (roomFault (length bytes) size at) 0) refl)
   where
     go : (t : Bool) → eqb (roomFault (length bytes) size at) 0 ≡ t → cond t (length bytes) 0 ≤ size
     go true h = omega (arith, room-fits (length bytes) size at (eqb-true _ 0 h))
     go false h = omega arith
 
-module _ (b : Board) (st : State) (left size : ℕ) (s : List ℕ) (r : RanBlock) (e : r ≡ ranBlock (ran b st (budget left s size) s)) where
+module _ (b : Board) (st : State) (left size : ℕ) (s : List ℕ) (r : RanBlock)
+    (e : r ≡ ranBlock (ran b st (budget left s size) s)) where
   calls-in-budget : r .calls ≤ budget left s size
   calls-in-budget = omega (arith, ap (λ (x : RanBlock). x .calls) e, calls-within b (budget left s size) st s)
 
@@ -53,13 +56,20 @@ module _ (b : Board) (st : State) (left size : ℕ) (s : List ℕ) (r : RanBlock
   calls-whole = omega (arith, calls-in-budget)
 
   -- The lines are within the buffer that contains them.
-  pub lines-within : (out out′ : List ℕ) → out′ ≡ overwritten out 0 (ran b st (budget left s size) s .lines) → r .written ≤ length out′
+  pub lines-within : (out out′ : List ℕ) → out′ ≡ overwritten out 0 (ran b st (budget left s size) s .lines)
+      → r .written ≤ length out′
   lines-within out out′ eo =
       let lines = ran b st (budget left s size) s .lines in
-      omega (arith, ap (λ (x : RanBlock). x .written) e, ap length eo ∙ length-append lines (drop (0 + length lines) out))
+      omega (
+        arith,
+        ap (λ (x : RanBlock). x .written) e,
+        ap length eo
+            ∙ length-append lines (drop (0 + length lines) out),
+      )
 
 -- A plan ends within the bytes that were lent.
-pub plan-filled : (plan : List ℕ) (filled n : ℕ) (o : Outcome) → outcomeAsNumbers o ≡ readAsNumbers (take filled plan) → filled ≤ length plan
+pub plan-filled : (plan : List ℕ) (filled n : ℕ) (o : Outcome) → outcomeAsNumbers o ≡ readAsNumbers (take filled plan)
+    → filled ≤ length plan
     → o ≡ Outcome.Bytes n
     → n ≤ filled
 plan-filled plan filled n o says h e =

@@ -38,7 +38,8 @@ one-of false x y n h k = k
 
 pub opening-has-room : (s : List ℕ) → length (openingLine s) ≤ linesRoom
 opening-has-room s =
-    one-of (eqb (readFault s) 0) _ _ linesRoom (omega (arith, any-first (planRead s))) (omega (arith, any-refusal (readFault s)))
+    one-of (eqb (readFault s) 0) _ _ linesRoom (omega (arith, any-first (planRead s)))
+    (omega (arith, any-refusal (readFault s)))
 
 fault-has-room : (n : ℕ) → length (faultLine n) ≤ linesRoom
 fault-has-room n = one-of (eqb n 0) [] (refusalLine n) linesRoom (omega arith) (omega (arith, any-refusal n))

@@ -23,7 +23,8 @@ use Rattle.whole_listing.proofs.Calls.{callsBy, closed-calls, open-call
 abbrev pub countedBy : Bool → Board → State → List ℕ → List ℕ
 countedBy closed b st s =
     cond (closed || countThere s)
-    (cond (eqb (readCount s .number) 0) (callsBy closed b st (readCount s .value) (drop countSize s)) (refusalLine (readCount s .number)))
+    (cond (eqb (readCount s .number) 0) (callsBy closed b st (readCount s .value) (drop countSize s))
+    (refusalLine (readCount s .number)))
     []
 
 abbrev pub acceptedBy : Bool → List ℕ → List ℕ

@@ -50,7 +50,8 @@ pub record Fed (room : ℕ) (enough : List ℕ → Bool) (s : List ℕ) (t : Lis
   pub ended : enough (a .bytes) ≡ false → together (a .later) ≡ []
 
 module _ (room : ℕ) (enough : List ℕ → Bool) (full : (s : List ℕ) → room ≤ length s → enough s ≡ true) where
-  turns-enough : (turns : ℕ) (s : List ℕ) (t : List (List ℕ)) → length s ≤ room → (room - length s ≤ turns) ⊎ (together t ≡ [])
+  turns-enough : (turns : ℕ) (s : List ℕ) (t : List (List ℕ)) → length s ≤ room → (room - length s ≤ turns)
+      ⊎ (together t ≡ [])
       → Fed room enough s t (reads turns room enough s t)
   unfolding reads
   turns-enough zero s t fits (inl h) =
@@ -71,7 +72,8 @@ module _ (room : ℕ) (enough : List ℕ → Bool) (full : (s : List ℕ) → ro
       lost : more ++ together (toCome n t) ≡ s ++ together t
       lost = append-assoc s (got n t) (together (toCome n t)) ∙ ap (λ l. s ++ l) (read-loses-nothing n t)
 
-      next : (room - length s ≤ suc turns) ⊎ (together t ≡ []) → (0 < length (got n t)) ⊎ (together t ≡ []) → (room - length more ≤ turns) ⊎ (together (toCome n t) ≡ [])
+      next : (room - length s ≤ suc turns) ⊎ (together t ≡ []) → (0 < length (got n t)) ⊎ (together t ≡ [])
+          → (room - length more ≤ turns) ⊎ (together (toCome n t) ≡ [])
       next (inr none) brought = inr (second-empty (got n t) (together (toCome n t)) (read-loses-nothing n t ∙ none))
       next (inl few) (inr none) = inr (second-empty (got n t) (together (toCome n t)) (read-loses-nothing n t ∙ none))
       next (inl few) (inl some) = inl (omega (arith, size))
@@ -84,12 +86,14 @@ module _ (room : ℕ) (enough : List ℕ → Bool) (full : (s : List ℕ) → ro
       carry f = record { whole = f .whole ∙ lost; holds = f .holds; ended = f .ended }
 
       go : (e : Bool) → enough s ≡ e
-          → ((s′ : List ℕ) (t′ : List (List ℕ)) → length s′ ≤ room → (room - length s′ ≤ turns) ⊎ (together t′ ≡ []) → Fed room enough s′ t′ (reads turns room enough s′ t′))
+          → ((s′ : List ℕ) (t′ : List (List ℕ)) → length s′ ≤ room → (room - length s′ ≤ turns) ⊎ (together t′ ≡ [])
+          → Fed room enough s′ t′ (reads turns room enough s′ t′))
           → Fed room enough s t (cond e (record { bytes = s; later = t }) (reads turns room enough more (toCome n t)))
       go true e later = record { whole = refl; holds = fits; ended = λ few. no-clash (enough s) e few }
       go false e later =
           let small : length s < room = below (leb room (length s)) refl e in
-          carry (later more (toCome n t) (omega (arith, size, read-within n t)) (next h (read-brings n t (omega arith))))
+          carry (later more (toCome n t) (omega (arith, size, read-within n t))
+          (next h (read-brings n t (omega arith))))
 
   -- As many turns as there are bytes of room are enough.
   pub fed-until-enough : (s : List ℕ) (t : List (List ℕ)) → length s ≤ room → Fed room enough s t (fed room enough s t)
@@ -97,7 +101,8 @@ module _ (room : ℕ) (enough : List ℕ → Bool) (full : (s : List ℕ) → ro
 
 -- What is written after a wait is what the bytes at hand and to come give if they are enough or if the input ended, and
 -- nothing while the wait goes on.
-pub after-wait : (closed : Bool) (enough : List ℕ → Bool) (a : Arrived) (next : List ℕ → List (List ℕ) → List ℕ) (gives : List ℕ)
+pub after-wait : (closed : Bool) (enough : List ℕ → Bool) (a : Arrived) (next : List ℕ → List (List ℕ) → List ℕ)
+    (gives : List ℕ)
     → (enough (a .bytes) ≡ true → next (a .bytes) (a .later) ≡ gives)
     → (closed ≡ true → enough (a .bytes) ≡ false → next (a .bytes) (a .later) ≡ gives)
     → (closed ≡ false → enough (a .bytes) ≡ false → [] ≡ gives)

@@ -24,7 +24,8 @@ module _ (k state entry waited waits : ℕ) (l : List ℕ) (at : ℕ) where
   abbrev start : List ℕ
   start = set (set l at state) (at + 1) entry
 
-  part-stores : sets (sets start (at + 2) (bytesOf 4 waited)) (at + 6) (bytesOf k waits) ≡ sets l at (partBytes k state entry waited waits)
+  part-stores : sets (sets start (at + 2) (bytesOf 4 waited)) (at + 6) (bytesOf k waits)
+      ≡ sets l at (partBytes k state entry waited waits)
   unfolding partBytes
   part-stores =
       let one : at + 1 ≡ suc at = omega arith in
@@ -45,7 +46,8 @@ module _ (k state entry waited waits : ℕ) (l : List ℕ) (at : ℕ) where
       → last ≡ sets l at (partBytes k state entry waited waits)
   part-written mid last h first second =
       let size : length start ≡ length l = length-set (set l at state) (at + 1) entry ∙ length-set l at state in
-      let stored = first ∙ stored-where-fits start (at + 2) (bytesOf 4 waited) 4 (length-bytesOf 4 waited) (omega arith) in
+      let stored = first ∙ stored-where-fits start (at + 2) (bytesOf 4 waited) 4 (length-bytesOf 4 waited)
+      (omega arith) in
       second
       ∙ ap (λ m. sets m (at + 6) (bytesOf k waits)) stored
       ∙ part-stores

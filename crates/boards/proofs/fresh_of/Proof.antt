@@ -19,8 +19,14 @@ returns-2 : tie.Need-returns-2
 unfolding freshBoard
 returns-2 c =
     let told = c .before .before in
-    let fault = ap verdictNumber (sym (told .verdict .given .1)) ∙ told .before .before .check .ensures in
-    (fault, (rw (← fault, number-not-zero _) (c .blank-board .ensures), told .before .before .before .fresh-state .ensures))
+    let fault = ap verdictNumber (sym (told .verdict .given .1)) ∙ told .before .before .check .ensures in (
+      fault,
+      (
+        rw (← fault, number-not-zero _)
+            (c .blank-board .ensures),
+        told .before .before .before .fresh-state .ensures,
+      ),
+    )
 
 pub fresh-of-spec : {M : Type 1} → statement M
 fresh-of-spec =

@@ -15,7 +15,8 @@ use Rattle.boards.proofs.lengths_of.Statement.{statement}
 use Rattle.boards.proofs.lengths_of.Tie as tie
 
 abbrev Inv-loop : tie.InvT-loop
-Inv-loop plan out₀ i₀ out i = (i ≤ maxEntries) × (length out ≡ maxEntries) × (take i out ≡ tabulate i (λ i. entryAt plan i .length))
+Inv-loop plan out₀ i₀ out i = (i ≤ maxEntries) × (length out ≡ maxEntries)
+    × (take i out ≡ tabulate i (λ i. entryAt plan i .length))
 
 abbrev μ-loop : tie.MeasureT-loop
 μ-loop plan out₀ i₀ out i = maxEntries - i
@@ -29,7 +30,8 @@ loop-again c =
     let inside = c .before .before .before in (
       omega arith,
       simp length-set (inside .loop .inv .1),
-      fill-more _ _ _ _ (omega arith) (inside .loop .inv .2) (c .counted-length .ensures ∙ counted-field (inside .before .args .t1) _ (λ (x : Entry). x .length) refl),
+      fill-more _ _ _ _ (omega arith) (inside .loop .inv .2)
+          (c .counted-length .ensures ∙ counted-field (inside .before .args .t1) _ (λ (x : Entry). x .length) refl),
     )
 
 returns : tie.Need-returns Inv-loop μ-loop

@@ -23,8 +23,11 @@ loop-holds c = (omega arith, refl)
 
 loop-again : tie.Need-loop-again Inv-loop μ-loop
 loop-again c =
-    let inside = c .before .before .before .before in
-    (omega arith, writes-more (inside .before .args .t1) _ _ _ _ (omega arith) (inside .loop .inv .1) (c .before .write-place .ensures) (c .add64 .ensures))
+    let inside = c .before .before .before .before in (
+      omega arith,
+      writes-more (inside .before .args .t1) _ _ _ _ (omega arith) (inside .loop .inv .1)
+          (c .before .write-place .ensures) (c .add64 .ensures),
+    )
 
 returns : tie.Need-returns Inv-loop μ-loop
 unfolding boardOf

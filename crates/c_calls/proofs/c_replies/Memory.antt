@@ -20,10 +20,12 @@ use Rattle.c_calls.specs.declared.c_replies.CReply.{CReply}
 use Rattle.c_calls.specs.Replies.{response, momentLeft, answerIn}
 
 -- The same with the moment that was read from the caller's memory.
-pub from-memory : (call : State → Answer) (moment : Moment) (last : ℕ) (phases entry since earlier : List ℕ) (a : Answer)
+pub from-memory : (call : State → Answer) (moment : Moment) (last : ℕ) (phases entry since earlier : List ℕ)
+    (a : Answer)
     → moment ≡ momentBy last phases → a ≡ call (stateBy moment entry since earlier)
     → a ≡ call (stateBy (momentBy last phases) entry since earlier)
-from-memory call moment last phases entry since earlier a read is = is ∙ ap (λ m. call (stateBy m entry since earlier)) read
+from-memory call moment last phases entry since earlier a read is = is
+    ∙ ap (λ m. call (stateBy m entry since earlier)) read
 
 -- ---- a refused call
 
@@ -57,7 +59,8 @@ moment-after x s stays changed entry since earlier is (Reply.Refused r) e =
 -- So the caller's memory contains the call's answer.
 pub answered : (x : Answer) (s : State) → Stays x s → (told : CReply) (changed : Changed) (last : ℕ)
     (phases entry since earlier : List ℕ) → response told ≡ replyAsNumbers (changed .reply)
-    → momentBy last phases ≡ momentLeft (changed .reply) (changed .moment) (record { last = s .last; phases = s .phases })
+    → momentBy last phases ≡ momentLeft (changed .reply) (changed .moment)
+    (record { last = s .last; phases = s .phases })
     → answerBy changed entry since earlier ≡ x → answerIn told last phases entry since earlier ≡ x
 answered x s stays told changed last phases entry since earlier says left is =
     ap (λ a. record { reply = a; state = stateBy (momentBy last phases) entry since earlier }) says

@@ -21,4 +21,5 @@ returns c =
 
 pub bittmelon-fresh-parts-spec : {M : Type 1} → statement M
 bittmelon-fresh-parts-spec =
-    tie.close (tie.spec (λ c κs. search needs) (λ c κs. search needs) (λ c κs. search needs) (λ c κs. search needs) returns)
+    tie.close (tie.spec (λ c κs. search needs) (λ c κs. search needs) (λ c κs. search needs)
+    (λ c κs. search needs) returns)

@@ -22,4 +22,5 @@ returns c =
     )
 
 pub bittmelon-list-parts-spec : {M : Type 1} → statement M
-bittmelon-list-parts-spec = tie.close (tie.spec (λ c κs. search needs) (λ c κs. search needs) (λ c κs. search needs) (λ c. search needs) returns)
+bittmelon-list-parts-spec = tie.close (tie.spec (λ c κs. search needs) (λ c κs. search needs) (λ c κs. search needs)
+    (λ c. search needs) returns)

@@ -17,10 +17,13 @@ returns c =
     let given = read .phases-of .ensures in (
       c .mask-for-c .ensures
           ∙ found .reach-in-place .ensures .0
-          ∙ ap (λ ph. reachQuery b (stateWith (a .requested .now) (a .earlier .now) ph) (a .processor) (a .scratch .now)) given,
+          ∙ ap (λ ph. reachQuery b (stateWith (a .requested .now) (a .earlier .now) ph) (a .processor)
+          (a .scratch .now)) given,
       found .reach-in-place .ensures .1
-          ∙ ap (λ ph. reachScratch b (stateWith (a .requested .now) (a .earlier .now) ph) (a .processor) (a .scratch .now)) given,
+          ∙ ap (λ ph. reachScratch b (stateWith (a .requested .now) (a .earlier .now) ph) (a .processor)
+          (a .scratch .now)) given,
     )
 
 pub bittmelon-reach-parts-spec : {M : Type 1} → statement M
-bittmelon-reach-parts-spec = tie.close (tie.spec (λ c κs. search needs) (λ c κs. search needs) (λ c κs. search needs) (λ c. search needs) returns)
+bittmelon-reach-parts-spec = tie.close (tie.spec (λ c κs. search needs) (λ c κs. search needs) (λ c κs. search needs)
+    (λ c. search needs) returns)

@@ -14,8 +14,10 @@ returns c =
     let a = c .before .before .before .before .args in
     c .phase-for-c .ensures
     ∙ c .before .phase-in-place .ensures
-    ∙ ap (λ ph. phaseQuery (boardWith (termsBy (a .processors) (a .entries) 0) []) (stateWith (a .requested .now) [] ph) (a .processor))
+    ∙ ap (λ ph. phaseQuery (boardWith (termsBy (a .processors) (a .entries) 0) []) (stateWith (a .requested .now) [] ph)
+    (a .processor))
     (c .before .before .phases-of .ensures)
 
 pub bittmelon-state-parts-spec : {M : Type 1} → statement M
-bittmelon-state-parts-spec = tie.close (tie.spec (λ c κs. search needs) (λ c κs. search needs) (λ c κs. search needs) returns)
+bittmelon-state-parts-spec = tie.close (tie.spec (λ c κs. search needs) (λ c κs. search needs)
+    (λ c κs. search needs) returns)

@@ -14,7 +14,9 @@ returns c =
     let b = boardWith (termsBy (a .processors) (a .entries) (a .writes)) (a .rows .now) in
     c .mask-for-c .ensures
     ∙ c .before .direct-waits-in-place .ensures
-    ∙ ap (λ ph. waitsQuery b (stateWith (a .requested .now) (a .earlier .now) ph) (a .processor)) (c .before .before .phases-of .ensures)
+    ∙ ap (λ ph. waitsQuery b (stateWith (a .requested .now) (a .earlier .now) ph) (a .processor))
+    (c .before .before .phases-of .ensures)
 
 pub bittmelon-waits-parts-spec : {M : Type 1} → statement M
-bittmelon-waits-parts-spec = tie.close (tie.spec (λ c κs. search needs) (λ c κs. search needs) (λ c κs. search needs) returns)
+bittmelon-waits-parts-spec = tie.close (tie.spec (λ c κs. search needs) (λ c κs. search needs)
+    (λ c κs. search needs) returns)

@@ -16,7 +16,8 @@ use Rattle.conflicts.proofs.all_rows.Tie as tie
 
 abbrev Inv-loop : tie.InvT-loop
 Inv-loop plan widened rows₀ i₀ rows i =
-    (i ≤ maxEntries) × (length rows ≡ maxEntries) × (take i rows ≡ tabulate i (λ i. maskOf maxEntries (inConflict plan i)))
+    (i ≤ maxEntries) × (length rows ≡ maxEntries)
+    × (take i rows ≡ tabulate i (λ i. maskOf maxEntries (inConflict plan i)))
 
 abbrev μ-loop : tie.MeasureT-loop
 μ-loop plan widened rows₀ i₀ rows i = maxEntries - i

@@ -15,7 +15,8 @@ use Rattle.conflicts.proofs.names_of.Statement.{statement}
 use Rattle.conflicts.proofs.names_of.Tie as tie
 
 abbrev Inv-loop : tie.InvT-loop
-Inv-loop plan names₀ i₀ names i = (i ≤ maxEntries) × (length names ≡ maxEntries) × (take i names ≡ tabulate i (λ i. entryAt plan i .set))
+Inv-loop plan names₀ i₀ names i = (i ≤ maxEntries) × (length names ≡ maxEntries)
+    × (take i names ≡ tabulate i (λ i. entryAt plan i .set))
 
 abbrev μ-loop : tie.MeasureT-loop
 μ-loop plan names₀ i₀ names i = maxEntries - i
@@ -29,7 +30,8 @@ loop-again c =
     let inside = c .before .before .before in (
       omega arith,
       simp length-set (inside .loop .inv .1),
-      fill-more _ _ _ _ (omega arith) (inside .loop .inv .2) (c .counted-names .ensures ∙ counted-field (inside .before .args .t1) _ (λ (x : Entry). x .set) refl),
+      fill-more _ _ _ _ (omega arith) (inside .loop .inv .2)
+          (c .counted-names .ensures ∙ counted-field (inside .before .args .t1) _ (λ (x : Entry). x .set) refl),
     )
 
 returns : tie.Need-returns Inv-loop μ-loop

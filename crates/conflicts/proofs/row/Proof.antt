@@ -13,7 +13,8 @@ use Rattle.conflicts.proofs.row.Statement.{statement}
 use Rattle.conflicts.proofs.row.Tie as tie
 
 abbrev Inv-loop : tie.InvT-loop
-Inv-loop i plan widened count entry entry-widened out₀ j₀ out j = (j ≤ maxEntries) × (out ≡ maskOf j (inConflict plan i))
+Inv-loop i plan widened count entry entry-widened out₀ j₀ out j = (j ≤ maxEntries)
+    × (out ≡ maskOf j (inConflict plan i))
 
 abbrev μ-loop : tie.MeasureT-loop
 μ-loop i plan widened count entry entry-widened out₀ j₀ out j = maxEntries - j
@@ -25,8 +26,10 @@ loop-holds c = (omega arith, refl)
 loop-again : tie.Need-loop-again Inv-loop μ-loop
 loop-again c = (
   omega arith,
-  row-next (c .before .before .before .before .before .before .before .args .t1) _ (c .before .before .before .before .before .before .before .pre .0) _ _ _ _ _
-      (c .before .before .before .before .before .before .before .pre .1) (omega arith) (c .before .before .before .before .before .loop .inv .1)
+  row-next (c .before .before .before .before .before .before .before .args .t1) _
+      (c .before .before .before .before .before .before .before .pre .0) _ _ _ _ _
+      (c .before .before .before .before .before .before .before .pre .1) (omega arith)
+      (c .before .before .before .before .before .loop .inv .1)
       (c .before .before .pair-conflict .ensures) (rw (← c .before .is-conflict .ensures) (c .add-if .ensures)),
 )
 

@@ -21,15 +21,20 @@ module _ (p : Plan) (names : ℕ) (full : length (p .entries) ≡ maxEntries) wh
   unfolding widen
   widened-by-none =
       ap (widen names)
-      (drop-of-length-le (countedEntries p) {i = min (p .count) maxEntries} (omega (arith, length-take (p .count) (p .entries))))
+      (drop-of-length-le (countedEntries p) {i = min (p .count) maxEntries}
+      (omega (arith, length-take (p .count) (p .entries))))
 
   -- The entry before place i, at its place in the plan's array, adds its part to the result so far.
-  pub widened-by-next : (i out more : ℕ) → 0 < i → i ≤ min (p .count) maxEntries → out ≡ widen names (drop i (countedEntries p))
-      → more ≡ broughtTo names (getD (p .entries) (i - 1) blankEntry) → bitOr out more ≡ widen names (drop (i - 1) (countedEntries p))
+  pub widened-by-next : (i out more : ℕ) → 0 < i → i ≤ min (p .count) maxEntries → out
+      ≡ widen names (drop i (countedEntries p))
+      → more ≡ broughtTo names (getD (p .entries) (i - 1) blankEntry) → bitOr out more
+      ≡ widen names (drop (i - 1) (countedEntries p))
   unfolding widen
   widened-by-next i out more h l made brings =
       let next : i ≡ suc (i - 1) = omega arith in
       let here : getD (p .entries) (i - 1) blankEntry ≡ getD (countedEntries p) (i - 1) blankEntry =
       sym (getD-take (p .count) (p .entries) (i - 1) blankEntry (omega arith)) in
-      ap₂ bitOr (made ∙ ap (λ (k : ℕ). widen names (drop k (countedEntries p))) next) (brings ∙ ap (broughtTo names) here)
-      ∙ ap (widen names) (sym (drop-cons (countedEntries p) (i - 1) blankEntry (omega (arith, length-take (p .count) (p .entries)))))
+      ap₂ bitOr (made ∙ ap (λ (k : ℕ). widen names (drop k (countedEntries p))) next)
+      (brings ∙ ap (broughtTo names) here)
+      ∙ ap (widen names) (sym (drop-cons (countedEntries p) (i - 1) blankEntry
+      (omega (arith, length-take (p .count) (p .entries)))))

@@ -23,17 +23,38 @@ add-count : tie.Need-add-count Inv-loop μ-loop
 add-count c = omega (arith, most-digits 19 (c .before .before .args .n) (c .before .loop .inv .1 .0))
 
 loop-again : tie.Need-loop-again Inv-loop μ-loop
-loop-again c =
-    (omega arith, (c .before .loop .inv .1 .0, omega (arith, length-four-more (c .before .loop .head) (omega arith) (omega arith))))
+loop-again c = (
+  omega arith,
+  (
+    c .before .loop .inv .1 .0,
+    omega
+        (arith, length-four-more (c .before .loop .head) (omega arith) (omega arith)),
+  ),
+)
 
 add-result : tie.Need-add-result Inv-loop μ-loop
-add-result c = omega (arith, c .few-digits .ensures, c .before .before .loop .inv .1 .1, most-digits 19 (c .before .before .before .args .n) (c .before .before .loop .inv .1 .0))
+add-result c = omega (
+  arith,
+  c .few-digits .ensures,
+  c .before .before .loop .inv .1 .1,
+  most-digits 19
+      (c .before .before .before .args .n) (c .before .before .loop .inv .1 .0),
+)
 
 returns : tie.Need-returns Inv-loop μ-loop
-returns c =
-    (omega (arith, c .few-digits .ensures, c .before .before .loop .inv .1 .1), omega (arith, c .few-digits .ensures, c .before .before .loop .inv .1 .1, most-digits 19 (c .before .before .before .args .n) (c .before .before .loop .inv .1 .0)))
+returns c = (
+  omega (arith, c .few-digits .ensures, c .before .before .loop .inv .1 .1),
+  omega (
+    arith,
+    c .few-digits .ensures,
+    c .before .before .loop .inv .1 .1,
+    most-digits 19
+        (c .before .before .before .args .n) (c .before .before .loop .inv .1 .0),
+  ),
+)
 
 pub digit-count-spec : {M : Type 1} → statement M
 digit-count-spec =
     tie.close
-    (tie.spec Inv-loop μ-loop loop-holds add-count (λ c. omega arith) loop-again (λ c κs. omega arith) add-result returns)
+    (tie.spec Inv-loop μ-loop loop-holds add-count
+    (λ c. omega arith) loop-again (λ c κs. omega arith) add-result returns)

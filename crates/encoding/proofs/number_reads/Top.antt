@@ -34,7 +34,8 @@ module _ (s : List ℕ) where
         bound = lit< tt;
       }
 
-  pub all-bytes : (d x : ℕ) → min 8 (length s) ≤ d → IsTop s d x → (x ≡ number (take 8 s)) × (x < 256 ^ min 8 (length s))
+  pub all-bytes : (d x : ℕ) → min 8 (length s) ≤ d → IsTop s d x → (x ≡ number (take 8 s))
+      × (x < 256 ^ min 8 (length s))
   all-bytes d x all h =
       let most = h .inside in
       let none : min 8 (length s) - d ≡ 0 = omega arith in

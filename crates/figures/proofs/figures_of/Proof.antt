@@ -16,10 +16,12 @@ use Rattle.figures.proofs.figures_of.Statement.{statement}
 use Rattle.figures.proofs.figures_of.Tie as tie
 
 -- Going through at most 64 entries finds the longest of the counted entries.
-of-counted : (test : Entry → Bool) (n r : ℕ) (p : Plan) → length (p .entries) ≡ maxEntries → n ≡ min (p .count) maxEntries
+of-counted : (test : Entry → Bool) (n r : ℕ) (p : Plan) → length (p .entries) ≡ maxEntries → n
+    ≡ min (p .count) maxEntries
     → r ≡ longest test (take n (p .entries)) → r ≡ longest test (countedEntries p)
 of-counted test n r p full e found =
-    found ∙ ap (λ k. longest test (take k (p .entries))) e ∙ ap (longest test) (all-taken (p .count) maxEntries (p .entries) full)
+    found ∙ ap (λ k. longest test (take k (p .entries))) e
+    ∙ ap (longest test) (all-taken (p .count) maxEntries (p .entries) full)
 
 product-small : (a b : ℕ) → a ≤ 255 → b ≤ 131070 → a * b < 2 ^ 32
 product-small a b h k = omega (arith, mul-le-mul h k)
@@ -34,8 +36,10 @@ returns c =
     simp length-map at (c .before .before .before .before .before .good .0 .1 .1 .1 .1 .1 .0 .1 .0 .1) in
     let counted = c .before .before .before .counted-of .ensures in
     rw (
-      of-counted isRead _ _ (c .before .before .before .before .before .args .plan) full counted (c .before .before .longest-of .ensures .0),
-      of-counted isWrite _ _ (c .before .before .before .before .before .args .plan) full counted (c .before .longest-of2 .ensures .0),
+      of-counted isRead _ _ (c .before .before .before .before .before .args .plan) full counted
+          (c .before .before .longest-of .ensures .0),
+      of-counted isWrite _ _ (c .before .before .before .before .before .args .plan) full counted
+          (c .before .longest-of2 .ensures .0),
       c .one-less .ensures,
     )
 

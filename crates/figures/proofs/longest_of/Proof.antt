@@ -16,7 +16,8 @@ use Rattle.figures.proofs.longest_of.Tie as tie
 abbrev Inv-loop : tie.InvT-loop
 Inv-loop count writes entries best₀ i₀ best i =
     ((i ≤ count) × (best < 65536))
-    × (longest (cond writes isWrite isRead) (take count entries) ≡ max best (longest (cond writes isWrite isRead) (drop i (take count entries))))
+    × (longest (cond writes isWrite isRead) (take count entries)
+    ≡ max best (longest (cond writes isWrite isRead) (drop i (take count entries))))
 
 abbrev μ-loop : tie.MeasureT-loop
 μ-loop count writes entries best₀ i₀ best i = count - i

@@ -12,7 +12,8 @@ use Rattle.digits.proofs.Table.{mask-halves}
 use Rattle.digits.proofs.Placed.{one-stored, two-stored, then-stored}
 use Rattle.line_fields.specs.MaskFields.{maskField}
 
-pub pair-stored : (l : List ℕ) (at pair : ℕ) → pair < 65536 → set (set l at (pair % 256)) (at + 1) (pair / 256) ≡ sets l at (bytesOf 2 pair)
+pub pair-stored : (l : List ℕ) (at pair : ℕ) → pair < 65536 → set (set l at (pair % 256)) (at + 1) (pair / 256)
+    ≡ sets l at (bytesOf 2 pair)
 unfolding bytesOf
 pair-stored l at pair h =
     let small : pair / 256 % 256 ≡ pair / 256 = omega arith in

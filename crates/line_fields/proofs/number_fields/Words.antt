@@ -38,20 +38,23 @@ module _ (word digits buffer : List ℕ) (at more : ℕ) where
       × (buffer ≡ placedBuffer (length (word ++ digits) + more) (word ++ digits) buffer at)
   no-word full = none-placed (less-room _ _ (length buffer) at at (omega (arith, length-append word digits)) full)
 
-  module _ (some : 1 ≤ length digits) {told : ℕ} (e : told ≡ placedSize (length digits + more) digits (length buffer) (at + length word))
+  module _ (some : 1 ≤ length digits) {told : ℕ}
+      (e : told ≡ placedSize (length digits + more) digits (length buffer) (at + length word))
       {part : List ℕ} (put : part ≡ placedBuffer (length digits + more) digits buffer (at + length word)) where
     pub no-digits : told ≡ 0
         → (_≡_ {A = ℕ} 0 (placedSize (length (word ++ digits) + more) (word ++ digits) (length buffer) at))
         × (part ≡ placedBuffer (length (word ++ digits) + more) (word ++ digits) buffer at)
     no-digits none =
         let full = not-begun digits (length buffer) (at + length word) (length digits + more) some e none in
-        let neither = none-placed (less-room _ _ (length buffer) (at + length word) at (omega (arith, length-append word digits)) full) in
+        let neither = none-placed (less-room _ _ (length buffer) (at + length word) at
+        (omega (arith, length-append word digits)) full) in
         (neither .0, put ∙ rw full (neither .1))
 
     module _ (h : told ≡ 0 → ⊥) where
       pub all-fit : at + length word + (length digits + more) ≤ length buffer
       all-fit =
-          there-is-room (length digits + more) (length buffer) (at + length word) (begun digits (length buffer) (at + length word) (length digits + more) some e h)
+          there-is-room (length digits + more) (length buffer) (at + length word)
+          (begun digits (length buffer) (at + length word) (length digits + more) some e h)
 
       digits-stored : Stored digits buffer (at + length word) (at + length word + told) part
       digits-stored =
@@ -68,13 +71,15 @@ module _ (word digits buffer : List ℕ) (at more : ℕ) where
           → (length word + told ≡ placedSize (length (word ++ digits) + more) (word ++ digits) (length buffer) at)
           × (after ≡ placedBuffer (length (word ++ digits) + more) (word ++ digits) buffer at)
       word-placed s =
-          let yes = room-where-fits (length (word ++ digits) + more) (length buffer) at (omega (arith, all-fit, length-append word digits)) in
+          let yes = room-where-fits (length (word ++ digits) + more) (length buffer) at
+          (omega (arith, all-fit, length-append word digits)) in
           placed (word ++ digits) buffer at (length (word ++ digits) + more) (omega arith) _ refl _ refl _ yes
           (omega (arith, told-all, length-append word digits))
           (record { place = refl; stores = s ∙ rw (digits-stored .stores) (last-first buffer at word digits) })
 
 -- A field with nothing after it.
 pub alone : (bytes buffer : List ℕ) (at : ℕ) {told : ℕ} {after : List ℕ}
-    → (told ≡ placedSize (length bytes + 0) bytes (length buffer) at) × (after ≡ placedBuffer (length bytes + 0) bytes buffer at)
+    → (told ≡ placedSize (length bytes + 0) bytes (length buffer) at)
+    × (after ≡ placedBuffer (length bytes + 0) bytes buffer at)
     → (told ≡ fieldSize bytes (length buffer) at) × (after ≡ fieldBuffer bytes buffer at)
 alone bytes buffer at both = let none : length bytes + 0 ≡ length bytes = omega arith in rw none at both

@@ -6,7 +6,8 @@ use mathlib.Core.List.{List, [], _∷_, _++_}
 use lib.ListN.{length, length-append}
 use Rattle.digits.specs.Digits.{decimal}
 use Rattle.line_fields.specs.NumberFields.{labelled, lastField}
-use Rattle.listings.specs.PlainLines.{processorsWord, resourcesWord, entriesWord, readWord, writeWord, furtherFields, numbersLine}
+use Rattle.listings.specs.PlainLines.{processorsWord, resourcesWord, entriesWord, readWord, writeWord}
+use Rattle.listings.specs.PlainLines.{furtherFields, numbersLine}
 use Rattle.listings.proofs.lines.Lengths.{length-numbers}
 
 abbrev pub processorsField : ℕ → List ℕ
@@ -32,21 +33,27 @@ module _ (count read write : ℕ) where
   unfolding furtherFields
   figures-parts = refl
 
-  pub figures-length : length (entriesField count ++ (readField read ++ writeField write)) ≡ 23 + (length (decimal count) + length (decimal read) + length (decimal write))
+  pub figures-length : length (entriesField count ++ (readField read ++ writeField write))
+      ≡ 23 + (length (decimal count) + length (decimal read) + length (decimal write))
   figures-length = simp length-append (omega arith)
 
 module _ (m r count read write : ℕ) where
-  pub first-parts : numbersLine m r count read write ≡ processorsField m ++ (resourcesField r ++ figuresPart count read write)
+  pub first-parts : numbersLine m r count read write
+      ≡ processorsField m ++ (resourcesField r ++ figuresPart count read write)
   unfolding furtherFields
   first-parts = refl
 
   pub first-length : length (processorsField m ++ (resourcesField r ++ figuresPart count read write))
-      ≡ 45 + (length (decimal m) + length (decimal r) + length (decimal count) + length (decimal read) + length (decimal write))
+      ≡ 45 + (length (decimal m) + length (decimal r) + length (decimal count) + length (decimal read) + length
+      (decimal write))
   first-length = sym (ap (λ (x : List ℕ). length x) first-parts) ∙ length-numbers m r count read write
 
-  pub part-length : length (figuresPart count read write) ≡ 23 + (length (decimal count) + length (decimal read) + length (decimal write))
+  pub part-length : length (figuresPart count read write)
+      ≡ 23 + (length (decimal count) + length (decimal read) + length (decimal write))
   part-length = ap (λ (x : List ℕ). length x) (figures-parts count read write) ∙ figures-length count read write
 
-  pub first-size-is : (size : ℕ) → size ≡ 45 + (length (decimal m) + length (decimal r) + length (decimal count) + length (decimal read) + length (decimal write))
+  pub first-size-is : (size : ℕ) → size ≡ 45 +
+      (length (decimal m) + length (decimal r) + length (decimal count) + length (decimal read) + length
+      (decimal write))
       → size ≡ length (numbersLine m r count read write)
   first-size-is size e = e ∙ sym (length-numbers m r count read write)

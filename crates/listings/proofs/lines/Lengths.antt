@@ -5,13 +5,15 @@ use mathlib.Core.Path.{_≡_, refl}
 use mathlib.Core.List.{List, [], _∷_}
 use lib.ListN.{length, length-append}
 use Rattle.digits.specs.Digits.{decimal}
-use Rattle.listings.specs.PlainLines.{furtherFields, numbersLine, refusalLine, fieldsLine, doneFields, refusedFields}
+use Rattle.listings.specs.PlainLines.{furtherFields, numbersLine, refusalLine, fieldsLine, doneFields}
+use Rattle.listings.specs.PlainLines.{refusedFields}
 
 length-end : length (furtherFields []) ≡ 1
 unfolding furtherFields
 length-end = refl
 
-length-field : (field : List ℕ) (later : List (List ℕ)) → length (furtherFields (field ∷ later)) ≡ 1 + length field + length (furtherFields later)
+length-field : (field : List ℕ) (later : List (List ℕ)) → length (furtherFields (field ∷ later))
+    ≡ 1 + length field + length (furtherFields later)
 unfolding furtherFields
 length-field field later = simp length-append (omega arith)
 
@@ -34,7 +36,8 @@ length-fields letter processor tick fields = simp (length-append, length-field) 
 
 pub length-numbers : (m r n read write : ℕ)
     → length (numbersLine m r n read write)
-    ≡ 45 + (length (decimal m) + length (decimal r) + length (decimal n) + length (decimal read) + length (decimal write))
+    ≡ 45 + (length (decimal m) + length (decimal r) + length (decimal n) + length (decimal read) + length
+    (decimal write))
 length-numbers m r n read write = simp (length-field, length-end) (omega arith)
 
 pub length-refusal : (n : ℕ) → length (refusalLine n) ≡ 9 + length (decimal n)

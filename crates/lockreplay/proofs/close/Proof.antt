@@ -12,7 +12,12 @@ show-requires c κs =
     let ended = c .before .before .before in
     let a = ended .before .before .before .before .args in
     let line = endLine (a .left) (a .block .now) in
-    omega (arith, line-within line (length (a .out .now)) 0 (ended .finish .result) (ended .finish .ensures .0), ended .finish .kept .1 .1 .0)
+    omega (
+      arith,
+      line-within line (length (a .out .now)) 0 (ended .finish .result)
+          (ended .finish .ensures .0),
+      ended .finish .kept .1 .1 .0,
+    )
 
 pub close-spec : {M : Type 1} → statement M
 close-spec = tie.close (tie.spec (λ c κs. tt) show-requires (λ c. search needs) (λ c. tt))

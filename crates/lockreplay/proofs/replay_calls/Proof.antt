@@ -72,8 +72,12 @@ replay-calls-spec =
     (λ c. search needs)
     loop-less
     loop-again
-    (λ c. c .before .before .before .before .before .before .before .before .before .before .before .before .advance .ensures)
-    (λ c. sym (length-take-le _ _ (c .before .before .before .before .before .before .before .before .before .before .before .before .before .advance .ensures)))
+    (λ c.
+    c .before .before .before .before .before .before .before .before .before .before .before .before .advance .ensures)
+    (λ c. sym
+    (length-take-le _ _
+    (c .before .before .before .before .before .before .before .before .before .before .before .before .before .advance
+    .ensures)))
     (λ c κs. tt)
     same-length-3
     same-length-4

@@ -16,7 +16,8 @@ use borrow.Author.Needs.{needs}
 use Rattle.lockreplay.proofs.replay_log.Statement.{statement}
 use Rattle.lockreplay.proofs.replay_log.Tie as tie
 
-inside : (plan : List ℕ) (n : ℕ) (o : Outcome) → outcomeAsNumbers o ≡ readAsNumbers plan → o ≡ Outcome.Bytes n → n ≤ length plan
+inside : (plan : List ℕ) (n : ℕ) (o : Outcome) → outcomeAsNumbers o ≡ readAsNumbers plan → o ≡ Outcome.Bytes n
+    → n ≤ length plan
 inside plan n o says e =
     let read = bytes-said o _ _ says n e in
     omega (arith, read-inside plan (read .0), read .1)
@@ -26,13 +27,19 @@ show-requires c κs =
     let begun = c .before .before .before in
     let a = begun .before .before .before .before .before .args in
     let line = openingLine (a .plan .now) in
-    omega (arith, line-within line (length (a .out .now)) 0 (begun .begin .result .line) (begun .begin .ensures .1 .1 .1 .0), begun .begin .kept .1 .0)
+    omega (
+      arith,
+      line-within line (length (a .out .now)) 0 (begun .begin .result .line)
+          (begun .begin .ensures .1 .1 .1 .0),
+      begun .begin .kept .1 .0,
+    )
 
 sub-replay-rest : tie.Need-sub-replay-rest
 sub-replay-rest c =
     let told = c .before .before in
     let begun = told .before .before .before .before .before .before in
-    inside (begun .before .before .before .before .before .args .plan .now) _ _ (begun .begin .ensures .0) (told .outcome .given .1)
+    inside (begun .before .before .before .before .before .args .plan .now) _ _ (begun .begin .ensures .0)
+    (told .outcome .given .1)
 
 part-replay-rest-start : tie.Need-part-replay-rest-start
 part-replay-rest-start c = sub-replay-rest c

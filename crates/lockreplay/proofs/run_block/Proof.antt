@@ -12,7 +12,8 @@ slice-reshare-prefix-put : tie.Need-slice-reshare-prefix-put
 slice-reshare-prefix-put c =
     let ran = c .before .before in
     let a = ran .before .before .before .before .args in
-    lines-within _ _ (a .left) (length (a .out .now)) (a .block .now) _ (ran .run .ensures .0) (a .out .now) _ (ran .run .ensures .1)
+    lines-within _ _ (a .left) (length (a .out .now)) (a .block .now) _ (ran .run .ensures .0) (a .out .now) _
+    (ran .run .ensures .1)
 
 slice-aggregate-put : tie.Need-slice-aggregate-put
 slice-aggregate-put c = sym (length-take-le _ _ (slice-reshare-prefix-put (c .before)))

@@ -12,7 +12,12 @@ show-requires c κs =
     let counted = c .before .before .before in
     let a = counted .before .before .before .before .args in
     let line = countLine (a .block .now) in
-    omega (arith, line-within line (length (a .out .now)) 0 (counted .count .result .line) (counted .count .ensures .1 .0), counted .count .kept .1 .0)
+    omega (
+      arith,
+      line-within line (length (a .out .now)) 0 (counted .count .result .line)
+          (counted .count .ensures .1 .0),
+      counted .count .kept .1 .0,
+    )
 
 pub take-count-spec : {M : Type 1} → statement M
 take-count-spec =

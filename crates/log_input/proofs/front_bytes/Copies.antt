@@ -14,16 +14,19 @@ module _ (d s b : List ℕ) (j : ℕ) (e : b ≡ paste d 0 s j) where
   pub copy-turn : (x : ℕ) → j < length d → j < length s → x ≡ getD s j 0 → set b j x ≡ paste d 0 s (j + 1)
   copy-turn x hd hs ex =
       let inside : 0 + j < length d = omega arith in
-      rw (e, ex, add-one) (ap (λ (n : ℕ). set (paste d 0 s j) n (getD s j 0)) (sym (zero-add j)) ∙ paste-suc d 0 s j 0 inside hs)
+      rw (e, ex, add-one) (ap (λ (n : ℕ). set (paste d 0 s j) n (getD s j 0)) (sym (zero-add j))
+      ∙ paste-suc d 0 s j 0 inside hs)
 
   pub copy-done : (n : ℕ) → j ≡ n → b ≡ paste d 0 s n
   copy-done n h = e ∙ ap (paste d 0 s) h
 
 -- The bytes ahead of the copy are unchanged.
-pub read-ahead : (d b : List ℕ) (from i : ℕ) → b ≡ paste d 0 (drop from d) i → from + i ≤ length d → getD b (from + i) 0 ≡ getD (drop from d) i 0
+pub read-ahead : (d b : List ℕ) (from i : ℕ) → b ≡ paste d 0 (drop from d) i → from + i ≤ length d → getD b (from + i) 0
+    ≡ getD (drop from d) i 0
 read-ahead d b from i e h =
     let left : i ≤ length (drop from d) = simp length-drop (omega arith) in
-    let size : length (take 0 d ++ take i (drop from d)) ≡ 0 + i = length-paste-head d 0 (drop from d) i (omega arith) left in
+    let size : length (take 0 d ++ take i (drop from d))
+    ≡ 0 + i = length-paste-head d 0 (drop from d) i (omega arith) left in
     let place : from + i ≡ length (take 0 d ++ take i (drop from d)) + from = omega (arith, size) in
     let same : 0 + i + from ≡ from + i = omega arith in
     ap (λ (l : List ℕ). getD l (from + i) 0) e
@@ -34,5 +37,6 @@ read-ahead d b from i e h =
     ∙ sym (getD-drop from d i 0)
 
 -- If two lists agree in their first bytes, they agree in any shorter front.
-pub front-kept : (x y : List ℕ) (first have : ℕ) → first ≤ have → take have x ≡ take have y → take first x ≡ take first y
+pub front-kept : (x y : List ℕ) (first have : ℕ) → first ≤ have → take have x ≡ take have y → take first x
+    ≡ take first y
 front-kept x y first have h e = sym (take-take first have x h) ∙ ap (take first) e ∙ take-take first have y h

@@ -21,13 +21,15 @@ module _ (v p e t : ℕ) where
   pub a-handover : v ≡ 3 → recordAsNumbers (RecordAnswer.Is (Call.Handover p e t)) ≡ recorded fields
   a-handover verb = rw verb
 
-  pub a-completion : (eqb v 1 && eqb e 0) ≡ true → recordAsNumbers (RecordAnswer.Is (Call.Complete p t)) ≡ recorded fields
+  pub a-completion : (eqb v 1 && eqb e 0) ≡ true → recordAsNumbers (RecordAnswer.Is (Call.Complete p t))
+      ≡ recorded fields
   a-completion both =
       let complete : v ≡ 1 = eqb-true v 1 (and-left _ _ both) in
       let no-entry : e ≡ 0 = eqb-true e 0 (and-right (eqb v 1) _ both) in
       rw (complete, no-entry)
 
-  pub a-withdrawal : (eqb v 2 && eqb e 0) ≡ true → recordAsNumbers (RecordAnswer.Is (Call.Withdraw p t)) ≡ recorded fields
+  pub a-withdrawal : (eqb v 2 && eqb e 0) ≡ true → recordAsNumbers (RecordAnswer.Is (Call.Withdraw p t))
+      ≡ recorded fields
   a-withdrawal both =
       let withdraw : v ≡ 2 = eqb-true v 2 (and-left _ _ both) in
       let no-entry : e ≡ 0 = eqb-true e 0 (and-right (eqb v 2) _ both) in

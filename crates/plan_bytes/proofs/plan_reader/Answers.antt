@@ -1,4 +1,4 @@
--- What a refusal answers: its number, and the blank plan. Assumes nothing.
+-- What a refusal returns: its number, and the blank plan. Assumes nothing.
 use Prim.Native.Nat.{ℕ}
 use mathlib.Core.Path.{_≡_, sym, ap, _∙_}
 use mathlib.Core.Bool.{cond}
@@ -17,6 +17,7 @@ pub refused-only : (read : Read) (r : Refusal) → read ≡ record { outcome = O
     → (fault : ℕ) → fault ≡ numberOf r → (n : ℕ) (p : Plan)
     → (outcomeAsNumbers (read .outcome) ≡ asNumbers fault n) × (read .plan ≡ cond (eqb fault 0) p blankPlan)
 refused-only read r e fault f n p = (
-  ap (λ x. outcomeAsNumbers (x .outcome)) e ∙ sym (ap (λ k. asNumbers k n) f ∙ said-refusal (numberOf r) n (number-positive r)),
+  ap (λ x. outcomeAsNumbers (x .outcome)) e
+      ∙ sym (ap (λ k. asNumbers k n) f ∙ said-refusal (numberOf r) n (number-positive r)),
   ap (λ x. x .plan) e ∙ sym (ap (λ k. cond (eqb k 0) p blankPlan) f ∙ ap (λ t. cond t p blankPlan) (number-not-zero r)),
 )

@@ -1,4 +1,4 @@
--- The counts of a plan and then its entries: the fault of the whole, and without one in the counts they are there.
+-- The counts of a plan and then its entries: the fault of the whole. If the counts have no fault, they are there.
 -- Assumes nothing.
 use Prim.Native.Nat.{ℕ}
 use mathlib.Core.Path.{_≡_, sym, ap, _∙_}
@@ -8,7 +8,8 @@ use Rattle.refusals.specs.declared.Refusal.{Refusal}
 use Rattle.refusals.specs.declared.Verdict.{Verdict}
 use Rattle.refusals.specs.Number.{numberOf, verdictNumber}
 use Rattle.refusals.specs.Due.{firstOf}
-use Rattle.refusals.proofs.Numbers.{first-accepted, first-assoc, first-of-four, first-accepts-verdict, first-refuses-verdict}
+use Rattle.refusals.proofs.Numbers.{first-accepted, first-assoc, first-of-four, first-accepts-verdict}
+use Rattle.refusals.proofs.Numbers.{first-refuses-verdict}
 use Rattle.encoding.specs.Buffers.{shortFault}
 use Rattle.encoding.proofs.Room.{enough-length}
 use Rattle.plans.specs.Entries.{maxEntries, countsSize}
@@ -24,7 +25,8 @@ module _ (s : List ℕ) where
   head-then-body =
       let third = first-assoc (shortFault countsSize s) (countFault (getD s 2 0)) (bodyFault s) in
       let second = first-assoc (shortFault 2 s) (resourcesFault (getD s 1 0)) (firstOf (thirdCount s) (bodyFault s)) in
-      let first = first-assoc (shortFault 1 s) (processorsFault (getD s 0 0)) (firstOf (secondCount s) (firstOf (thirdCount s) (bodyFault s))) in
+      let first = first-assoc (shortFault 1 s) (processorsFault (getD s 0 0))
+      (firstOf (secondCount s) (firstOf (thirdCount s) (bodyFault s))) in
       sym
       (sym (first-of-four (firstCount s) (secondCount s) (thirdCount s) (bodyFault s))
       ∙ first
@@ -42,7 +44,12 @@ module _ (s : List ℕ) where
     pub counts-there : v ≡ Verdict.Accepted → CountsThere s
     unfolding headFault
     counts-there e =
-        let rest = first-accepted (firstCount s) (firstOf (secondCount s) (thirdCount s)) (sym is ∙ ap verdictNumber e) .later in
+        let rest = first-accepted (firstCount s) (firstOf (secondCount s) (thirdCount s))
+        (sym is ∙ ap verdictNumber e) .later in
         let last = first-accepted (secondCount s) (thirdCount s) rest .later in
         let both = first-accepted (shortFault countsSize s) (countFault (getD s 2 0)) last in
-        record { there = enough-length countsSize s (both .first); held = within-most 1 maxEntries (getD s 2 0) 4 (both .later) }
+        record {
+          there = enough-length countsSize s (both .first);
+          held = within-most 1 maxEntries (getD s 2 0) 4
+              (both .later);
+        }

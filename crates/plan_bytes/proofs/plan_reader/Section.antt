@@ -1,4 +1,4 @@
--- One turn of the loop over the entries of a plan: what was read so far, and what each way on makes of it. Assumes
+-- One turn of the loop over the entries of a plan: what was read so far, and what each branch makes of it. Assumes
 -- nothing.
 use Prim.Native.Nat.{ℕ, zero, suc, _+_, _-_, _≤_, _<_}
 use native.Mathlib.Nat.{le-refl}
@@ -28,7 +28,7 @@ use Rattle.plans.proofs.EntryBytes.{length-entriesIn}
 use Rattle.plans.proofs.PlanBytes.{counted-planIn}
 use Rattle.plan_bytes.specs.inner.Body.{bodyFault, wholeRead}
 
--- The first i of n entries are read and have no fault. The next one stands at place `at` of the bytes.
+-- The first i of n entries are read and have no fault. The next one begins at byte `at`.
 pub record SoFar (resources n : ℕ) (bytes : List ℕ) (entries : List Entry) (at i : ℕ) : Type 0 where
   pub place : at ≡ countsSize + sectionSize (entriesIn i (drop countsSize bytes))
   pub inside : at ≤ length bytes
@@ -36,7 +36,7 @@ pub record SoFar (resources n : ℕ) (bytes : List ℕ) (entries : List Entry) (
   pub fault : sectionFault resources n (drop countsSize bytes) ≡ sectionFault resources (n - i) (drop at bytes)
   pub filled : entries ≡ entriesIn i (drop countsSize bytes) ++ replicate (maxEntries - i) blankEntry
 
--- The entry behind the first i.
+-- The entry after the first i.
 abbrev entryAfter : ℕ → List ℕ → Entry
 entryAfter i s = entryIn (drop (sectionSize (entriesIn i s)) s)
 
@@ -73,17 +73,17 @@ nothing-read resources n bytes h =
     let e : n - 0 ≡ n = omega arith in
     record { place = refl; inside = h; counted = omega arith; fault = rw e; filled = refl }
 
--- The bytes from the place on, as the code takes them.
+-- The bytes from `at` on, as the code takes the slice.
 pub rest-length : (at : ℕ) (bytes : List ℕ) → length (take (length bytes - at) (drop at bytes)) ≡ length bytes - at
 rest-length at bytes = rw (take-all (length bytes - at) (drop at bytes) (rw length-drop (le-refl _)), length-drop)
 
--- A verdict is not both.
+-- A verdict is not both accepted and refused.
 pub not-both : (v : Verdict) (r : Refusal) → v ≡ Verdict.Refused r → v ≡ Verdict.Accepted → ⊥
 not-both v r f a =
     let z : _≡_ {A = ℕ} 0 1 = cc in
     omega arith
 
--- The refusal that a check gave is the one that the loop is left with.
+-- The loop ends with the refusal that a check returned.
 pub left-with : (v : Verdict) (r q : Refusal) → v ≡ Verdict.Refused r → (fault : ℕ) → fault ≡ numberOf q
     → v ≡ Verdict.Refused q → fault ≡ numberOf r
 left-with v r q e fault f found = f ∙ sym (ap verdictNumber found) ∙ ap verdictNumber e
@@ -99,7 +99,7 @@ module _
         let short : length (drop at bytes) < entrySize = rw length-drop few in
         h .fault ∙ rw (e, lt-leb entrySize (length (drop at bytes)) short)
 
-    -- They do not. The entry is taken from them, and its kind is checked; then its names, then its length.
+    -- They do not. The entry is read from them. Its kind is checked, then its names, then its length.
     module _
         (more : i < n) (there : entrySize ≤ length bytes - at) (e : Entry)
         (read : e ≡ entryIn (take (length bytes - at) (drop at bytes)))
@@ -108,7 +108,7 @@ module _
         entry-read : e ≡ entryIn (drop at bytes)
         entry-read = rw (take-all (length bytes - at) (drop at bytes) (rw length-drop (le-refl _))) at read
 
-        -- What is looked at after the entry.
+        -- What is checked after the entry.
         abbrev later : ℕ
         later = sectionFault resources (n - suc i) (drop (at + entrySizeOf e) bytes)
 
@@ -167,7 +167,7 @@ module _
                       filled = rw (h .filled, held, add-one) (store-next i (drop countsSize bytes) small);
                     }
 
--- All entries are read: what is said, and the plan.
+-- All entries are read: the number returned, and the plan.
 module _
     (bytes : List ℕ) (entries : List Entry) (at i : ℕ) (h : SoFar (getD bytes 1 0) (getD bytes 2 0) bytes entries at i)
     (all : getD bytes 2 0 ≤ i)

@@ -1,4 +1,4 @@
--- What the checks of a writing tell: an accepted plan fits, and what is answered then and on a refusal. Assumes
+-- What follows from the checks of a writing: an accepted plan fits, and what is returned then and on a refusal. Assumes
 -- nothing.
 use Prim.Native.Nat.{ℕ, _+_, _≤_}
 use mathlib.Core.Path.{_≡_, refl, sym, ap, _∙_}

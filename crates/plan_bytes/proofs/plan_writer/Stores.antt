@@ -1,4 +1,4 @@
--- Runs of stores: of a section's bytes, and into the rest of a list. Assumes nothing.
+-- Runs of stores: a section's bytes, and stores into the rest of a list. Assumes nothing.
 use Prim.Native.Nat.{ℕ, suc, _+_, _-_, _≤_, _<_}
 use mathlib.Core.Path.{_≡_, refl, sym, _∙_}
 use mathlib.Core.List.{List, append-assoc}
@@ -17,7 +17,7 @@ use Rattle.plans.proofs.Counted.{none-left, next-left}
 use Rattle.plans.proofs.Sizes.{size-left}
 use Rattle.plans.proofs.EntryBytes.{length-entryBytes, length-sectionBytes}
 
--- A turn stores the next entry, where all n have room.
+-- A turn stores the next entry, if there is room for all n.
 pub section-turn : (l next : List ℕ) (es : List Entry) (n i at size : ℕ) (d : Entry) → i < n → n ≤ length es
     → size ≡ entrySizeOf (getD es i d) → at + sectionSize (drop i (take n es)) ≤ length l
     → next ≡ bufferAfter (roomFault (entrySizeOf (getD es i d)) (length l) at) (entryBytes (getD es i d)) l at
@@ -36,7 +36,8 @@ unfolding sectionBytes
 section-end l es n i at h = rw (none-left n i es h)
 
 -- Stores from the start of a part that is then put back are stores into the whole.
-pub part-stores : (a k : ℕ) (l vs : List ℕ) → length vs ≤ k → a + k ≤ length l → putMid a k l (sets (midOf a k l) 0 vs) ≡ sets l a vs
+pub part-stores : (a k : ℕ) (l vs : List ℕ) → length vs ≤ k → a + k ≤ length l → putMid a k l (sets (midOf a k l) 0 vs)
+    ≡ sets l a vs
 part-stores a k l vs h g =
     let m : length vs ≤ length (midOf a k l) = simp (length-take, length-drop) (omega arith) in
     let m0 : 0 + length vs ≤ length (midOf a k l) = omega arith in
@@ -53,7 +54,7 @@ part-stores a k l vs h g =
     )
     (sym (append-assoc (take a l) vs (drop (a + length vs) l)))
 
--- The buffer with the plan's counts from position at, and how many bytes lie after them.
+-- The buffer with the plan's counts from position `at`, and how many bytes follow them.
 abbrev pub countsStored : List ℕ → ℕ → Plan → List ℕ
 countsStored l at p = set (set (set l at (p .processors)) (at + 1) (p .resources)) (at + 2) (p .count)
 
@@ -62,7 +63,8 @@ afterCounts l at p = length (countsStored l at p) - (at + countsSize)
 
 -- The stores of a plan: the counts, then the section into the rest of the buffer.
 pub plan-stores : (l : List ℕ) (at : ℕ) (p : Plan) → at + planSize p ≤ length l
-    → putMid (at + countsSize) (afterCounts l at p) (countsStored l at p) (sets (midOf (at + countsSize) (afterCounts l at p) (countsStored l at p)) 0 (sectionBytes (countedEntries p)))
+    → putMid (at + countsSize) (afterCounts l at p) (countsStored l at p)
+    (sets (midOf (at + countsSize) (afterCounts l at p) (countsStored l at p)) 0 (sectionBytes (countedEntries p)))
     ≡ overwritten l at (planBytes p)
 unfolding planBytes
 plan-stores l at p h =

@@ -12,12 +12,12 @@ use Rattle.plans.specs.Reading.{sectionFault}
 abbrev pub bodyFault : List ℕ → ℕ
 bodyFault s = sectionFault (getD s 1 0) (getD s 2 0) (drop countsSize s)
 
--- The counts are there, and an array holds the entries.
+-- The bytes of the counts are there, and an array has room for the entries.
 pub record CountsThere (s : List ℕ) : Type 0 where
   pub there : countsSize ≤ length s
   pub held : getD s 2 0 ≤ maxEntries
 
--- Clause 2.8: the counts in the bytes s with these entries, which took so many bytes.
+-- Clause 2.8: the plan with the counts in the bytes s and these entries, and the number of bytes that it took.
 abbrev pub wholeRead : List ℕ → List Entry → ℕ → Read
 wholeRead s entries taken =
     record {

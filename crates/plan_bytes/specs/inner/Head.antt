@@ -7,7 +7,7 @@ use Rattle.encoding.specs.Buffers.{shortFault}
 use Rattle.plans.specs.Entries.{countsSize}
 use Rattle.plans.specs.Acceptance.{processorsFault, resourcesFault, countFault}
 
--- Clauses 2.3 and 2.9: the count of processors, due (1) before it is looked at.
+-- Clauses 2.3 and 2.9: the count of processors, due (1) before it is checked.
 abbrev pub firstCount : List ℕ → ℕ
 firstCount s = firstOf (shortFault 1 s) (processorsFault (getD s 0 0))
 

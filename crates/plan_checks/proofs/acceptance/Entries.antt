@@ -1,5 +1,5 @@
--- One turn of the loop over the counted entries: an entry without a fault leaves the fault to the later ones, and the
--- first fault is that of all. Assumes nothing.
+-- One turn of the loop over the counted entries: if the entry has no fault, the fault is that of the later ones, and
+-- otherwise the entry's own fault is that of all. Assumes nothing.
 use Prim.Native.Nat.{ℕ, _+_, _<_, _≤_}
 use mathlib.Core.Path.{_≡_, sym, ap, _∙_}
 use mathlib.Core.List.{List}
@@ -15,7 +15,8 @@ use Rattle.plans.proofs.Counted.{next-left}
 
 module _ (resources n i : ℕ) (xs : List Entry) (d : Entry) (fits : n ≤ length xs) (h : i < n) (v : Verdict) where
   left-fault : verdictNumber v ≡ entryFault resources (getD xs i d)
-      → entriesFault resources (drop i (take n xs)) ≡ firstOf (verdictNumber v) (entriesFault resources (drop (i + 1) (take n xs)))
+      → entriesFault resources (drop i (take n xs))
+      ≡ firstOf (verdictNumber v) (entriesFault resources (drop (i + 1) (take n xs)))
   unfolding entriesFault
   left-fault found =
       ap (entriesFault resources) (next-left n i xs d fits h)

@@ -44,13 +44,25 @@ missing-falls (suc w) p q h =
     omega (arith, missing-falls w p q (λ j l. h j (le-step l)), fails-less (p w) (q w) (h w (le-refl (suc w))))
 
 -- If some number passes q but not p, fewer numbers fail q than p.
-missing-fewer : (w : ℕ) (p q : ℕ → Bool) (k : ℕ) → k < w → p k ≡ false → q k ≡ true → Within w p q → missing w q < missing w p
+missing-fewer : (w : ℕ) (p q : ℕ → Bool) (k : ℕ) → k < w → p k ≡ false → q k ≡ true → Within w p q
+    → missing w q < missing w p
 unfolding missing
 missing-fewer zero p q k l e f h = absurd (not-suc-le-zero l)
 missing-fewer (suc w) p q k l e f h =
     ⊎-elim
-    (λ s. omega (arith, missing-falls w p q (λ j m. h j (le-step m)), ap miss (ap p (sym s) ∙ e), ap miss (ap q (sym s) ∙ f)))
-    (λ m. omega (arith, missing-fewer w p q k m e f (λ j m. h j (le-step m)), fails-less (p w) (q w) (h w (le-refl (suc w)))))
+    (λ s. omega (
+      arith,
+      missing-falls w p q (λ j m. h j (le-step m)),
+      ap miss (ap p (sym s) ∙ e),
+      ap miss
+          (ap q (sym s) ∙ f),
+    ))
+    (λ m. omega (
+      arith,
+      missing-fewer w p q k m e f (λ j m. h j (le-step m)),
+      fails-less (p w) (q w)
+          (h w (le-refl (suc w))),
+    ))
     (eq-or-lt-of-le (le-of-suc-le-suc l))
 
 -- If no number fails the test, all pass it.
@@ -75,7 +87,8 @@ module _ (w : ℕ) (S : ℕ → ℕ → Bool) (grows : (n : ℕ) → Within w (S
       new : ℕ → Bool
       new j = S (suc n) j && not (S n j)
 
-      go : missing w (S n) + n ≤ w → (t : Bool) → some w new ≡ t → ((m : ℕ) × (m ≤ suc n) × Stops m) ⊎ (missing w (S (suc n)) + suc n ≤ w)
+      go : missing w (S n) + n ≤ w → (t : Bool) → some w new ≡ t → ((m : ℕ) × (m ≤ suc n) × Stops m)
+          ⊎ (missing w (S (suc n)) + suc n ≤ w)
       go h true e =
           let r = some-found w new e in
           let has : S (suc n) (r .0) ≡ true = and-left _ (not (S n (r .0))) (r .2) in

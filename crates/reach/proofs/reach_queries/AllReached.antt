@@ -43,18 +43,19 @@ module _ (b : Board) (s : State) where
   chain-join p r q (direct e) d = through e d
   chain-join p r q (through {r = x} e c) d = through e (chain-join x r q c d)
 
-  -- The processors of the plan that a state holds.
+  -- The processors of the plan that a state has a place for.
   abbrev m : ℕ
   m = listedOf (b .terms .processors)
 
   counted-listed : (p : ℕ) → Counted b s p → p < m
   counted-listed p e =
-      let slot : p < maxProcessors = ltb-true p maxProcessors (and-left (ltb p maxProcessors) (ltb p (b .terms .processors)) e) in
+      let slot : p < maxProcessors = ltb-true p maxProcessors
+      (and-left (ltb p maxProcessors) (ltb p (b .terms .processors)) e) in
       let plans : p < b .terms .processors =
       ltb-true p (b .terms .processors) (and-right (ltb p maxProcessors) (ltb p (b .terms .processors)) e) in
       omega arith
 
-  -- A chain passes only these.
+  -- A chain leads only through these.
   chain-path : (p q : ℕ) → Chain b s p q → Path (waitsFor b s) m p q
   chain-path p q (direct e) = step e
   chain-path p q (through {r = r} e c) = over e (counted-listed r (waits-counted b s p r e .1)) (chain-path r q c)
@@ -74,7 +75,8 @@ module _ (b : Board) (s : State) where
       ∙ ap (λ (x : ℕ). rowsThrough (listedOf x) given) same
       ∙ ap (rowsThrough m) are
       ∙ rows-via (waitsFor b s) m places
-      ∙ tabulate-agree maxProcessors (λ p. maskOf maxProcessors (via (waitsFor b s) m p)) (λ p. maskOf maxProcessors (reaches b s p))
+      ∙ tabulate-agree maxProcessors (λ p. maskOf maxProcessors (via (waitsFor b s) m p))
+      (λ p. maskOf maxProcessors (reaches b s p))
       (λ p l. mask-agree maxProcessors (via (waitsFor b s) m p) (reaches b s p) (λ q k. via-reaches p q))
 
   -- The words of k bytes of all that each processor reaches.
@@ -84,9 +86,10 @@ module _ (b : Board) (s : State) where
   module _ (rows : List ℕ) (are : rows ≡ reachedRows b s) where
     pub row-asked : (p : ℕ) → p < maxProcessors → getD rows p 0 ≡ maskOf maxProcessors (reaches b s p)
     row-asked p l =
-        ap (λ (xs : List ℕ). getD xs p 0) are ∙ getD-tabulate maxProcessors (λ q. maskOf maxProcessors (reaches b s q)) p 0 l
+        ap (λ (xs : List ℕ). getD xs p 0) are ∙ getD-tabulate maxProcessors
+        (λ q. maskOf maxProcessors (reaches b s q)) p 0 l
 
-    -- What `write_rows` leaves in a scratch with room. There are no more words than rows.
+    -- The scratch after `write_rows`, if there is room. There are no more words than rows.
     pub words-stored : (m : ℕ) → m ≡ b .terms .processors → (scratch after : List ℕ) → scratchSize m ≤ length scratch
         → after ≡ wordsScratch (maskSizeFor m) rows scratch
         → after ≡ overwritten scratch 0 (reachBytes b s)

@@ -1,5 +1,5 @@
--- A mask of direct waits, or of reach, fits into the bytes in which it is laid out, two or four by the plan's
--- processors: read back they give the mask. So on every board and state. Assumes nothing.
+-- On every board and state, a mask of direct waits or of reach fits into the bytes that it is laid out in, two or four
+-- depending on the plan's processors: read back, they give the mask. Assumes nothing.
 use Prim.Native.Nat.{ℕ, _≤_, _<_, _^_}
 use mathlib.Core.Path.{_≡_, refl, sym, _∙_}
 use mathlib.Core.Bool.{Bool, true, false, cond}
@@ -44,7 +44,8 @@ module _ (b : Board) (s : State) where
       where
         go : (t : Bool) → leb m 16 ≡ t → maskOf maxProcessors test < 256 ^ cond t 2 4
         go true e =
-            below-by-places 16 (maskOf maxProcessors test) maxProcessors (mask-below maxProcessors test) (none-past-sixteen (leb-true m 16 e))
+            below-by-places 16 (maskOf maxProcessors test) maxProcessors (mask-below maxProcessors test)
+            (none-past-sixteen (leb-true m 16 e))
         go false e = mask-below maxProcessors test
 
     read-back : number (bytesOf (maskSizeOf b) (maskOf maxProcessors test)) ≡ maskOf maxProcessors test

@@ -23,9 +23,12 @@ unfolding joined
 or-joined pending granted p g = or-is (own-is 32 pending p) (own-is 32 granted g) .is
 
 -- The three masks, one after the other.
-pub accepted-put : (bytes : List ℕ) (reply : Response) (pending : ℕ) (first second third : List ℕ) (block : Block) → reply .granted < 2 ^ 32
-    → first ≡ withMask 12 (reply .granted) (set (set bytes 3 0) 9 (reply .late)) → second ≡ withMask 16 (reply .entitled) first
-    → (pending ≡ pendingIn bytes) × (pending < 2 ^ 32) → third ≡ withMask 20 (bitOr pending (reply .granted)) second → block ≡ withLine third
+pub accepted-put : (bytes : List ℕ) (reply : Response) (pending : ℕ) (first second third : List ℕ) (block : Block)
+    → reply .granted < 2 ^ 32
+    → first ≡ withMask 12 (reply .granted) (set (set bytes 3 0) 9 (reply .late)) → second
+    ≡ withMask 16 (reply .entitled) first
+    → (pending ≡ pendingIn bytes) × (pending < 2 ^ 32) → third ≡ withMask 20 (bitOr pending (reply .granted)) second
+    → block ≡ withLine third
     → block ≡ acceptedBlock bytes reply
 unfolding acceptedBlock
 accepted-put bytes reply pending first second third block g e1 e2 p e3 e =

@@ -17,7 +17,8 @@ use Rattle.registers.specs.Registers.{registerAt}
 use Rattle.register_block.specs.Calls.{commandCall}
 use Rattle.register_block.specs.Registers.{repliedBlock}
 use Rattle.register_block.specs.declared.commands.Change.{Change}
-use Rattle.register_block.specs.Commands.{WriteAnswer, unmoved, carriedOut, commanded, writtenTo, registerWrite, changeAsNumbers}
+use Rattle.register_block.specs.Commands.{WriteAnswer, unmoved, carriedOut, commanded, writtenTo, registerWrite}
+use Rattle.register_block.specs.Commands.{changeAsNumbers}
 
 -- ---- a command
 
@@ -25,7 +26,8 @@ abbrev changed : Block → Verdict → State → Change
 changed block verdict state = record { block = block; written = record { verdict = verdict; state = state } }
 
 module _ (board : Board) (state : State) (block : Block) (command : ℕ) (change : Change) where
-  pub command-none : command ≡ 0 → change ≡ changed block Verdict.Accepted state → changeAsNumbers change ≡ commanded board state block command
+  pub command-none : command ≡ 0 → change ≡ changed block Verdict.Accepted state → changeAsNumbers change
+      ≡ commanded board state block command
   unfolding commanded
   command-none z e = rw (eq-eqb _ _ z) (ap changeAsNumbers e)
 
@@ -34,9 +36,11 @@ module _ (board : Board) (state : State) (block : Block) (command : ℕ) (change
   unfolding commanded
   command-above z above e = rw (ne-eqb _ _ z, lt-ltb _ _ above) (ap changeAsNumbers e)
 
-  pub command-answered : (call : Call) (a : Answered) (shown : Block) → (command ≡ 0 → ⊥) → command ≤ 4 → call ≡ commandCall (block .bytes) command
+  pub command-answered : (call : Call) (a : Answered) (shown : Block) → (command ≡ 0 → ⊥) → command ≤ 4 → call
+      ≡ commandCall (block .bytes) command
       → answerOf a ≡ answered board state call → shown ≡ repliedBlock (block .bytes) (replyAsNumbers (a .reply))
-      → change ≡ changed shown Verdict.Accepted (a .state) → changeAsNumbers change ≡ commanded board state block command
+      → change ≡ changed shown Verdict.Accepted (a .state) → changeAsNumbers change
+      ≡ commanded board state block command
   unfolding commanded
   command-answered call a shown z most says replies shows e =
       rw (ne-eqb _ _ z, le-ltb _ _ most)
@@ -46,11 +50,13 @@ module _ (board : Board) (state : State) (block : Block) (command : ℕ) (change
 
 -- ---- by register
 
-pub kept-store : (change : Change) (block kept : Block) (state : State) → change ≡ changed block Verdict.Accepted state → block ≡ kept
+pub kept-store : (change : Change) (block kept : Block) (state : State) → change ≡ changed block Verdict.Accepted state
+    → block ≡ kept
     → changeAsNumbers change ≡ unmoved 0 kept state
 kept-store change block kept state e b = ap changeAsNumbers e ∙ ap (λ x. unmoved 0 x state) b
 
-pub written-at : (board : Board) (state : State) (block : Block) (offset value : ℕ) (register known : Register) (says : WriteAnswer)
+pub written-at : (board : Board) (state : State) (block : Block) (offset value : ℕ) (register known : Register)
+    (says : WriteAnswer)
     → register ≡ registerAt offset → register ≡ known → says ≡ writtenTo known board state block offset value
     → says ≡ registerWrite board state block offset value
 unfolding registerWrite

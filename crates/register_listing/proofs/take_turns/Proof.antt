@@ -21,12 +21,20 @@ some-left turns more e = ltb-true 0 turns (and-left (ltb 0 turns) more e)
 sub-turns : tie.Need-sub-turns Inv-loop μ-loop
 sub-turns c =
     let turn = c .before .before in
-    omega (arith, some-left (turn .before .before .loop .turns) (turn .before .has-operation .result) (turn .if1 .taken))
+    omega (
+      arith,
+      some-left (turn .before .before .loop .turns) (turn .before .has-operation .result)
+          (turn .if1 .taken),
+    )
 
 loop-less : tie.Need-loop-less Inv-loop μ-loop
 loop-less c =
     let turn = c .before .before in
-    omega (arith, some-left (turn .before .before .loop .turns) (turn .before .has-operation .result) (turn .if1 .taken))
+    omega (
+      arith,
+      some-left (turn .before .before .loop .turns) (turn .before .has-operation .result)
+          (turn .if1 .taken),
+    )
 
 pub take-turns-spec : {M : Type 1} → statement M
 take-turns-spec =

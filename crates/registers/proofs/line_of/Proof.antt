@@ -9,7 +9,8 @@ use Rattle.registers.proofs.line_of.Tie as tie
 line : (c : tie.After-meet64) → c .meet64 .result ≡ raised (c .before .before .before .args .bytes)
 line c =
     let first = c .before .before in
-    c .meet64 .ensures ∙ raised-meets _ _ _ (first .pending-in .ensures .0) (c .before .enabled-in .ensures) (first .pending-in .ensures .1)
+    c .meet64 .ensures ∙ raised-meets _ _ _ (first .pending-in .ensures .0) (c .before .enabled-in .ensures)
+    (first .pending-in .ensures .1)
 
 returns : tie.Need-returns
 returns c = rw (← line (c .before), c .if1 .taken)
@@ -18,4 +19,5 @@ returns-2 : tie.Need-returns-2
 returns-2 c = rw (← line (c .before), c .if1 .left)
 
 pub line-of-spec : {M : Type 1} → statement M
-line-of-spec = tie.close (tie.spec (λ c κs. search needs) (λ c κs. search needs) (λ c κs. search needs) returns returns-2)
+line-of-spec = tie.close (tie.spec (λ c κs. search needs) (λ c κs. search needs)
+    (λ c κs. search needs) returns returns-2)

@@ -8,7 +8,11 @@ use Rattle.registers.proofs.pending_in.Statement.{statement}
 use Rattle.registers.proofs.pending_in.Tie as tie
 
 returns : tie.Need-returns
-returns c = (c .read-number .ensures .0 ∙ part-number 20 4 (c .before .before .before .args .t1) (lit< tt), part-below 4 (drop 20 (c .before .before .before .args .t1)) _ (c .read-number .ensures .1))
+returns c = (
+  c .read-number .ensures .0 ∙ part-number 20 4 (c .before .before .before .args .t1) (lit< tt),
+  part-below 4
+      (drop 20 (c .before .before .before .args .t1)) _ (c .read-number .ensures .1),
+)
 
 pub pending-in-spec : {M : Type 1} → statement M
 pending-in-spec =

@@ -16,7 +16,9 @@ unfolding cleared
 without-cleared old value o v = without-is 8 (lit< tt) (own-is 8 old o) (own-is 8 value v) .is
 
 pub stored-at : (block : Block) (offset value byte : ℕ) (register : Register) → register ≡ registerAt offset
-    → byte ≡ newByte register (getD (block .bytes) offset 0) value → withLine (set (block .bytes) offset byte) ≡ stored block offset value
+    → byte ≡ newByte register (getD (block .bytes) offset 0) value → withLine (set (block .bytes) offset byte)
+    ≡ stored block offset value
 unfolding stored
 stored-at block offset value byte register e b =
-    ap (λ (x : ℕ). withLine (set (block .bytes) offset x)) (b ∙ ap (λ r. newByte r (getD (block .bytes) offset 0) value) e)
+    ap (λ (x : ℕ). withLine (set (block .bytes) offset x))
+    (b ∙ ap (λ r. newByte r (getD (block .bytes) offset 0) value) e)

@@ -14,14 +14,17 @@ use Rattle.listings.specs.PlainLines.{lineAsNumbers, lineBuffer}
 use Rattle.listings.specs.Lines.{callLineBy}
 use Rattle.replay.specs.Steps.{Stands, callStep, stands}
 
-pub call-carried : (pairs : List ℕ) (b : Board) (st : State) (c : Call) (out : List ℕ) (at : ℕ) (a : Answer) (la : Outcome) (out′ : List ℕ) (n : ℕ)
+pub call-carried : (pairs : List ℕ) (b : Board) (st : State) (c : Call) (out : List ℕ) (at : ℕ) (a : Answer)
+    (la : Outcome) (out′ : List ℕ) (n : ℕ)
     → a ≡ answered b st c
     → outcomeAsNumbers la ≡ lineAsNumbers (callLineBy pairs (b .terms .processors) c (a .reply)) (length out) at
     → out′ ≡ lineBuffer (callLineBy pairs (b .terms .processors) c (a .reply)) out at
     → n ≡ outcomeAsNumbers la .value
-    → (_≡_ {A = Stands} (record { state = a .state; written = n; ended = false }) (stands (callStep pairs b st c) (length out) at))
+    → (_≡_ {A = Stands} (record { state = a .state; written = n; ended = false })
+    (stands (callStep pairs b st c) (length out) at))
     × (out′ ≡ lineBuffer (callStep pairs b st c .line) out at)
 unfolding callStep stands
 call-carried pairs b st c out at a la out′ n e says put size =
-    let took : n ≡ lineAsNumbers (callLineBy pairs (b .terms .processors) c (a .reply)) (length out) at .value = size ∙ ap (λ x. x .value) says in
+    let took : n ≡ lineAsNumbers (callLineBy pairs (b .terms .processors) c (a .reply)) (length out) at .value = size
+    ∙ ap (λ x. x .value) says in
     rw (← e) (λ i. record { state = a .state; written = took i; ended = false }, put)

@@ -20,7 +20,8 @@ use Rattle.listings.specs.PlainLines.{refusalLine, lineAsNumbers, lineBuffer}
 use Rattle.replay.specs.Steps.{Stands, callStep, stands}
 use Rattle.replay.specs.Records.{refusalStep, recordStep}
 
-module _ (pairs : List ℕ) (b : Board) (st : State) (s : List ℕ) (a : RecordAnswer) (read : recordAsNumbers a ≡ readRecord s) where
+module _ (pairs : List ℕ) (b : Board) (st : State) (s : List ℕ) (a : RecordAnswer)
+    (read : recordAsNumbers a ≡ readRecord s) where
   pub call-step : (c : Call) → a ≡ RecordAnswer.Is c → recordStep pairs b st s ≡ callStep pairs b st c
   unfolding recordStep
   call-step c is = let e = record-is a s read c is in rw (e .0, e .1)
@@ -29,11 +30,13 @@ module _ (pairs : List ℕ) (b : Board) (st : State) (s : List ℕ) (a : RecordA
   unfolding recordStep
   refusal-step r is = rw (record-refused a s read r is, number-not-zero r)
 
-  pub refusal-carried : (r : Refusal) → a ≡ RecordAnswer.Refused r → (out : List ℕ) (at : ℕ) (la : Outcome) (out′ : List ℕ) (n : ℕ)
+  pub refusal-carried : (r : Refusal) → a ≡ RecordAnswer.Refused r
+      → (out : List ℕ) (at : ℕ) (la : Outcome) (out′ : List ℕ) (n : ℕ)
       → outcomeAsNumbers la ≡ lineAsNumbers (refusalLine (numberOf r)) (length out) at
       → out′ ≡ lineBuffer (refusalLine (numberOf r)) out at
       → n ≡ outcomeAsNumbers la .value
-      → (_≡_ {A = Stands} (record { state = st; written = n; ended = true }) (stands (recordStep pairs b st s) (length out) at))
+      → (_≡_ {A = Stands} (record { state = st; written = n; ended = true })
+      (stands (recordStep pairs b st s) (length out) at))
       × (out′ ≡ lineBuffer (recordStep pairs b st s .line) out at)
   unfolding stands
   refusal-carried r is out at la out′ n says put size =

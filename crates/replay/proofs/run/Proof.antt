@@ -9,7 +9,13 @@ returns c =
     let ran = c .before .before .before .before in
     let read = ran .before .before .before .before .before .before .before .before .before .before .before in
     let found = read .before in
-    rw (c .state-of .ensures, ← ran-reads (found .before .before .before .before .before .before .before .args .board) _ _ _, ← found .budget-of .ensures, ← read .moment-of .ensures)
+    rw (
+      c .state-of .ensures,
+      ← ran-reads (found .before .before .before .before .before .before .before .args .board) _
+          _ _,
+      ← found .budget-of .ensures,
+      ← read .moment-of .ensures,
+    )
     (ran .run-records .ensures)
 
 pub run-spec : {M : Type 1} → statement M

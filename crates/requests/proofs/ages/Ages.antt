@@ -1,4 +1,4 @@
--- Who is earlier after a new request, in lists of a place for each processor. Assumes nothing.
+-- Who is earlier after a new request, in lists with a place for each processor. Assumes nothing.
 use mathlib.Core.Path.{_≡_, sym, ap, ap₂, _∙_}
 use mathlib.Core.Bool.{Bool, cond, not, _&&_, _||_}
 use mathlib.Core.List.{List}
@@ -21,7 +21,8 @@ use Rattle.rules.specs.Requests.{active}
 use Rattle.rules.specs.Acts.{putLast}
 
 -- A list with these elements.
-pub is-tabulate : (n : ℕ) (f : ℕ → ℕ) (xs : List ℕ) → length xs ≡ n → ((k : ℕ) → k < n → getD xs k 0 ≡ f k) → xs ≡ tabulate n f
+pub is-tabulate : (n : ℕ) (f : ℕ → ℕ) (xs : List ℕ) → length xs ≡ n → ((k : ℕ) → k < n → getD xs k 0 ≡ f k) → xs
+    ≡ tabulate n f
 is-tabulate n f xs full same =
     ext-getD 0 xs (tabulate n f) (full ∙ sym (length-tabulate n f))
     (λ k l. let here : k < n = omega (arith, full) in same k here ∙ sym (getD-tabulate n f k 0 here))
@@ -30,12 +31,13 @@ is-tabulate n f xs full same =
 abbrev pub others : ℕ → ℕ → Bool
 others p q = not (eqb q p)
 
-active-is : (ph : Phases) → Mask maxProcessors (active ph) (bitAnd (bitOr (bitOr (ph .waiting) (ph .entitled)) (ph .holding)) (2 ^ maxProcessors - 1))
+active-is : (ph : Phases) → Mask maxProcessors (active ph)
+    (bitAnd (bitOr (bitOr (ph .waiting) (ph .entitled)) (ph .holding)) (2 ^ maxProcessors - 1))
 active-is ph =
     agree-is (λ k l. bit-or (bitOr (ph .waiting) (ph .entitled)) (ph .holding) k
     ∙ ap (λ t. t || bit (ph .holding) k) (bit-or (ph .waiting) (ph .entitled) k)) (cut-is maxProcessors _)
 
--- All but a processor that a state has no place for are all.
+-- If a state has no place for a processor, all but this processor are all.
 pub all-but-none : (p : ℕ) → maxProcessors ≤ p → 2 ^ maxProcessors - 1 ≡ maskOf maxProcessors (others p)
 all-but-none p h = agree-is (λ k l. ap not (sym (ne-eqb k p (λ e. omega (arith, e))))) (all-is maxProcessors) .is
 
@@ -44,25 +46,28 @@ module _ (earlier kept : List ℕ) (ph : Phases) (p keep : ℕ) (ek : keep ≡ m
   full : length kept ≡ maxProcessors
   full = ap length et ∙ length-tabulate maxProcessors (λ q. bitAnd (getD earlier q 0) keep)
 
-  -- What is kept of the sets of others.
-  kept-at : (k : ℕ) → k < maxProcessors → getD kept k 0 ≡ maskOf maxProcessors (λ r. bit (getD earlier k 0) r && not (eqb r p))
+  -- What is kept in the others' sets.
+  kept-at : (k : ℕ) → k < maxProcessors → getD kept k 0
+      ≡ maskOf maxProcessors (λ r. bit (getD earlier k 0) r && not (eqb r p))
   kept-at k m =
       ap (λ xs. getD xs k 0) et ∙ getD-tabulate maxProcessors (λ q. bitAnd (getD earlier q 0) keep) k 0 m
       ∙ any-and (getD earlier k 0) (record { is = ek }) .is
 
   pub last-put : p < maxProcessors
-      → set kept p (bitAnd (bitOr (bitOr (ph .waiting) (ph .entitled)) (ph .holding)) (2 ^ maxProcessors - 1)) ≡ putLast earlier ph p
+      → set kept p (bitAnd (bitOr (bitOr (ph .waiting) (ph .entitled)) (ph .holding)) (2 ^ maxProcessors - 1))
+      ≡ putLast earlier ph p
   unfolding putLast
   last-put l =
       is-tabulate maxProcessors _ _ (length-set kept p _ ∙ full)
       (λ k m. stored-at kept p _ k (omega (arith, full))
       ∙ ap₂ (λ (x y : ℕ). cond (eqb k p) x y) (active-is ph .is) (kept-at k m))
 
-  -- A processor that a state has no place for is put in nowhere.
+  -- A processor that a state has no place for is added nowhere.
   pub none-put : maxProcessors ≤ p → kept ≡ putLast earlier ph p
   unfolding putLast
   none-put l =
       is-tabulate maxProcessors _ _ full
       (λ k m. kept-at k m
-      ∙ ap (λ t. cond t (maskOf maxProcessors (active ph)) (maskOf maxProcessors (λ r. bit (getD earlier k 0) r && not (eqb r p))))
+      ∙ ap (λ t. cond t (maskOf maxProcessors (active ph))
+      (maskOf maxProcessors (λ r. bit (getD earlier k 0) r && not (eqb r p))))
       (sym (ne-eqb k p (λ e. omega (arith, e)))))

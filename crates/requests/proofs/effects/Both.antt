@@ -1,4 +1,4 @@
--- Two acts answered as one: the masks of both. Assumes nothing.
+-- Two effects merged into one: the masks of both. Assumes nothing.
 use mathlib.Core.Path.{_≡_, ap}
 use mathlib.Core.Bool.{_&&_, _||_}
 use mathlib.Core.List.{List}
@@ -18,7 +18,8 @@ pub merged-both : (first second : Effect) (tick : ℕ) (entry entry₂ since sin
     (effectAsNumbers
     (record {
       granted = bitAnd (bitOr (first .granted) (second .granted)) (2 ^ maxProcessors - 1);
-      entitled = bitAnd (bitOr (first .entitled) (second .entitled)) (bitAnd (second .phases .entitled) (2 ^ maxProcessors - 1));
+      entitled = bitAnd (bitOr (first .entitled) (second .entitled))
+          (bitAnd (second .phases .entitled) (2 ^ maxProcessors - 1));
       late = first .late;
       phases = second .phases;
     })
@@ -31,11 +32,15 @@ merged-both first second tick entry entry₂ since since₂ earlier earlier₂ =
       state = stateBy (record { last = tick; phases = second .phases }) entry₂ since₂ earlier₂;
     }
   where
-    granted : Mask maxProcessors (λ q. bit (first .granted) q || bit (second .granted) q) (bitAnd (bitOr (first .granted) (second .granted)) (2 ^ maxProcessors - 1))
+    granted : Mask maxProcessors (λ q. bit (first .granted) q || bit (second .granted) q)
+        (bitAnd (bitOr (first .granted) (second .granted)) (2 ^ maxProcessors - 1))
     granted = agree-is (λ k l. bit-or (first .granted) (second .granted) k) (cut-is maxProcessors _)
 
-    entitled : Mask maxProcessors (λ q. (bit (first .entitled) q || bit (second .entitled) q) && bit (second .phases .entitled) q)
-        (bitAnd (bitOr (first .entitled) (second .entitled)) (bitAnd (second .phases .entitled) (2 ^ maxProcessors - 1)))
+    entitled : Mask maxProcessors (λ q. (bit (first .entitled) q || bit (second .entitled) q)
+        && bit (second .phases .entitled) q)
+        (bitAnd (bitOr (first .entitled) (second .entitled))
+        (bitAnd (second .phases .entitled) (2 ^ maxProcessors - 1)))
     entitled =
-        agree-is (λ k l. ap (λ t. t && bit (second .phases .entitled) k) (bit-or (first .entitled) (second .entitled) k))
+        agree-is (λ k l. ap (λ t. t && bit (second .phases .entitled) k)
+        (bit-or (first .entitled) (second .entitled) k))
         (any-and (bitOr (first .entitled) (second .entitled)) (cut-is maxProcessors (second .phases .entitled)))

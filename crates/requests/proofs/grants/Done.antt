@@ -1,4 +1,4 @@
--- What an act answers, put together from the two masks and the ticks of grants. Assumes nothing.
+-- The effect of a request that enters or leaves, built from the two masks and the ticks of grants. Assumes nothing.
 use mathlib.Core.Path.{_≡_, ap, _∙_}
 use mathlib.Core.Bool.{cond, not, _&&_}
 use mathlib.Core.List.{List}
@@ -17,7 +17,7 @@ use Rattle.rules.specs.Calls.{Answer, done}
 use Rattle.rules.specs.InPlace.{stateBy}
 use Rattle.requests.specs.Effect.{effectAsNumbers}
 
--- Those in the second mask that are not in the first.
+-- The processors in the second mask that are not in the first.
 new-is : (before after : ℕ) → after < 2 ^ maxProcessors → before < 2 ^ 32
     → Mask maxProcessors (λ k. bit after k && not (bit before k)) (without 32 after before)
 new-is before after la lb =
@@ -25,11 +25,14 @@ new-is before after la lb =
     (λ k l. bit-without 32 after before k (wider {w = maxProcessors} {W = 32} (omega arith) la) lb)
 
 pub carried-done : (tick : ℕ) (before after : Phases) (late granted entitled : ℕ) (entry since earlier stamps : List ℕ)
-    → after .entitled < 2 ^ maxProcessors → after .holding < 2 ^ maxProcessors → before .entitled < 2 ^ 32 → before .holding < 2 ^ 32
-    → granted ≡ without 32 (after .holding) (before .holding) → entitled ≡ without 32 (after .entitled) (before .entitled)
+    → after .entitled < 2 ^ maxProcessors → after .holding < 2 ^ maxProcessors → before .entitled < 2 ^ 32
+    → before .holding < 2 ^ 32
+    → granted ≡ without 32 (after .holding) (before .holding) → entitled
+    ≡ without 32 (after .entitled) (before .entitled)
     → stamps ≡ tabulate maxProcessors (λ p. cond (bit granted p) tick (getD since p 0))
     → _≡_ {A = Answer}
-    (effectAsNumbers (record { granted = granted; entitled = entitled; late = late; phases = after }) tick entry stamps earlier)
+    (effectAsNumbers (record { granted = granted; entitled = entitled; late = late; phases = after }) tick entry stamps
+    earlier)
     (done (stateBy (record { last = tick; phases = before }) entry since earlier) after late)
 unfolding stamped done
 carried-done tick before after late granted entitled entry since earlier stamps ae ah le lh eg ee es =
@@ -42,4 +45,5 @@ carried-done tick before after late granted entitled entry since earlier stamps 
     g = eg ∙ new-is (before .holding) (after .holding) ah lh .is
 
     s : stamps ≡ tabulate maxProcessors (λ p. cond (began before after p) tick (getD since p 0))
-    s = es ∙ tabulate-agree maxProcessors _ _ (λ k l. ap (λ t. cond t tick (getD since k 0)) (bit-is (record { is = g }) k l))
+    s = es ∙ tabulate-agree maxProcessors _ _
+        (λ k l. ap (λ t. cond t tick (getD since k 0)) (bit-is (record { is = g }) k l))

@@ -40,7 +40,8 @@ pub record EarlierUnsatisfied (R : Requests) (ph : ℕ → Phase) (i j : ℕ) : 
 -- holding write.
 pub data Step1 (n : ℕ) (R : Requests) (ph ph′ : ℕ → Phase) (i : ℕ) : Type 0 where
   grants : R .write i ≡ false → ph i ≡ entitled → None n (In R ph holding true i) → ph′ i ≡ holding → Step1 n R ph ph′ i
-  grants-waiting : R .write i ≡ false → ph i ≡ waiting → None n (In R ph holding true i) → None n (In R ph entitled true i)
+  grants-waiting : R .write i ≡ false → ph i ≡ waiting → None n (In R ph holding true i)
+      → None n (In R ph entitled true i)
       → ph′ i ≡ holding → Step1 n R ph ph′ i
   stays : (ph i ≡ entitled → R .write i ≡ false → Exists n (In R ph holding true i)) → ph′ i ≡ ph i → Step1 n R ph ph′ i
 
@@ -48,7 +49,8 @@ pub data Step2 (n : ℕ) (R : Requests) (ph ph′ : ℕ → Phase) (i : ℕ) : T
   entitles : R .write i ≡ true → ph i ≡ waiting → None n (EarlierUnsatisfied R ph i) → None n (In R ph holding true i)
       → None n (In R ph entitled false i) → ph′ i ≡ entitled → Step2 n R ph ph′ i
   stays : (ph i ≡ waiting → R .write i ≡ true
-      → Exists n (EarlierUnsatisfied R ph i) ⊎ (Exists n (In R ph holding true i) ⊎ Exists n (In R ph entitled false i)))
+      → Exists n (EarlierUnsatisfied R ph i) ⊎
+      (Exists n (In R ph holding true i) ⊎ Exists n (In R ph entitled false i)))
       → ph′ i ≡ ph i → Step2 n R ph ph′ i
 
 pub data Step3 (n : ℕ) (R : Requests) (ph ph′ : ℕ → Phase) (i : ℕ) : Type 0 where
@@ -89,7 +91,8 @@ pub data Start (n : ℕ) (R R′ : Requests) (ph ph′ : ℕ → Phase) : Type 0
 pub data Stamp (t : ℕ) (before after : Phase) (old new : ℕ) : Type 0 where
   begins : after ≡ holding → (before ≡ holding → ⊥) → new ≡ t → Stamp t before after old new
   arrives : before ≡ idle → new ≡ t → Stamp t before after old new
-  keeps : (after ≡ holding → before ≡ holding) → (before ≡ idle → after ≡ idle) → new ≡ old → Stamp t before after old new
+  keeps : (after ≡ holding → before ≡ holding) → (before ≡ idle → after ≡ idle) → new ≡ old
+      → Stamp t before after old new
 
 -- An accepted call at tick t, from one settled state to the next.
 pub record Called (n t : ℕ) (R R′ : Requests) (ph ph′ : ℕ → Phase) (si si′ : ℕ → ℕ) : Type 0 where
@@ -110,7 +113,8 @@ pub record Called (n t : ℕ) (R R′ : Requests) (ph ph′ : ℕ → Phase) (si
 -- What is required of conflict, for active requests of different processors. Widening is there only for the bridge.
 pub record Lawful (n : ℕ) (R : Requests) (ph : ℕ → Phase) : Type 0 where
   pub symmetric : (i j : ℕ) → i < n → j < n → R .against i j ≡ true → R .against j i ≡ true
-  pub bridge : (r w v : ℕ) → r < n → w < n → v < n → (w ≡ v → ⊥) → (ph r ≡ idle → ⊥) → (ph w ≡ idle → ⊥) → (ph v ≡ idle → ⊥)
+  pub bridge : (r w v : ℕ) → r < n → w < n → v < n → (w ≡ v → ⊥) → (ph r ≡ idle → ⊥) → (ph w ≡ idle → ⊥)
+      → (ph v ≡ idle → ⊥)
       → R .write r ≡ false → R .write w ≡ true → R .write v ≡ true → R .against r w ≡ true → R .against r v ≡ true
       → R .against w v ≡ true
   pub closed : (i j : ℕ) → i < n → j < n → R .against i j ≡ true → R .group i ≡ true → R .group j ≡ true
@@ -118,7 +122,8 @@ pub record Lawful (n : ℕ) (R : Requests) (ph : ℕ → Phase) : Type 0 where
 -- Being earlier is an order on the active requests.
 pub record Ordered (n : ℕ) (R : Requests) (ph : ℕ → Phase) : Type 0 where
   pub never-itself : (i : ℕ) → i < n → (ph i ≡ idle → ⊥) → R .earlier i i ≡ false
-  pub one-way : (i j : ℕ) → i < n → j < n → (ph i ≡ idle → ⊥) → (ph j ≡ idle → ⊥) → R .earlier i j ≡ true → R .earlier j i ≡ false
+  pub one-way : (i j : ℕ) → i < n → j < n → (ph i ≡ idle → ⊥) → (ph j ≡ idle → ⊥) → R .earlier i j ≡ true
+      → R .earlier j i ≡ false
   pub total : (i j : ℕ) → i < n → j < n → (ph i ≡ idle → ⊥) → (ph j ≡ idle → ⊥) → (i ≡ j → ⊥)
       → (R .earlier i j ≡ true) ⊎ (R .earlier j i ≡ true)
   pub transitive : (i j k : ℕ) → i < n → j < n → k < n → (ph i ≡ idle → ⊥) → (ph j ≡ idle → ⊥) → (ph k ≡ idle → ⊥)
@@ -130,8 +135,10 @@ pub record Ordered (n : ℕ) (R : Requests) (ph : ℕ → Phase) : Type 0 where
 pub record Settled (n : ℕ) (R : Requests) (ph : ℕ → Phase) : Type 0 where
   pub i1 : (i j : ℕ) → i < n → j < n → R .write i ≡ true → R .write j ≡ true → (ph i ≡ idle → ⊥) → (ph j ≡ idle → ⊥)
       → R .against i j ≡ true → R .earlier i j ≡ true → ph j ≡ waiting
-  pub i2 : (i j : ℕ) → i < n → j < n → R .write i ≡ false → R .write j ≡ true → R .against i j ≡ true → ph i ≡ holding → ph j ≡ holding → ⊥
-  pub i3 : (i j : ℕ) → i < n → j < n → R .write i ≡ false → R .write j ≡ true → R .against i j ≡ true → ph i ≡ entitled → ph j ≡ entitled → ⊥
+  pub i2 : (i j : ℕ) → i < n → j < n → R .write i ≡ false → R .write j ≡ true → R .against i j ≡ true → ph i ≡ holding
+      → ph j ≡ holding → ⊥
+  pub i3 : (i j : ℕ) → i < n → j < n → R .write i ≡ false → R .write j ≡ true → R .against i j ≡ true → ph i ≡ entitled
+      → ph j ≡ entitled → ⊥
   pub i4 : (i : ℕ) → i < n → R .write i ≡ false → ph i ≡ entitled → Exists n (In R ph holding true i)
   pub i5 : (i : ℕ) → i < n → R .write i ≡ false → ph i ≡ waiting → Exists n (In R ph entitled true i)
   pub i6 : (i : ℕ) → i < n → R .write i ≡ true → ph i ≡ waiting

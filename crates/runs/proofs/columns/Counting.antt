@@ -41,13 +41,24 @@ count-grows (suc n) p q h =
     omega (arith, one-if-grows (p n) (q n) (h n (le-refl (suc n))), count-grows n p q (within-fewer n p q h))
 
 -- If some number passes q but not p, q's count is the greater.
-pub count-less : (n : ℕ) (p q : ℕ → Bool) (k : ℕ) → k < n → p k ≡ false → q k ≡ true → Within n p q → count n p < count n q
+pub count-less : (n : ℕ) (p q : ℕ → Bool) (k : ℕ) → k < n → p k ≡ false → q k ≡ true → Within n p q
+    → count n p < count n q
 unfolding count
 count-less zero p q k l e f h = absurd (not-suc-le-zero l)
 count-less (suc n) p q k l e f h =
     ⊎-elim
-    (λ s. omega (arith, one-if-less (p n) (q n) (ap p (sym s) ∙ e) (ap q (sym s) ∙ f), count-grows n p q (within-fewer n p q h)))
-    (λ m. omega (arith, one-if-grows (p n) (q n) (h n (le-refl (suc n))), count-less n p q k m e f (within-fewer n p q h)))
+    (λ s. omega (
+      arith,
+      one-if-less (p n) (q n) (ap p (sym s) ∙ e) (ap q (sym s) ∙ f),
+      count-grows n p q
+          (within-fewer n p q h),
+    ))
+    (λ m. omega (
+      arith,
+      one-if-grows (p n) (q n) (h n (le-refl (suc n))),
+      count-less n p q k m e f
+          (within-fewer n p q h),
+    ))
     (eq-or-lt-of-le (le-of-suc-le-suc l))
 
 never : ℕ → Bool
@@ -63,7 +74,8 @@ unfolding count one-if
 count-found zero p l = absurd (not-suc-le-zero l)
 count-found (suc n) p l = go (p n) refl (count-found n p)
   where
-    go : (b : Bool) → p n ≡ b → (0 < count n p → (k : ℕ) × (k < n) × (p k ≡ true)) → (k : ℕ) × (k < suc n) × (p k ≡ true)
+    go : (b : Bool) → p n ≡ b → (0 < count n p → (k : ℕ) × (k < n) × (p k ≡ true)) → (k : ℕ) × (k < suc n)
+        × (p k ≡ true)
     go true e found = (n, le-refl (suc n), e)
     go false e found = let r = found (omega (arith, ap one-if e)) in (r .0, le-step (r .1), r .2)
 

@@ -6,9 +6,11 @@ use mathlib.Core.Path.{_≡_, refl}
 use mathlib.Core.Bool.{Bool, true, false}
 use mathlib.Core.Logic.{_⊎_, inl, inr}
 use Rattle.runs.proofs.columns.Columns.{Phase, idle, holding, Requests, Lawful, Ordered, Settled}
-use Rattle.runs.proofs.columns.Phases.{true-not-false, EntitledOrHolding, entitled-or-holding-active, entitled-or-holding-not-waiting}
+use Rattle.runs.proofs.columns.Phases.{true-not-false, EntitledOrHolding, entitled-or-holding-active}
+use Rattle.runs.proofs.columns.Phases.{entitled-or-holding-not-waiting}
 
-module _ {n : ℕ} {R : Requests} {ph : ℕ → Phase} (settled : Settled n R ph) (ordered : Ordered n R ph) (lawful : Lawful n R ph) where
+module _ {n : ℕ} {R : Requests} {ph : ℕ → Phase} (settled : Settled n R ph) (ordered : Ordered n R ph)
+    (lawful : Lawful n R ph) where
   -- Two writes that are entitled or holding do not conflict.
   pub writes-past-waiting : (v w : ℕ) → v < n → w < n → (v ≡ w → ⊥) → R .write v ≡ true → R .write w ≡ true
       → EntitledOrHolding (ph v) → EntitledOrHolding (ph w) → R .against v w ≡ true → ⊥
@@ -22,7 +24,8 @@ module _ {n : ℕ} {R : Requests} {ph : ℕ → Phase} (settled : Settled n R ph
 
       go : (R .earlier v w ≡ true) ⊎ (R .earlier w v ≡ true) → ⊥
       go (inl e) = entitled-or-holding-not-waiting b (settled .i1 v w hv hw wv ww av aw x e)
-      go (inr e) = entitled-or-holding-not-waiting a (settled .i1 w v hw hv ww wv aw av (lawful .symmetric v w hv hw x) e)
+      go (inr e) = entitled-or-holding-not-waiting a
+          (settled .i1 w v hw hv ww wv aw av (lawful .symmetric v w hv hw x) e)
 
   pub one-write-against-a-read : (r v w : ℕ) → r < n → v < n → w < n → R .write r ≡ false → (ph r ≡ idle → ⊥)
       → R .write v ≡ true → EntitledOrHolding (ph v) → R .against r v ≡ true
@@ -34,7 +37,8 @@ module _ {n : ℕ} {R : Requests} {ph : ℕ → Phase} (settled : Settled n R ph
       go (no d) =
           absurd
           (writes-past-waiting v w hv hw d wv ww a b
-          (lawful .bridge r v w hr hv hw d active (entitled-or-holding-active a) (entitled-or-holding-active b) read wv ww x y))
+          (lawful .bridge r v w hr hv hw d active (entitled-or-holding-active a)
+          (entitled-or-holding-active b) read wv ww x y))
 
   -- Clause 6.8: conflicting requests do not hold together.
   pub exclusive : ((i j : ℕ) → i < n → j < n → R .write i ≡ false → R .write j ≡ false → R .against i j ≡ false)

@@ -21,4 +21,9 @@ module _ {n t Lr Lw : ℕ} {R : Requests} {ph : ℕ → Phase} {si len : ℕ →
   read-holds-at-most q l g r h = omega (arith, prompt .kept q l g h, prompt .lengths .of-reads q l g (is-active h tt) r)
 
   pub write-holds-at-most : (f : ℕ) → f < n → R .group f ≡ true → R .write f ≡ true → ph f ≡ holding → t ≤ si f + Lw
-  write-holds-at-most f l g w h = omega (arith, prompt .kept f l g h, prompt .lengths .of-writes f l g (is-active h tt) w)
+  write-holds-at-most f l g w h = omega (
+    arith,
+    prompt .kept f l g h,
+    prompt .lengths .of-writes f l g
+        (is-active h tt) w,
+  )

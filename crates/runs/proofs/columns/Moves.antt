@@ -6,8 +6,11 @@ use native.Mathlib.Omega.{arith}
 use mathlib.Core.Path.{_≡_, sym, _∙_, subst, ap}
 use mathlib.Core.Bool.{true, false}
 use mathlib.Core.Logic.{inl, inr}
-use Rattle.runs.proofs.columns.Columns.{Phase, idle, entitled, holding, Requests, In, Step1, Step2, Step3, Step4, Start, puts-in, takes-out, Stamp, begins, arrives, keeps, Called, Lawful, Settled}
-use Rattle.runs.proofs.columns.Phases.{clash, true-not-false, EntitledOrHolding, Rises, same, becomes-entitled, begins-to-hold, rises-rises, is-active, idle-stays, idle-was-idle}
+use Rattle.runs.proofs.columns.Columns.{Phase, idle, entitled, holding, Requests, In, Step1, Step2, Step3, Step4}
+use Rattle.runs.proofs.columns.Columns.{Start, puts-in, takes-out, Stamp, begins, arrives, keeps, Called, Lawful}
+use Rattle.runs.proofs.columns.Columns.{Settled}
+use Rattle.runs.proofs.columns.Phases.{clash, true-not-false, EntitledOrHolding, Rises, same, becomes-entitled}
+use Rattle.runs.proofs.columns.Phases.{begins-to-hold, rises-rises, is-active, idle-stays, idle-was-idle}
 
 -- No read and write that conflict are both in the phase.
 abbrev pub Excludes : ℕ → Requests → (ℕ → Phase) → Phase → Type 0
@@ -45,7 +48,8 @@ module _ {n : ℕ} {R R′ : Requests} {ph ph₀ : ℕ → Phase} where
   same-earlier (takes-out p s) i j hi hj di dj = ap (λ Q. Q .earlier i j) (s .same)
 
   -- The touched processor is idle before or after, and if it is active after, it is waiting.
-  pub active-throughout-untouched : (s : Start n R R′ ph ph₀) (i : ℕ) → (ph i ≡ idle → ⊥) → (ph₀ i ≡ idle → ⊥) → i ≡ touched s → ⊥
+  pub active-throughout-untouched : (s : Start n R R′ ph ph₀) (i : ℕ) → (ph i ≡ idle → ⊥) → (ph₀ i ≡ idle → ⊥) → i
+      ≡ touched s → ⊥
   active-throughout-untouched (puts-in p s) i a b e = a (ap ph e ∙ s .was-idle)
   active-throughout-untouched (takes-out p s) i a b e = b (ap ph₀ e ∙ s .now-idle)
 
@@ -221,11 +225,14 @@ module _ {n t : ℕ} {R R′ : Requests} {ph ph′ : ℕ → Phase} {si si′ : 
   read-held-before settled q w hq hw r wr qw e k = go (c .first q hq)
     where
       go : Step1 n R′ (c .ph₀) (c .ph₁) q → ph q ≡ holding
-      go (Step1.grants r′ x none y) = absurd (still-excludes (c .start) (λ i k. inl k) (settled .i3) q w hq hw r wr qw x e)
-      go (Step1.grants-waiting r′ x none none′ y) = absurd (none′ w hw (record { phase-is = e; write-is = wr; conflict = qw }))
+      go (Step1.grants r′ x none y) = absurd (still-excludes (c .start) (λ i k. inl k)
+          (settled .i3) q w hq hw r wr qw x e)
+      go (Step1.grants-waiting r′ x none none′ y) = absurd
+          (none′ w hw (record { phase-is = e; write-is = wr; conflict = qw }))
       go (Step1.stays why x) = was-holding (c .start) q hq (sym x ∙ read-holds-after1 q hq r k)
 
-  pub nothing-added : Settled n R ph → Lawful n R′ ph′ → (w q : ℕ) → w < n → q < n → R′ .write w ≡ true → ph w ≡ entitled
+  pub nothing-added : Settled n R ph → Lawful n R′ ph′ → (w q : ℕ) → w < n → q < n → R′ .write w ≡ true → ph w
+      ≡ entitled
       → (ph′ w ≡ idle → ⊥) → In R′ ph′ holding false w q → (ph q ≡ holding) × (si′ q ≡ si q)
   nothing-added settled lawful w q hw hq wr e active x = (held, held-keeps-tick q hq held)
     where

@@ -47,7 +47,8 @@ module _ {n : ℕ} {R R′ : Requests} {ph ph₀ : ℕ → Phase} {p : ℕ} (s :
       go (yes e) = newcomer-last i i hi e
       go (no d) = s .same-earlier i i hi hi d d ∙ o .never-itself i hi (was-active i hi d a)
 
-  put-one-way : (i j : ℕ) → i < n → j < n → (ph₀ i ≡ idle → ⊥) → (ph₀ j ≡ idle → ⊥) → R′ .earlier i j ≡ true → R′ .earlier j i ≡ false
+  put-one-way : (i j : ℕ) → i < n → j < n → (ph₀ i ≡ idle → ⊥) → (ph₀ j ≡ idle → ⊥) → R′ .earlier i j ≡ true
+      → R′ .earlier j i ≡ false
   put-one-way i j hi hj a b h = go (ℕ-discrete i p) (ℕ-discrete j p)
     where
       go : Dec (i ≡ p) → Dec (j ≡ p) → R′ .earlier j i ≡ false
@@ -86,7 +87,8 @@ module _ {n : ℕ} {R R′ : Requests} {ph ph₀ : ℕ → Phase} {p : ℕ} (s :
           (sym (s .same-earlier i j hi hj e f) ∙ h)
           (sym (s .same-earlier j k hj hk f g) ∙ h′)
 
-pub started-ordered : {n : ℕ} {R R′ : Requests} {ph ph₀ : ℕ → Phase} → Start n R R′ ph ph₀ → Ordered n R ph → Ordered n R′ ph₀
+pub started-ordered : {n : ℕ} {R R′ : Requests} {ph ph₀ : ℕ → Phase} → Start n R R′ ph ph₀ → Ordered n R ph
+    → Ordered n R′ ph₀
 started-ordered (puts-in p s) o =
     record {
       never-itself = put-never-itself s o;

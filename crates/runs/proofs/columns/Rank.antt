@@ -10,7 +10,8 @@ use mathlib.Core.Logic.{⊎-elim}
 use Rattle.masks.proofs.Truth.{and-left, and-right, and-both}
 use Rattle.runs.proofs.columns.Columns.{Phase, idle, waiting, entitled, holding, Requests, Ordered}
 use Rattle.runs.proofs.columns.Phases.{true-not-false}
-use Rattle.runs.proofs.columns.Counting.{count, Within, count-grows, count-less, count-found, count-positive, count-below}
+use Rattle.runs.proofs.columns.Counting.{count, Within, count-grows, count-less, count-found, count-positive}
+use Rattle.runs.proofs.columns.Counting.{count-below}
 
 -- Processor i has an active write in the group.
 pub record GroupWrite (R : Requests) (ph : ℕ → Phase) (i : ℕ) : Type 0 where
@@ -62,7 +63,8 @@ module _ (R : Requests) (ph : ℕ → Phase) where
   group-write-passes : (i : ℕ) → GroupWrite R ph i → group-write-at R ph i ≡ true
   unfolding group-write-at
   group-write-passes i g =
-      and-both (isActive (ph i)) (R .write i && R .group i) (active-passes (ph i) (g .active)) (and-both (R .write i) (R .group i) (g .write-is) (g .group-is))
+      and-both (isActive (ph i)) (R .write i && R .group i) (active-passes (ph i) (g .active))
+      (and-both (R .write i) (R .group i) (g .write-is) (g .group-is))
 
   passes-group-write : (i : ℕ) → group-write-at R ph i ≡ true → GroupWrite R ph i
   unfolding group-write-at
@@ -94,7 +96,8 @@ module _ (R : Requests) (ph : ℕ → Phase) where
 abbrev pub NoneNew : ℕ → (R′ : Requests) → (ℕ → Phase) → ℕ → (R : Requests) → (ℕ → Phase) → ℕ → Type 0
 NoneNew n R′ ph′ i′ R ph i = (j : ℕ) → j < n → Ahead R′ ph′ i′ j → Ahead R ph i j
 
-module _ (n : ℕ) (R′ : Requests) (ph′ : ℕ → Phase) (i′ : ℕ) (R : Requests) (ph : ℕ → Phase) (i : ℕ) (none : NoneNew n R′ ph′ i′ R ph i) where
+module _ (n : ℕ) (R′ : Requests) (ph′ : ℕ → Phase) (i′ : ℕ) (R : Requests) (ph : ℕ → Phase) (i : ℕ)
+    (none : NoneNew n R′ ph′ i′ R ph i) where
   none-new-passes : Within n (ahead-at R′ ph′ i′) (ahead-at R ph i)
   none-new-passes j l e = ahead-passes R ph i j (none j l (passes-ahead R′ ph′ i′ j e))
 
@@ -106,9 +109,11 @@ module _ (n : ℕ) (R′ : Requests) (ph′ : ℕ → Phase) (i′ : ℕ) (R : R
   pub rank-less : (k : ℕ) → k < n → Ahead R ph i k → (Ahead R′ ph′ i′ k → ⊥) → rank n R′ ph′ i′ < rank n R ph i
   unfolding rank
   rank-less k l was gone =
-      count-less n (ahead-at R′ ph′ i′) (ahead-at R ph i) k l (not-ahead-fails R′ ph′ i′ k gone) (ahead-passes R ph i k was) none-new-passes
+      count-less n (ahead-at R′ ph′ i′) (ahead-at R ph i) k l (not-ahead-fails R′ ph′ i′ k gone)
+      (ahead-passes R ph i k was) none-new-passes
 
-pub ahead-ranks-above-zero : {R : Requests} {ph : ℕ → Phase} {i j : ℕ} → (n : ℕ) → j < n → Ahead R ph i j → 0 < rank n R ph i
+pub ahead-ranks-above-zero : {R : Requests} {ph : ℕ → Phase} {i j : ℕ} → (n : ℕ) → j < n → Ahead R ph i j
+    → 0 < rank n R ph i
 unfolding rank
 ahead-ranks-above-zero {R} {ph} {i} {j} n l a = count-positive n (ahead-at R ph i) j l (ahead-passes R ph i j a)
 
@@ -121,7 +126,8 @@ pub record First (n : ℕ) (R : Requests) (ph : ℕ → Phase) (f : ℕ) : Type 
   pub member : GroupWrite R ph f
   pub rank-zero : rank n R ph f ≡ 0
 
-pub nothing-ahead-of-first : {n : ℕ} {R : Requests} {ph : ℕ → Phase} {f j : ℕ} → First n R ph f → j < n → Ahead R ph f j → ⊥
+pub nothing-ahead-of-first : {n : ℕ} {R : Requests} {ph : ℕ → Phase} {f j : ℕ} → First n R ph f → j < n → Ahead R ph f j
+    → ⊥
 nothing-ahead-of-first {n} first l a = omega (arith, ahead-ranks-above-zero n l a, first .rank-zero)
 
 -- Every active processor is below m.
@@ -139,7 +145,8 @@ module _ {n : ℕ} {R : Requests} {ph : ℕ → Phase} (o : Ordered n R ph) wher
         before = o .transitive k j i lk lj li (b .member .active) (a .member .active) active (b .before) (a .before);
       }
 
-  pub ahead-has-lower-rank : (i j : ℕ) → i < n → j < n → (ph i ≡ idle → ⊥) → Ahead R ph i j → rank n R ph j < rank n R ph i
+  pub ahead-has-lower-rank : (i j : ℕ) → i < n → j < n → (ph i ≡ idle → ⊥) → Ahead R ph i j
+      → rank n R ph j < rank n R ph i
   ahead-has-lower-rank i j li lj active a =
       rank-less n R ph j R ph i (ahead-of-ahead i j li lj active a) j lj a (not-ahead-of-itself j lj)
 
@@ -148,12 +155,14 @@ module _ {n : ℕ} {R : Requests} {ph : ℕ → Phase} (o : Ordered n R ph) wher
   first-by-rank zero i l g h = (i, record { below = l; member = g; rank-zero = omega arith })
   first-by-rank (suc k) i l g h = go (rank n R ph i) refl (first-by-rank k)
     where
-      go : (r : ℕ) → rank n R ph i ≡ r → ((j : ℕ) → j < n → GroupWrite R ph j → rank n R ph j ≤ k → (f : ℕ) × First n R ph f)
+      go : (r : ℕ) → rank n R ph i ≡ r → ((j : ℕ) → j < n → GroupWrite R ph j → rank n R ph j ≤ k → (f : ℕ)
+          × First n R ph f)
           → (f : ℕ) × First n R ph f
       go zero e lower = (i, record { below = l; member = g; rank-zero = e })
       go (suc r) e lower =
           let a = rank-finds n R ph i (omega (arith, e)) in
-          lower (a .0) (a .1) (a .2 .member) (omega (arith, h, ahead-has-lower-rank i (a .0) l (a .1) (g .active) (a .2)))
+          lower (a .0) (a .1) (a .2 .member) (omega
+          (arith, h, ahead-has-lower-rank i (a .0) l (a .1) (g .active) (a .2)))
 
   pub first-exists : (i : ℕ) → i < n → GroupWrite R ph i → (f : ℕ) × First n R ph f
   first-exists i l g = first-by-rank (rank n R ph i) i l g (le-refl (rank n R ph i))
@@ -170,7 +179,8 @@ module _ {n : ℕ} {R : Requests} {ph : ℕ → Phase} (o : Ordered n R ph) wher
     where
       go : Dec (f ≡ g) → f ≡ g
       go (yes e) = e
-      go (no d) = absurd (nothing-ahead-of-first second (first .below) (first-is-ahead f g first (second .below) (second .member) d))
+      go (no d) = absurd (nothing-ahead-of-first second (first .below)
+          (first-is-ahead f g first (second .below) (second .member) d))
 
   -- A write is not ahead of itself.
   rank-below-writes : (i : ℕ) → i < n → GroupWrite R ph i → rank n R ph i < count n (group-write-at R ph)
@@ -190,7 +200,8 @@ module _ {n : ℕ} {R : Requests} {ph : ℕ → Phase} (o : Ordered n R ph) wher
       )
 
   -- An active read takes one more of the m places.
-  pub rank-below-with-read : (m i q : ℕ) → Below n m ph → i < n → GroupWrite R ph i → q < n → (ph q ≡ idle → ⊥) → R .write q ≡ false
+  pub rank-below-with-read : (m i q : ℕ) → Below n m ph → i < n → GroupWrite R ph i → q < n → (ph q ≡ idle → ⊥)
+      → R .write q ≡ false
       → rank n R ph i + 1 < m
   unfolding active-at
   rank-below-with-read m i q below l g lq active read =

@@ -5,9 +5,14 @@ use native.Mathlib.Omega.{arith}
 use mathlib.Core.Path.{_≡_, refl, sym, _∙_, subst, ap}
 use mathlib.Core.Bool.{Bool, true, false}
 use mathlib.Core.Logic.{_⊎_, inl, inr}
-use Rattle.runs.proofs.columns.Columns.{Phase, idle, waiting, entitled, holding, Requests, Exists, In, Step1, Called, Lawful, Ordered, Settled}
-use Rattle.runs.proofs.columns.Phases.{clash, Unsatisfied, EntitledOrHolding, is-active, holding-stays, entitled-or-holding-stays, waiting-was-waiting}
-use Rattle.runs.proofs.columns.Moves.{touched, same-phase, same-write, same-group, same-against, past-waiting-untouched, was-holding, rises, rises-after1, rises-throughout, active-untouched, kept-phase, write-first, held-keeps-tick, unsatisfied-keeps-tick, newcomer-has-tick, ticks-past, nothing-added}
+use Rattle.runs.proofs.columns.Columns.{Phase, idle, waiting, entitled, holding, Requests, Exists, In, Step1}
+use Rattle.runs.proofs.columns.Columns.{Called, Lawful, Ordered, Settled}
+use Rattle.runs.proofs.columns.Phases.{clash, Unsatisfied, EntitledOrHolding, is-active, holding-stays}
+use Rattle.runs.proofs.columns.Phases.{entitled-or-holding-stays, waiting-was-waiting}
+use Rattle.runs.proofs.columns.Moves.{touched, same-phase, same-write, same-group, same-against}
+use Rattle.runs.proofs.columns.Moves.{past-waiting-untouched, was-holding, rises, rises-after1, rises-throughout}
+use Rattle.runs.proofs.columns.Moves.{active-untouched, kept-phase, write-first, held-keeps-tick}
+use Rattle.runs.proofs.columns.Moves.{unsatisfied-keeps-tick, newcomer-has-tick, ticks-past, nothing-added}
 use Rattle.runs.proofs.columns.Lengths.{Prompt, read-holds-at-most, write-holds-at-most}
 use Rattle.runs.proofs.columns.Exclusive.{one-write-against-a-read}
 
@@ -19,7 +24,8 @@ pub record ReadTimed (n Lr : ℕ) (R : Requests) (ph : ℕ → Phase) (si : ℕ 
   pub t2 : (r w : ℕ) → r < n → w < n → R .group r ≡ true → R .write r ≡ false → ph r ≡ entitled
       → In R ph holding true r w → si w ≤ si r + Lr
 
-pub read-timed-fresh : {n Lr : ℕ} {R : Requests} {ph : ℕ → Phase} {si : ℕ → ℕ} → ((i : ℕ) → i < n → ph i ≡ idle) → ReadTimed n Lr R ph si
+pub read-timed-fresh : {n Lr : ℕ} {R : Requests} {ph : ℕ → Phase} {si : ℕ → ℕ} → ((i : ℕ) → i < n → ph i ≡ idle)
+    → ReadTimed n Lr R ph si
 read-timed-fresh all-idle =
     record {
       t1 = λ r w q hr hw hq g read k x y. absurd (clash (all-idle r hr) k tt);
@@ -29,7 +35,8 @@ read-timed-fresh all-idle =
 -- The bound, at a tick up to which the group's holders keep to their lengths.
 
 module _ {n t Lr Lw : ℕ} {R : Requests} {ph : ℕ → Phase} {si len : ℕ → ℕ}
-    (settled : Settled n R ph) (lawful : Lawful n R ph) (timed : ReadTimed n Lr R ph si) (prompt : Prompt n t Lr Lw R ph si len) where
+    (settled : Settled n R ph) (lawful : Lawful n R ph) (timed : ReadTimed n Lr R ph si)
+    (prompt : Prompt n t Lr Lw R ph si len) where
   -- A waiting read waits for an entitled write, and that write waits for a read that has held at least as long as ours
   -- has waited.
   waiting-read-bounded : (r : ℕ) → r < n → R .group r ≡ true → R .write r ≡ false → ph r ≡ waiting → t ≤ si r + Lr
@@ -38,12 +45,18 @@ module _ {n t Lr Lw : ℕ} {R : Requests} {ph : ℕ → Phase} {si len : ℕ →
       behind : (w : ℕ) → w < n → In R ph entitled true r w → Exists n (In R ph holding false w) → t ≤ si r + Lr
       behind w hw x (q, hq, y) =
           let in-group = lawful .closed w q hw hq (y .conflict) (lawful .closed r w hr hw (x .conflict) g) in
-          omega (arith, timed .t1 r w q hr hw hq g read k x y, read-holds-at-most prompt q hq in-group (y .write-is) (y .phase-is))
+          omega (
+            arith,
+            timed .t1 r w q hr hw hq g read k x y,
+            read-holds-at-most prompt q hq in-group (y .write-is)
+                (y .phase-is),
+          )
 
       go : Exists n (In R ph entitled true r) → t ≤ si r + Lr
       go (w, hw, x) = behind w hw x (settled .i7 w hw (x .write-is) (x .phase-is))
 
-  entitled-read-bounded : (r : ℕ) → r < n → R .group r ≡ true → R .write r ≡ false → ph r ≡ entitled → t ≤ si r + (Lr + Lw)
+  entitled-read-bounded : (r : ℕ) → r < n → R .group r ≡ true → R .write r ≡ false → ph r ≡ entitled
+      → t ≤ si r + (Lr + Lw)
   entitled-read-bounded r hr g read k = go (settled .i4 r hr read k)
     where
       go : Exists n (In R ph holding true r) → t ≤ si r + (Lr + Lw)
@@ -55,7 +68,8 @@ module _ {n t Lr Lw : ℕ} {R : Requests} {ph : ℕ → Phase} {si len : ℕ →
           )
 
   -- Clause 6.9: the read figure bounds the wait of every read.
-  pub read-wait-bounded : (r : ℕ) → r < n → R .group r ≡ true → R .write r ≡ false → Unsatisfied (ph r) → t ≤ si r + (Lr + Lw)
+  pub read-wait-bounded : (r : ℕ) → r < n → R .group r ≡ true → R .write r ≡ false → Unsatisfied (ph r)
+      → t ≤ si r + (Lr + Lw)
   read-wait-bounded r hr g read (inl k) = omega (arith, waiting-read-bounded r hr g read k)
   read-wait-bounded r hr g read (inr k) = entitled-read-bounded r hr g read k
 
@@ -140,11 +154,14 @@ module _ {n t Lr Lw : ℕ} {R R′ : Requests} {ph ph′ : ℕ → Phase} {si si
       waited-for = h .settled .i5 r hr (was-read r hr a a′ read) k
 
       go : Exists n (In R′ (c .ph₁) holding true r) ⊎ Exists n (In R′ (c .ph₁) entitled true r) → ph w ≡ entitled
-      go (inl (j, hj, y)) = found (waited-for .0) j (waited-for .1) hj (waited-for .2) (y .write-is) (y .conflict) (inr (y .phase-is))
-      go (inr (j, hj, y)) = found (waited-for .0) j (waited-for .1) hj (waited-for .2) (y .write-is) (y .conflict) (inl (y .phase-is))
+      go (inl (j, hj, y)) = found (waited-for .0) j (waited-for .1) hj (waited-for .2) (y .write-is) (y .conflict)
+          (inr (y .phase-is))
+      go (inr (j, hj, y)) = found (waited-for .0) j (waited-for .1) hj (waited-for .2) (y .write-is) (y .conflict)
+          (inl (y .phase-is))
 
   -- T1. A read that has waited since before the call: nothing is added in the way of the write that it waits for.
-  waited-t1 : (r w q : ℕ) → r < n → w < n → q < n → R′ .group r ≡ true → R′ .write r ≡ false → ph r ≡ waiting → ph′ r ≡ waiting
+  waited-t1 : (r w q : ℕ) → r < n → w < n → q < n → R′ .group r ≡ true → R′ .write r ≡ false → ph r ≡ waiting → ph′ r
+      ≡ waiting
       → In R′ ph′ entitled true r w → In R′ ph′ holding false w q → si′ q ≤ si′ r
   waited-t1 r w q hr hw hq g read k k′ x y =
       omega (
@@ -153,7 +170,8 @@ module _ {n t Lr Lw : ℕ} {R R′ : Requests} {ph ph′ : ℕ → Phase} {si si
         unsatisfied-keeps-tick c r hr a (λ z. clash k′ z tt),
         h .timed .t1 r w q hr hw hq (was-in-group r hr a a′ g) (was-read r hr a a′ read) k
             (was-in r w hr hw a a′ (is-active e tt) (is-active (x .phase-is) tt) x e)
-            (was-in w q hw hq (is-active e tt) (is-active (x .phase-is) tt) (is-active (held .0) tt) (is-active (y .phase-is) tt) y (held .0)),
+            (was-in w q hw hq (is-active e tt) (is-active (x .phase-is) tt) (is-active (held .0) tt)
+            (is-active (y .phase-is) tt) y (held .0)),
       )
     where
       a : ph r ≡ idle → ⊥
@@ -177,7 +195,12 @@ module _ {n t Lr Lw : ℕ} {R R′ : Requests} {ph ph′ : ℕ → Phase} {si si
 
       go : (b : Phase) → ph r ≡ b → si′ q ≤ si′ r
       go idle e =
-          omega (arith, newcomer-has-tick c r hr e (is-active k tt), ticks-past c (h .past) q hq (is-active (y .phase-is) tt))
+          omega (
+            arith,
+            newcomer-has-tick c r hr e (is-active k tt),
+            ticks-past c (h .past) q hq
+                (is-active (y .phase-is) tt),
+          )
       go waiting e = waited-t1 r w q hr hw hq g read e k x y
       go entitled e = absurd (clash (waited (is-active e tt)) e tt)
       go holding e = absurd (clash (waited (is-active e tt)) e tt)
@@ -229,7 +252,8 @@ module _ {n t Lr Lw : ℕ} {R R′ : Requests} {ph ph′ : ℕ → Phase} {si si
             arith,
             begun-by-now,
             same-tick a,
-            waiting-read-bounded (h .settled) (h .lawful) (h .timed) (h .prompt) r hr (was-in-group r hr a a′ g) (was-read r hr a a′ read) e,
+            waiting-read-bounded (h .settled) (h .lawful) (h .timed) (h .prompt) r hr (was-in-group r hr a a′ g)
+                (was-read r hr a a′ read) e,
           )
       go entitled e =
           let a = is-active e tt in

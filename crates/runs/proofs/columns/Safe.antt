@@ -4,9 +4,16 @@ use native.Mathlib.Decide.{ℕ-discrete}
 use mathlib.Core.Path.{_≡_, sym, _∙_, ap}
 use mathlib.Core.Bool.{Bool, true, false}
 use mathlib.Core.Logic.{_⊎_, inl, inr}
-use Rattle.runs.proofs.columns.Columns.{Phase, idle, waiting, entitled, holding, Requests, Exists, None, In, EarlierUnsatisfied, Step1, Step2, Step3, Step4, Start, puts-in, takes-out, Called, Lawful, Ordered, Settled}
-use Rattle.runs.proofs.columns.Phases.{clash, true-not-false, Unsatisfied, EntitledOrHolding, is-active, unsatisfied-active, entitled-or-holding-active, unsatisfied-or-holding, holding-stays, waiting-was-waiting, entitled-or-holding-stays}
-use Rattle.runs.proofs.columns.Moves.{Excludes, touched, same-phase, same-write, same-against, same-earlier, still-excludes, rises-after1, rises-after2, rises, active-before, active-after, active-after1, active-at1, write-first, write-fourth, read-second, read-third, read-holds-after1, write-held-before2}
+use Rattle.runs.proofs.columns.Columns.{Phase, idle, waiting, entitled, holding, Requests, Exists, None, In}
+use Rattle.runs.proofs.columns.Columns.{EarlierUnsatisfied, Step1, Step2, Step3, Step4, Start, puts-in}
+use Rattle.runs.proofs.columns.Columns.{takes-out, Called, Lawful, Ordered, Settled}
+use Rattle.runs.proofs.columns.Phases.{clash, true-not-false, Unsatisfied, EntitledOrHolding, is-active}
+use Rattle.runs.proofs.columns.Phases.{unsatisfied-active, entitled-or-holding-active, unsatisfied-or-holding}
+use Rattle.runs.proofs.columns.Phases.{holding-stays, waiting-was-waiting, entitled-or-holding-stays}
+use Rattle.runs.proofs.columns.Moves.{Excludes, touched, same-phase, same-write, same-against, same-earlier}
+use Rattle.runs.proofs.columns.Moves.{still-excludes, rises-after1, rises-after2, rises, active-before}
+use Rattle.runs.proofs.columns.Moves.{active-after, active-after1, active-at1, write-first, write-fourth}
+use Rattle.runs.proofs.columns.Moves.{read-second, read-third, read-holds-after1, write-held-before2}
 use Rattle.runs.proofs.columns.Order.{called-keeps-order}
 
 pub settled-fresh : {n : ℕ} {R : Requests} {ph : ℕ → Phase} → ((i : ℕ) → i < n → ph i ≡ idle) → Settled n R ph
@@ -34,8 +41,10 @@ module _ {n : ℕ} {R R′ : Requests} {ph ph₀ : ℕ → Phase} (settled : Set
   touched-later-waits (puts-in p s) j e b = ap ph₀ e ∙ s .now-waiting
   touched-later-waits (takes-out p s) j e b = absurd (b (ap ph₀ e ∙ s .now-idle))
 
-  touched-not-earlier : (s : Start n R R′ ph ph₀) (i j : ℕ) → j < n → i ≡ touched s → (ph₀ i ≡ idle → ⊥) → R′ .earlier i j ≡ true → ⊥
-  touched-not-earlier (puts-in p s) i j hj e a h = true-not-false h (ap (λ x. R′ .earlier x j) e ∙ s .earlier-than-none j hj)
+  touched-not-earlier : (s : Start n R R′ ph ph₀) (i j : ℕ) → j < n → i ≡ touched s → (ph₀ i ≡ idle → ⊥)
+      → R′ .earlier i j ≡ true → ⊥
+  touched-not-earlier (puts-in p s) i j hj e a h = true-not-false h
+      (ap (λ x. R′ .earlier x j) e ∙ s .earlier-than-none j hj)
   touched-not-earlier (takes-out p s) i j hj e a h = a (ap ph₀ e ∙ s .now-idle)
 
   begun-i1 : (s : Start n R R′ ph ph₀) (i j : ℕ) → i < n → j < n → R′ .write i ≡ true → R′ .write j ≡ true
@@ -64,15 +73,18 @@ module _ {n : ℕ} {R R′ : Requests} {ph ph₀ : ℕ → Phase} (settled : Set
       }
 
 -- The same request in another state, in its phase there.
-in-phase : {R : Requests} {ph ph′ : ℕ → Phase} {a b : Phase} {isWrite : Bool} {i j : ℕ} → ph′ j ≡ b → In R ph a isWrite i j → In R ph′ b isWrite i j
+in-phase : {R : Requests} {ph ph′ : ℕ → Phase} {a b : Phase} {isWrite : Bool} {i j : ℕ} → ph′ j ≡ b
+    → In R ph a isWrite i j → In R ph′ b isWrite i j
 in-phase e x = record { phase-is = e; write-is = x .write-is; conflict = x .conflict }
 
 -- The four steps, from what remains after the start.
 
 module _ {n t : ℕ} {R R′ : Requests} {ph ph′ : ℕ → Phase} {si si′ : ℕ → ℕ}
-    (c : Called n t R R′ ph ph′ si si′) (lawful : Lawful n R′ ph′) (ordered : Ordered n R′ ph′) (b : Begun n R′ (c .ph₀)) where
+    (c : Called n t R R′ ph ph′ si si′) (lawful : Lawful n R′ ph′) (ordered : Ordered n R′ ph′)
+    (b : Begun n R′ (c .ph₀)) where
   -- I1.
-  after-i1 : (i j : ℕ) → i < n → j < n → R′ .write i ≡ true → R′ .write j ≡ true → (ph′ i ≡ idle → ⊥) → (ph′ j ≡ idle → ⊥)
+  after-i1 : (i j : ℕ) → i < n → j < n → R′ .write i ≡ true → R′ .write j ≡ true → (ph′ i ≡ idle → ⊥)
+      → (ph′ j ≡ idle → ⊥)
       → R′ .against i j ≡ true → R′ .earlier i j ≡ true → ph′ j ≡ waiting
   after-i1 i j hi hj wi wj ai aj x e = write-fourth c j hj wj ∙ third (c .third j hj) (second (c .second j hj))
     where
@@ -86,10 +98,12 @@ module _ {n t : ℕ} {R R′ : Requests} {ph ph′ : ℕ → Phase} {si si′ : 
           → Unsatisfied (c .ph₁ i) ⊎ (c .ph₁ i ≡ holding) → ⊥
       blocked none none′ (inl u) =
           none i hi (record { unsatisfied = u; write-is = wi; before = e; conflict = lawful .symmetric i j hi hj x })
-      blocked none none′ (inr h) = none′ i hi (record { phase-is = h; write-is = wi; conflict = lawful .symmetric i j hi hj x })
+      blocked none none′ (inr h) = none′ i hi
+          (record { phase-is = h; write-is = wi; conflict = lawful .symmetric i j hi hj x })
 
       second : Step2 n R′ (c .ph₁) (c .ph₂) j → c .ph₂ j ≡ waiting
-      second (Step2.entitles w h none none′ none″ k) = absurd (blocked none none′ (unsatisfied-or-holding (c .ph₁ i) active))
+      second (Step2.entitles w h none none′ none″ k) = absurd
+          (blocked none none′ (unsatisfied-or-holding (c .ph₁ i) active))
       second (Step2.stays why k) = k ∙ waits
 
       third : Step3 n R′ (c .ph₂) (c .ph₃) j → c .ph₂ j ≡ waiting → c .ph₃ j ≡ waiting
@@ -112,7 +126,8 @@ module _ {n t : ℕ} {R R′ : Requests} {ph ph′ : ℕ → Phase} {si si′ : 
       third (Step3.grants w′ e none h) =
           none i hi
           (record { phase-is = read-second c i hi r ∙ held; write-is = r; conflict = lawful .symmetric i j hi hj x })
-      third (Step3.stays why e) = first (c .first i hi) (write-held-before2 c j hj w (sym e ∙ (sym (write-fourth c j hj w) ∙ l)))
+      third (Step3.stays why e) = first (c .first i hi)
+          (write-held-before2 c j hj w (sym e ∙ (sym (write-fourth c j hj w) ∙ l)))
 
   -- I3.
   after-i3 : Excludes n R′ ph′ entitled
@@ -172,11 +187,14 @@ module _ {n t : ℕ} {R R′ : Requests} {ph ph′ : ℕ → Phase} {si si′ : 
           absurd (none j hj (record { phase-is = sym (write-fourth c j hj w) ∙ h; write-is = w; conflict = x }))
 
       from1 : None n (In R′ (c .ph₃) holding true i)
-          → Exists n (In R′ (c .ph₁) holding true i) ⊎ Exists n (In R′ (c .ph₁) entitled true i) → Exists n (In R′ ph′ entitled true i)
+          → Exists n (In R′ (c .ph₁) holding true i) ⊎ Exists n (In R′ (c .ph₁) entitled true i)
+          → Exists n (In R′ ph′ entitled true i)
       from1 none (inl (j, hj, x)) =
-          found j hj (x .write-is) (x .conflict) none (entitled-or-holding-stays (rises-after1 c j hj) (inr (x .phase-is)))
+          found j hj (x .write-is) (x .conflict) none
+          (entitled-or-holding-stays (rises-after1 c j hj) (inr (x .phase-is)))
       from1 none (inr (j, hj, x)) =
-          found j hj (x .write-is) (x .conflict) none (entitled-or-holding-stays (rises-after1 c j hj) (inl (x .phase-is)))
+          found j hj (x .write-is) (x .conflict) none
+          (entitled-or-holding-stays (rises-after1 c j hj) (inl (x .phase-is)))
 
       from3 : None n (In R′ (c .ph₃) holding true i) ⊎ Exists n (In R′ (c .ph₃) entitled true i) → c .ph₁ i ≡ waiting
           → Exists n (In R′ ph′ entitled true i)
@@ -189,11 +207,14 @@ module _ {n t : ℕ} {R R′ : Requests} {ph ph′ : ℕ → Phase} {si si′ : 
 
   -- I6: each reason why step 2 leaves a write waiting leads to an earlier active write.
   abbrev Behind : ℕ → Type 0
-  Behind i = (j : ℕ) × (j < n) × (R′ .write j ≡ true) × (ph′ j ≡ idle → ⊥) × (R′ .earlier j i ≡ true) × (R′ .against i j ≡ true)
+  Behind i = (j : ℕ) × (j < n) × (R′ .write j ≡ true) × (ph′ j ≡ idle → ⊥) × (R′ .earlier j i ≡ true)
+      × (R′ .against i j ≡ true)
 
-  behind-holding : (i j : ℕ) → i < n → j < n → R′ .write i ≡ true → R′ .write j ≡ true → c .ph₀ i ≡ waiting → c .ph₀ j ≡ holding
+  behind-holding : (i j : ℕ) → i < n → j < n → R′ .write i ≡ true → R′ .write j ≡ true → c .ph₀ i ≡ waiting → c .ph₀ j
+      ≡ holding
       → R′ .against i j ≡ true → Behind i
-  behind-holding i j hi hj wi wj k l x = go (ordered .total i j hi hj (active-after c i hi ai) (active-after c j hj aj) differ)
+  behind-holding i j hi hj wi wj k l x = go
+      (ordered .total i j hi hj (active-after c i hi ai) (active-after c j hj aj) differ)
     where
       ai : c .ph₀ i ≡ idle → ⊥
       ai = is-active k tt
@@ -218,11 +239,13 @@ module _ {n t : ℕ} {R R′ : Requests} {ph ph′ : ℕ → Phase} {si si′ : 
       waits0 = waiting-was-waiting (rises c i hi) k
 
       -- An entitled read conflicts with a holding write, and the bridge leads from that write to ours.
-      bridged : (r : ℕ) → r < n → In R′ (c .ph₁) entitled false i r → Exists n (In R′ (c .ph₀) holding true r) → Behind i
+      bridged : (r : ℕ) → r < n → In R′ (c .ph₁) entitled false i r → Exists n (In R′ (c .ph₀) holding true r)
+          → Behind i
       bridged r hr x (v, hv, y) = behind-holding i v hi hv w (y .write-is) waits0 (y .phase-is) conflict
         where
           entitled-active : ph′ r ≡ idle → ⊥
-          entitled-active = entitled-or-holding-active (entitled-or-holding-stays (rises-after1 c r hr) (inl (x .phase-is)))
+          entitled-active = entitled-or-holding-active
+              (entitled-or-holding-stays (rises-after1 c r hr) (inl (x .phase-is)))
 
           differ : i ≡ v → ⊥
           differ e = clash waits0 (ap (c .ph₀) e ∙ y .phase-is) tt
@@ -235,13 +258,23 @@ module _ {n t : ℕ} {R R′ : Requests} {ph ph′ : ℕ → Phase} {si si′ : 
 
       reason : Exists n (EarlierUnsatisfied R′ (c .ph₁) i)
           ⊎ (Exists n (In R′ (c .ph₁) holding true i) ⊎ Exists n (In R′ (c .ph₁) entitled false i)) → Behind i
-      reason (inl (j, hj, x)) = (j, hj, x .write-is, active-after1 c j hj (unsatisfied-active (x .unsatisfied)), x .before, x .conflict)
+      reason (inl (j, hj, x)) = (
+        j,
+        hj,
+        x .write-is,
+        active-after1 c j hj
+            (unsatisfied-active (x .unsatisfied)),
+        x .before,
+        x .conflict,
+      )
       reason (inr (inl (j, hj, x))) =
-          behind-holding i j hi hj w (x .write-is) waits0 (sym (write-first c j hj (x .write-is)) ∙ x .phase-is) (x .conflict)
+          behind-holding i j hi hj w (x .write-is) waits0 (sym (write-first c j hj (x .write-is)) ∙ x .phase-is)
+          (x .conflict)
       reason (inr (inr (r, hr, x))) = bridged r hr x (first-i4 r hr (x .write-is) (x .phase-is))
 
       second : Step2 n R′ (c .ph₁) (c .ph₂) i → Behind i
-      second (Step2.entitles w′ e none none′ none″ h) = absurd (clash h (waiting-was-waiting (rises-after2 c i hi) k) tt)
+      second (Step2.entitles w′ e none none′ none″ h) = absurd
+          (clash h (waiting-was-waiting (rises-after2 c i hi) k) tt)
       second (Step2.stays why e) = reason (why waits1 w)
 
   -- I7.

@@ -18,10 +18,13 @@ use Rattle.runs.specs.Claim.{everyEntry}
 use Rattle.runs.proofs.history.Cases.{by-processor}
 use Rattle.runs.proofs.history.Frame.{entitlesIn, BothAllowed, bothAnswer}
 use Rattle.runs.proofs.columns.Columns.{idle, waiting}
-use Rattle.runs.proofs.columns.Phases.{Rises, clash, idle-stays, holding-stays, entitled-or-holding-stays, EntitledOrHolding}
-use Rattle.runs.proofs.refinement.State.{bitsAt, bitsOf, held-phase, held-bit, entitled-phase, marks-entitled, bits-in}
+use Rattle.runs.proofs.columns.Phases.{Rises, clash, idle-stays, holding-stays, entitled-or-holding-stays}
+use Rattle.runs.proofs.columns.Phases.{EntitledOrHolding}
+use Rattle.runs.proofs.refinement.State.{bitsAt, bitsOf, held-phase, held-bit, entitled-phase, marks-entitled}
+use Rattle.runs.proofs.refinement.State.{bits-in}
 use Rattle.runs.proofs.refinement.Clean.{phaseIn, Clean}
-use Rattle.runs.proofs.refinement.Acts.{callerOf, startOf, stateAfterAct, phasesAfter, grantsIn, Allowed, begun, start-tidy, settled-rises, act-done}
+use Rattle.runs.proofs.refinement.Acts.{callerOf, startOf, stateAfterAct, phasesAfter, grantsIn, Allowed, begun}
+use Rattle.runs.proofs.refinement.Acts.{start-tidy, settled-rises, act-done}
 
 -- Processor q holds, or is entitled, in the state.
 abbrev pub holdsAt : State → ℕ → Bool
@@ -57,7 +60,8 @@ set-at-the-end false false false h = refl
 
 -- ---- one act
 
-module _ (b : Board) (s : State) (t : ℕ) (a : Act) (c : Clean b s) (k : Allowed b s t a) (q : ℕ) (l : q < maxProcessors) where
+module _ (b : Board) (s : State) (t : ℕ) (a : Act) (c : Clean b s) (k : Allowed b s t a) (q : ℕ)
+    (l : q < maxProcessors) where
   granted-at : bit (grantsIn b s t a) q ≡ (holdsAt (stateAfterAct b s t a) q && not (holdsAt (startOf s t a) q))
   granted-at = bit-mask-at maxProcessors (began (startOf s t a .phases) (phasesAfter b s t a)) q l
 

@@ -18,13 +18,15 @@ use Rattle.rules.specs.declared.states.Board.{Board}
 use Rattle.rules.specs.declared.states.State.{State}
 use Rattle.rules.specs.Faults.{issueFault, takeFault, completeFault, withdrawFault, handoverFault}
 use Rattle.rules.specs.Acts.{became}
-use Rattle.rules.specs.Calls.{phasesOf, putState, takenState, Answer, done, ruled, settledDone, issued, lateMark, left, completed, withdrawn, both, handedOver, answered}
+use Rattle.rules.specs.Calls.{phasesOf, putState, takenState, Answer, done, ruled, settledDone, issued, lateMark, left}
+use Rattle.rules.specs.Calls.{completed, withdrawn, both, handedOver, answered}
 use Rattle.rules.proofs.Halves.{halves-accepted}
 use Rattle.runs.specs.History.{Act, puts, takes, actsOf}
 use Rattle.runs.proofs.history.Verdicts.{issue-taken, leave-taken}
 use Rattle.runs.proofs.refinement.State.{active-not-idle, inactive-idle}
 use Rattle.runs.proofs.refinement.Clean.{Clean, clean-phases}
-use Rattle.runs.proofs.refinement.Acts.{startFrom, startOf, grantsIn, stateAfterAct, phasesAfter, Allowed, act-done}
+use Rattle.runs.proofs.refinement.Acts.{startFrom, startOf, grantsIn, stateAfterAct, phasesAfter, Allowed}
+use Rattle.runs.proofs.refinement.Acts.{act-done}
 
 -- ---- by the number that is due
 
@@ -78,7 +80,10 @@ module _ (b : Board) (s : State) (p t : ℕ) (c : Clean b s) where
         record {
           in-time = k .call .in-time;
           below = k .call .in-state;
-          may = record { was-active = active-not-idle (s .phases) p (sym (ap (λ ph. active ph p) same) ∙ k .was-active) };
+          may = record {
+            was-active = active-not-idle (s .phases) p
+                (sym (ap (λ ph. active ph p) same) ∙ k .was-active);
+          };
         },
         ap (λ ph. settledDone b (startFrom ph s t (takes p)) late) same,
       )

@@ -22,20 +22,24 @@ use Rattle.runs.proofs.refinement.Clean.{phaseIn, entryFor, sinceIn}
 -- bounds.
 abbrev pub Keeps : (ℕ → ℕ) → (ℕ → Bool) → ℕ → History → Type 0
 Keeps length-of group n h =
-    (i : ℕ) → i < length (h .requests) → group (request h i .entry) ≡ true → holdOf n (request h i) ≤ length-of (request h i .entry)
+    (i : ℕ) → i < length (h .requests) → group (request h i .entry) ≡ true
+    → holdOf n (request h i) ≤ length-of (request h i .entry)
 
 abbrev pub Waits : (ℕ → ℕ) → (ℕ → Bool) → ℕ → History → Type 0
 Waits bound group n h =
-    (i : ℕ) → i < length (h .requests) → group (request h i .entry) ≡ true → waitOf n (request h i) ≤ bound (request h i .entry)
+    (i : ℕ) → i < length (h .requests) → group (request h i .entry) ≡ true
+    → waitOf n (request h i) ≤ bound (request h i .entry)
 
 -- The same for the state: its holders, and its unsatisfied requests.
 abbrev pub KeptTo : (ℕ → ℕ) → (ℕ → Bool) → State → ℕ → Type 0
 KeptTo length-of group s t =
-    (q : ℕ) → q < maxProcessors → phaseIn s q ≡ holding → group (entryFor s q) ≡ true → t ≤ sinceIn s q + length-of (entryFor s q)
+    (q : ℕ) → q < maxProcessors → phaseIn s q ≡ holding → group (entryFor s q) ≡ true
+    → t ≤ sinceIn s q + length-of (entryFor s q)
 
 abbrev pub WaitsTo : (ℕ → ℕ) → (ℕ → Bool) → State → ℕ → Type 0
 WaitsTo bound group s t =
-    (q : ℕ) → q < maxProcessors → Unsatisfied (phaseIn s q) → group (entryFor s q) ≡ true → t ≤ sinceIn s q + bound (entryFor s q)
+    (q : ℕ) → q < maxProcessors → Unsatisfied (phaseIn s q) → group (entryFor s q) ≡ true
+    → t ≤ sinceIn s q + bound (entryFor s q)
 
 -- ---- along the calls
 

@@ -12,11 +12,14 @@ use Rattle.plans.specs.Entries.{maxProcessors}
 use Rattle.rules.specs.declared.states.Board.{Board}
 use Rattle.rules.specs.declared.states.State.{State}
 use Rattle.boards.specs.Fresh.{freshState}
-use Rattle.runs.specs.History.{never, Request, History, Act, puts, takes, arrival, acting, granting, ending, nothing, waitOf}
+use Rattle.runs.specs.History.{never, Request, History, Act, puts, takes, arrival, acting, granting, ending}
+use Rattle.runs.specs.History.{nothing, waitOf}
 use Rattle.runs.specs.Claim.{request}
 use Rattle.runs.proofs.history.Cases.{by-processor, below-or-past, length-more, getD-map}
-use Rattle.runs.proofs.history.Tied.{Tied, open-active, ending-other, tied-put, tied-arrival, tied-taken, tied-granted}
-use Rattle.runs.proofs.history.Spans.{Alike, alike-same, alike-through, granting-alike, granting-end, ending-alike, arrival-waits}
+use Rattle.runs.proofs.history.Tied.{Tied, open-active, ending-other, tied-put, tied-arrival, tied-taken}
+use Rattle.runs.proofs.history.Tied.{tied-granted}
+use Rattle.runs.proofs.history.Spans.{Alike, alike-same, alike-through, granting-alike, granting-end}
+use Rattle.runs.proofs.history.Spans.{ending-alike, arrival-waits}
 use Rattle.runs.proofs.columns.Columns.{idle}
 use Rattle.runs.proofs.columns.Phases.{idle-stays}
 use Rattle.runs.proofs.refinement.Clean.{phaseIn, fresh-idle}
@@ -91,7 +94,12 @@ module _ (t : ℕ) (s s′ : State) (f : Request → Request) (k : Changes t s s
   open-before : (q i : ℕ) → OpenOf h′ q i → OpenOf h q i
   open-before q i o =
       let l = listed i (o .listed) in
-      record { listed = l; no-end = alike-at i l .was-open (o .no-end); processor = sym (alike-at i l .processor) ∙ o .processor }
+      record {
+        listed = l;
+        no-end = alike-at i l .was-open (o .no-end);
+        processor = sym (alike-at i l .processor)
+            ∙ o .processor;
+      }
 
   open-after : (q i : ℕ) → (phaseIn s′ q ≡ idle → ⊥) → OpenOf h q i → OpenOf h′ q i
   open-after q i a o =
@@ -110,7 +118,8 @@ module _ (t : ℕ) (s s′ : State) (f : Request → Request) (k : Changes t s s
             record {
               last = now;
               each =
-                  λ i l. subst (Tied s′) (sym (changed-at i (listed i l))) (k .tied (request h i) (rel .each i (listed i l)));
+                  λ i l. subst (Tied s′) (sym (changed-at i (listed i l)))
+                  (k .tied (request h i) (rel .each i (listed i l)));
               apart = λ q i j x y. rel .apart q i j (open-before q i x) (open-before q j y);
               present = λ q l a.
                   let found = rel .present q l (k .was-active q l a) in
@@ -220,7 +229,8 @@ module _ (s x : State) (t p e : ℕ) (f : Begun s x t (puts p e)) (h : History) 
             record {
               last = sym (f .last);
               each = λ i l.
-                  place i l (λ m. subst (Tied x) (sym (old-at i m)) (tied-put s x t p e f (request h i) (rel .each i m)))
+                  place i l (λ m. subst (Tied x) (sym (old-at i m))
+                  (tied-put s x t p e f (request h i) (rel .each i m)))
                   (λ m. subst (Tied x) (sym (new-at i m)) (tied-arrival s x t p e f));
               apart = put-apart;
               present = put-present;
@@ -253,6 +263,7 @@ act-counted b s t a s′ g d h rel =
     let h₁ : History = record { requests = acting t a (h .requests); last = t } in
     let second : Step t h₁ (afterAct h t a g) s′ =
     subst (λ (n : ℕ). Step n h₁ (record { requests = map (granting g n) (h₁ .requests); last = n }) s′) (d .begun .last)
-    (changed-step (d .start .last) (d .start) s′ (granting g (d .start .last)) (granted-changes (d .start) s′ g (d .settles)) h₁
+    (changed-step (d .start .last) (d .start) s′ (granting g (d .start .last))
+    (granted-changes (d .start) s′ g (d .settles)) h₁
     (first .related) (sym (d .settles .last))) in
     record { related = second .related; advanced = advanced-through (first .advanced) (second .advanced) }

@@ -146,7 +146,8 @@ module _ (b : Board) (group : ℕ → Bool) (Lr Lw : ℕ) (A : Arbiter b group L
   keeps-first [] s h r keeps = keeps
   keeps-first (c ∷ later) s h r keeps =
       keeps-next r (outcome c s h r)
-      (keeps-first later (answered b s c .state) (counting h c (answered b s c .reply)) (reached-next r (outcome c s h r)) keeps)
+      (keeps-first later (answered b s c .state) (counting h c (answered b s c .reply))
+      (reached-next r (outcome c s h r)) keeps)
 
   pub run-on-time : (calls : List Call) (s : State) (h : History) → Reached s h → OnTime s h
       → Keeps (lengthOn b) group (countedIn h (events b s calls) .last) (countedIn h (events b s calls))
@@ -178,7 +179,8 @@ module _ (b : Board) (group : ℕ → Bool) (Lr Lw : ℕ) (A : Arbiter b group L
       let apart : request h i .processor ≡ request h j .processor → ⊥ =
       λ same.
       different
-      (r .related .apart (request h j .processor) i j (record { listed = li; no-end = u .open-in .no-end; processor = same })
+      (r .related .apart (request h j .processor) i j
+      (record { listed = li; no-end = u .open-in .no-end; processor = same })
       (record { listed = lj; no-end = v .open-in .no-end; processor = refl })) in
       ap₂ (λ (e f : ℕ). bit (getD (b .rows) e 0) f) (sym (u .open-in .entry)) (sym (v .open-in .entry))
       ∙ A .exclusive s (request h i .processor) (request h j .processor) (r .clean) (r .safe) (u .open-in .below)

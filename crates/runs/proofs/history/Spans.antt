@@ -7,7 +7,8 @@ use native.Mathlib.Nat.{le-refl}
 use native.Mathlib.Omega.{arith}
 use borrow.Author.Tests.{eq-eqb, ne-eqb}
 use Rattle.masks.specs.Sets.{bit}
-use Rattle.runs.specs.History.{When, never, at, happened, tickOr, Request, arrival, granting, ending, holdOf, waitOf}
+use Rattle.runs.specs.History.{When, never, at, happened, tickOr, Request, arrival, granting, ending, holdOf}
+use Rattle.runs.specs.History.{waitOf}
 use Rattle.runs.proofs.history.Cases.{by-processor}
 
 -- The same request, which may have been granted or ended at t: its wait and hold up to t are the same.
@@ -71,7 +72,8 @@ ending-alike p t r =
     by-processor (r .processor) p (λ same. go same (r .grant) (r .end))
     (λ other. rw (ne-eqb (r .processor) p other) (alike-same t r))
   where
-    ends : Alike t (timed r never never) (timed r never (at t)) × ((k : ℕ) → Alike t (timed r (at k) never) (timed r (at k) (at t)))
+    ends : Alike t (timed r never never) (timed r never (at t))
+        × ((k : ℕ) → Alike t (timed r (at k) never) (timed r (at k) (at t)))
     ends = (
       record { processor = refl; entry = refl; wait = refl; hold = refl; was-open = λ e. refl },
       λ k. record { processor = refl; entry = refl; wait = refl; hold = refl; was-open = λ e. refl },

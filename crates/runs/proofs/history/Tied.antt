@@ -14,7 +14,8 @@ use Rattle.runs.specs.History
 use Rattle.runs.proofs.history.Cases.{by-processor}
 use Rattle.runs.proofs.history.Spans.{timed}
 use Rattle.runs.proofs.columns.Columns.{idle, holding}
-use Rattle.runs.proofs.columns.Phases.{clash, Unsatisfied, unsatisfied-or-holding, unsatisfied-active, unsatisfied-not-holding, holding-stays, idle-was-idle}
+use Rattle.runs.proofs.columns.Phases.{clash, Unsatisfied, unsatisfied-or-holding, unsatisfied-active}
+use Rattle.runs.proofs.columns.Phases.{unsatisfied-not-holding, holding-stays, idle-was-idle}
 use Rattle.runs.proofs.refinement.Clean.{phaseIn, entryFor, sinceIn}
 use Rattle.runs.proofs.refinement.Acts.{Same, Begun, Marked, begins, keeps, Settles}
 
@@ -63,7 +64,8 @@ holder-of s r (waits w) e =
     absurd (false≢true (sym (ap (λ m. happened m && not (happened (r .end))) (w .no-grant)) ∙ e))
 holder-of s r (holds g w) e = (g, w)
 holder-of s r (ended d k) e =
-    absurd (false≢true (sym (ap (λ m. happened (r .grant) && not (happened m)) k ∙ and-false (happened (r .grant))) ∙ e))
+    absurd (false≢true (sym (ap (λ m. happened (r .grant) && not (happened m)) k ∙ and-false (happened (r .grant)))
+    ∙ e))
 
 -- ---- what an act and its grants do to a request
 
@@ -92,7 +94,13 @@ tied-untouched s x r same tied = go tied
     go (holds g w) =
         let o = same (w .open-in .no-end) in
         holds g
-        (record { grant-at = w .grant-at; open-in = open-on (w .open-in); held = o .phase ∙ w .held; since = o .since ∙ w .since })
+        (record {
+          grant-at = w .grant-at;
+          open-in = open-on (w .open-in);
+          held = o .phase ∙ w .held;
+          since = o .since
+              ∙ w .since;
+        })
     go (ended d e) = ended d e
 
 -- When a request is added, no old request of its processor is without an end.
@@ -144,7 +152,13 @@ module _ (x s′ : State) (g : ℕ) (h : Settles x s′ g) (r : Request) where
 
       go : Marked x s′ g p → Tied s′ (granting g (x .last) (timed r never never))
       go (begins m k d e) =
-          rw m (holds (x .last) (record { grant-at = refl; open-in = open-after (w .open-in) (at (x .last)); held = k; since = e }))
+          rw m (holds (x .last) (record {
+            grant-at = refl;
+            open-in = open-after (w .open-in)
+                (at (x .last));
+            held = k;
+            since = e;
+          }))
       go (keeps m k e) =
           rw m
           (waits

@@ -10,12 +10,14 @@ use Rattle.masks.proofs.Masks.{bit-mask}
 use Rattle.plans.specs.Entries.{maxProcessors}
 use Rattle.rules.specs.declared.states.Board.{Board}
 use Rattle.rules.specs.declared.states.State.{State}
-use Rattle.runs.specs.History.{When, never, at, Request, History, Act, puts, takes, arrival, allActing, granting, ending}
+use Rattle.runs.specs.History.{When, never, at, Request, History, Act, puts, takes, arrival, allActing, granting}
+use Rattle.runs.specs.History.{ending}
 use Rattle.runs.proofs.history.Spans.{timed}
 use Rattle.runs.proofs.history.Related.{afterAct}
 use Rattle.runs.proofs.columns.Phases.{clash, idle-stays}
 use Rattle.runs.proofs.refinement.Clean.{Clean}
-use Rattle.runs.proofs.refinement.Acts.{grantsIn, stateAfterAct, Allowed, Marked, begins, keeps, ActDone, act-done}
+use Rattle.runs.proofs.refinement.Acts.{grantsIn, stateAfterAct, Allowed, Marked, begins, keeps, ActDone}
+use Rattle.runs.proofs.refinement.Acts.{act-done}
 
 -- The processors of either mask.
 abbrev pub either : ℕ → ℕ → ℕ
@@ -27,9 +29,11 @@ both-below true a b = refl
 both-below false a b = refl
 
 pub bit-either : (f₁ f₂ : ℕ → Bool) (q : ℕ)
-    → bit (either (maskOf maxProcessors f₁) (maskOf maxProcessors f₂)) q ≡ (bit (maskOf maxProcessors f₁) q || bit (maskOf maxProcessors f₂) q)
+    → bit (either (maskOf maxProcessors f₁) (maskOf maxProcessors f₂)) q
+    ≡ (bit (maskOf maxProcessors f₁) q || bit (maskOf maxProcessors f₂) q)
 bit-either f₁ f₂ q =
-    let in-either = bit-mask maxProcessors (λ q. bit (maskOf maxProcessors f₁) q || bit (maskOf maxProcessors f₂) q) q in
+    let in-either = bit-mask maxProcessors (λ q. bit (maskOf maxProcessors f₁) q || bit (maskOf maxProcessors f₂) q)
+    q in
     let masks = ap₂ _||_ (bit-mask maxProcessors f₁ q) (bit-mask maxProcessors f₂ q) in
     in-either ∙ ap (λ u. ltb q maxProcessors && u) masks ∙ both-below (ltb q maxProcessors) (f₁ q) (f₂ q) ∙ sym masks
 

@@ -27,8 +27,10 @@ use Rattle.runs.proofs.history.Cases.{by-processor, getD-set}
 use Rattle.runs.proofs.columns.Columns.{idle, waiting, holding}
 use Rattle.runs.proofs.columns.Phases.{true-not-false, Rises, rises-rises, idle-stays}
 use Rattle.runs.proofs.columns.Moves.{rises1, rises2, rises3, rises4}
-use Rattle.runs.proofs.refinement.State.{requestsOf, phaseOf, Tidy, held-phase, held-bit, Becomes, moved, kept, becomes-tidy}
-use Rattle.runs.proofs.refinement.Steps.{second-fails, first-step, second-step, third-step, fourth-step, step1-tidy, step2-tidy, step3-tidy, step4-tidy}
+use Rattle.runs.proofs.refinement.State.{requestsOf, phaseOf, Tidy, held-phase, held-bit, Becomes, moved, kept}
+use Rattle.runs.proofs.refinement.State.{becomes-tidy}
+use Rattle.runs.proofs.refinement.Steps.{second-fails, first-step, second-step, third-step, fourth-step}
+use Rattle.runs.proofs.refinement.Steps.{step1-tidy, step2-tidy, step3-tidy, step4-tidy}
 use Rattle.runs.proofs.refinement.Clean.{phaseIn, entryFor, sinceIn, Clean}
 use Rattle.runs.proofs.refinement.Starts.{put-moves, take-moves}
 
@@ -43,7 +45,14 @@ callerOf (takes p) = p
 -- count.
 abbrev pub startFrom : Phases → State → ℕ → Act → State
 startFrom ph s t (puts p e) =
-    record { last = t; phases = putIn ph p; since = set (s .since) p t; earlier = putLast (s .earlier) ph p; requested = set (s .requested) p e }
+    record {
+      last = t;
+      phases = putIn ph p;
+      since = set (s .since) p t;
+      earlier = putLast
+          (s .earlier) ph p;
+      requested = set (s .requested) p e;
+    }
 startFrom ph s t (takes p) =
     record { last = t; phases = takenOut ph p; since = s .since; earlier = s .earlier; requested = s .requested }
 
@@ -56,7 +65,14 @@ phasesAfter b s t a = settled (factsOf b (startOf s t a)) (startOf s t a .phases
 
 abbrev pub settledFrom : State → Phases → State
 settledFrom x ph =
-    record { last = x .last; phases = ph; since = stamped (x .since) (x .phases) ph (x .last); earlier = x .earlier; requested = x .requested }
+    record {
+      last = x .last;
+      phases = ph;
+      since = stamped (x .since) (x .phases) ph
+          (x .last);
+      earlier = x .earlier;
+      requested = x .requested;
+    }
 
 abbrev pub stateAfterAct : Board → State → ℕ → Act → State
 stateAfterAct b s t a = settledFrom (startOf s t a) (phasesAfter b s t a)
@@ -125,7 +141,8 @@ module _ (b : Board) (s : State) (t : ℕ) (c : Clean b s) where
         below = k .below;
         others = λ q l other.
             record {
-              entry = stored (s .requested) e q (c .entry-length) ∙ ap (λ u. cond u e (entryFor s q)) (ne-eqb q p other);
+              entry = stored (s .requested) e q (c .entry-length)
+                  ∙ ap (λ u. cond u e (entryFor s q)) (ne-eqb q p other);
               since = stored (s .since) t q (c .since-length) ∙ ap (λ u. cond u t (sinceIn s q)) (ne-eqb q p other);
               phase = kept moves q l (ne-eqb q p other);
             };
@@ -148,7 +165,12 @@ module _ (b : Board) (s : State) (t : ℕ) (c : Clean b s) where
         last = refl;
         below = k .below;
         others =
-            λ q l other. record { entry = refl; since = refl; phase = kept (take-moves (s .phases) p) q l (ne-eqb q p other) };
+            λ q l other. record {
+              entry = refl;
+              since = refl;
+              phase = kept (take-moves (s .phases) p) q l
+                  (ne-eqb q p other);
+            };
         own = record { now-idle = moved (take-moves (s .phases) p) p (k .below) (eq-eqb p p refl); since = refl };
       }
 
@@ -156,8 +178,13 @@ module _ (b : Board) (s : State) (t : ℕ) (c : Clean b s) where
   start-tidy (puts p e) k = becomes-tidy (put-moves (s .phases) p (c .tidy) (k .may .was-idle)) (c .tidy)
   start-tidy (takes p) k = becomes-tidy (take-moves (s .phases) p) (c .tidy)
 
-  start-lengths : (a : Act) → (length (startOf s t a .requested) ≡ maxProcessors) × (length (startOf s t a .since) ≡ maxProcessors)
-  start-lengths (puts p e) = (length-set (s .requested) p e ∙ c .entry-length, length-set (s .since) p t ∙ c .since-length)
+  start-lengths : (a : Act) → (length (startOf s t a .requested) ≡ maxProcessors)
+      × (length (startOf s t a .since) ≡ maxProcessors)
+  start-lengths (puts p e) = (
+    length-set (s .requested) p e ∙ c .entry-length,
+    length-set (s .since) p t
+        ∙ c .since-length,
+  )
   start-lengths (takes p) = (c .entry-length, c .since-length)
 
   -- What `Clean` requires of the caller's own request.
@@ -169,7 +196,8 @@ module _ (b : Board) (s : State) (t : ℕ) (c : Clean b s) where
   own-counts (puts p e) x k o a = (k .may .in-plan, rw (o .entry) (k .may .listed), rw (o .since) (le-refl t))
   own-counts (takes p) x k o a = absurd (a (o .now-idle))
 
-  other-counts : (x : State) (q : ℕ) → s .last ≤ t → q < maxProcessors → Same s x q → (phaseIn x q ≡ idle → ⊥) → Counts x q
+  other-counts : (x : State) (q : ℕ) → s .last ≤ t → q < maxProcessors → Same s x q → (phaseIn x q ≡ idle → ⊥)
+      → Counts x q
   other-counts x q in-time l o a =
       let before : phaseIn s q ≡ idle → ⊥ = λ k. a (o .phase ∙ k) in
       let plan = c .in-plan q l before in
@@ -235,8 +263,10 @@ marked-at x ph q l = go (began (x .phases) ph q) refl
 
     go : (t : Bool) → began (x .phases) ph q ≡ t → Marked x (settledFrom x ph) (grantsOf x ph) q
     go true e =
-        begins (bit-mask-at maxProcessors (began (x .phases) ph) q l ∙ e) (held-phase ph q (and-left (bit (ph .holding) q) _ e))
-        (λ k. true-not-false (held-bit (x .phases) q k) (not-true (bit (x .phases .holding) q) (and-right (bit (ph .holding) q) _ e)))
+        begins (bit-mask-at maxProcessors (began (x .phases) ph) q l ∙ e)
+        (held-phase ph q (and-left (bit (ph .holding) q) _ e))
+        (λ k. true-not-false (held-bit (x .phases) q k)
+        (not-true (bit (x .phases .holding) q) (and-right (bit (ph .holding) q) _ e)))
         (since ∙ ap (λ u. cond u (x .last) (sinceIn x q)) e)
     go false e =
         keeps (bit-mask-at maxProcessors (began (x .phases) ph) q l ∙ e)
@@ -283,7 +313,13 @@ act-done b s t a c k =
     let ph = phasesAfter b s t a in
     let tidy = start-tidy b s t c a k in
     let settles : Settles x (settledFrom x ph) (grantsOf x ph) =
-    record { last = refl; entry = refl; rises = settled-rises (factsOf b x) everyEntry (x .phases) tidy; marked = marked-at x ph } in
+    record {
+      last = refl;
+      entry = refl;
+      rises = settled-rises (factsOf b x) everyEntry
+          (x .phases) tidy;
+      marked = marked-at x ph;
+    } in
     record {
       start = x;
       begun = begun b s t c a k;

@@ -22,7 +22,8 @@ use Rattle.runs.proofs.columns.Order.{ordered-fresh, called-keeps-order
 use Rattle.runs.proofs.columns.Safe.{settled-fresh, called-keeps-settled}
 use Rattle.runs.proofs.columns.Exclusive.{exclusive}
 use Rattle.runs.proofs.columns.ReadWait.{ReadTimed, read-timed-fresh, read-wait-bounded, called-keeps-read-timed}
-use Rattle.runs.proofs.columns.WriteWait.{WriteTimed, write-timed-fresh, Standing, write-wait-bounded, called-keeps-write-timed}
+use Rattle.runs.proofs.columns.WriteWait.{WriteTimed, write-timed-fresh, Standing, write-wait-bounded}
+use Rattle.runs.proofs.columns.WriteWait.{called-keeps-write-timed}
 use Rattle.runs.proofs.refinement.State.{requestsOf}
 use Rattle.runs.proofs.refinement.Clean.{phaseIn, entryFor, sinceIn, Clean, fresh-idle}
 use Rattle.runs.proofs.refinement.Acts.{stateAfterAct, Allowed, act-done}
@@ -36,7 +37,8 @@ Safe b G s = Standing maxProcessors (requestsOf (factsOf b s) G) (phaseIn s)
 -- T1 and T2, W1 and W2.
 record Timed (b : Board) (G : ℕ → Bool) (Lr Lw : ℕ) (s : State) : Type 0 where
   pub reads : ReadTimed maxProcessors Lr (requestsOf (factsOf b s) G) (phaseIn s) (sinceIn s)
-  pub writes : WriteTimed maxProcessors (b .terms .processors) Lr Lw (requestsOf (factsOf b s) G) (phaseIn s) (sinceIn s)
+  pub writes : WriteTimed maxProcessors (b .terms .processors) Lr Lw (requestsOf (factsOf b s) G) (phaseIn s)
+      (sinceIn s)
 
 timed-fresh : (b : Board) (G : ℕ → Bool) (Lr Lw : ℕ) → Timed b G Lr Lw freshState
 timed-fresh b G Lr Lw =
@@ -104,7 +106,8 @@ module _ (p : Plan) (taken : planFault p ≡ 0) (G : ℕ → Bool) (closed : Clo
             (record { below = l; group-is = g; write-is = w; unsatisfied = unsat }))
         go false w =
             subst (λ u. t ≤ sinceIn s q + cond u ((b .terms .processors - 1) * (Lr + Lw)) (Lr + Lw)) (sym w)
-            (read-wait-bounded (safe .settled) (safe .lawful) (timed .reads) (prompt p taken s clean G Lr Lw bounded t kept) q l g w unsat)
+            (read-wait-bounded (safe .settled) (safe .lawful) (timed .reads)
+            (prompt p taken s clean G Lr Lw bounded t kept) q l g w unsat)
 
     pub plan-arbiter : Arbiter (boardOf p) G Lr Lw
     plan-arbiter =
@@ -115,7 +118,8 @@ module _ (p : Plan) (taken : planFault p ≡ 0) (G : ℕ → Bool) (closed : Clo
           timed-fresh = timed-fresh b G Lr Lw;
           safe-act = safe-act;
           timed-act = λ s t a clean safe timed kept k.
-              timed-called s (stateAfterAct b s t a) t clean (act-done b s t a clean k .clean) (k .in-time) safe timed kept
+              timed-called s (stateAfterAct b s t a) t clean (act-done b s t a clean k .clean)
+              (k .in-time) safe timed kept
               (act-called b G s t clean a k);
           exclusive = λ s i j clean safe li lj d hi hj.
               exclusive (safe .settled) (safe .ordered) (safe .lawful)

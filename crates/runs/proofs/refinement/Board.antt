@@ -55,7 +55,8 @@ module _ (p : Plan) (few : p .count ≤ maxEntries) where
   write-on-board e =
       bit-mask maxEntries (λ i. ltb i (p .count) && isWrite (entryAt p i)) e
       ∙ below-or-past e (p .count)
-      (λ l. ap₂ (λ t u. t && (u && isWrite (entryAt p e))) (lt-ltb e maxEntries (le-trans l few)) (lt-ltb e (p .count) l))
+      (λ l. ap₂ (λ t u. t && (u && isWrite (entryAt p e))) (lt-ltb e maxEntries (le-trans l few))
+      (lt-ltb e (p .count) l))
       (λ l.
       ap (λ u. ltb e maxEntries && (u && isWrite (entryAt p e))) (le-ltb e (p .count) l)
       ∙ and-false (ltb e maxEntries)
@@ -125,12 +126,14 @@ module _ (p : Plan) (taken : planFault p ≡ 0) (s : State) where
       unfolding boardOf
       length-at-most i write l g a w =
           subst (λ u. lengthOn b (entryFor s i) ≤ cond u Lw Lr) (sym (plan-write i) ∙ w)
-          (subst (λ (n : ℕ). n ≤ cond (isWrite (entryAt p (entryFor s i))) Lw Lr) (sym (length-on-board p few (entryFor s i)))
+          (subst (λ (n : ℕ). n ≤ cond (isWrite (entryAt p (entryFor s i))) Lw Lr)
+          (sym (length-on-board p few (entryFor s i)))
           (bounded (entryFor s i) (c .in-plan i l a .1) g))
 
       -- Holders that keep to their lengths up to tick t, in columns.
       pub prompt : (t : ℕ) → Kept (boardOf p) G s t
-          → Prompt maxProcessors t Lr Lw (requestsOf (factsOf (boardOf p) s) G) (phaseIn s) (sinceIn s) (λ i. lengthOn (boardOf p) (entryFor s i))
+          → Prompt maxProcessors t Lr Lw (requestsOf (factsOf (boardOf p) s) G) (phaseIn s) (sinceIn s)
+          (λ i. lengthOn (boardOf p) (entryFor s i))
       prompt t kept =
           record {
             kept = λ i l g k. kept i l k g;

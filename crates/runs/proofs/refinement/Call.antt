@@ -15,15 +15,18 @@ use Rattle.runs.proofs.columns.Columns.{idle, Start, puts-in, takes-out
 use Rattle.runs.proofs.columns.Phases.{clash, idle-stays}
 use Rattle.runs.proofs.columns.Moves.{write-kept1}
 use Rattle.runs.proofs.refinement.State.{requestsOf, phaseOf, Tidy}
-use Rattle.runs.proofs.refinement.Steps.{first-step, first-leaves, second-step, third-step, fourth-step, step1-tidy, step2-tidy, step3-tidy}
+use Rattle.runs.proofs.refinement.Steps.{first-step, first-leaves, second-step, third-step, fourth-step}
+use Rattle.runs.proofs.refinement.Steps.{step1-tidy, step2-tidy, step3-tidy}
 use Rattle.runs.proofs.refinement.First.{stopped-after}
 use Rattle.runs.proofs.refinement.Clean.{phaseIn, sinceIn, Clean}
 use Rattle.runs.proofs.refinement.Starts.{put-in, taken-out}
-use Rattle.runs.proofs.refinement.Acts.{callerOf, startOf, stateAfterAct, Allowed, Same, Own, Begun, start-tidy, Marked, begins, keeps, Settles, act-done}
+use Rattle.runs.proofs.refinement.Acts.{callerOf, startOf, stateAfterAct, Allowed, Same, Own, Begun, start-tidy}
+use Rattle.runs.proofs.refinement.Acts.{Marked, begins, keeps, Settles, act-done}
 
 -- ---- the ticks
 
-own-stamp : (s x s′ : State) (g t : ℕ) (a : Act) → x .last ≡ t → Own s x t a → callerOf a < maxProcessors → Settles x s′ g
+own-stamp : (s x s′ : State) (g t : ℕ) (a : Act) → x .last ≡ t → Own s x t a → callerOf a < maxProcessors
+    → Settles x s′ g
     → Stamp t (phaseIn s (callerOf a)) (phaseIn s′ (callerOf a)) (sinceIn s (callerOf a)) (sinceIn s′ (callerOf a))
 own-stamp s x s′ g t (puts p e) now o l h = arrives (o .was-idle) (go (h .marked p l))
   where
@@ -61,15 +64,18 @@ stamps s x s′ g t a k h i l =
 -- A call at t in the columns, from s to s′.
 abbrev pub CallOf : Board → (ℕ → Bool) → State → ℕ → State → Type 0
 CallOf b G s t s′ =
-    Called maxProcessors t (requestsOf (factsOf b s) G) (requestsOf (factsOf b s′) G) (phaseIn s) (phaseIn s′) (sinceIn s)
+    Called maxProcessors t (requestsOf (factsOf b s) G) (requestsOf (factsOf b s′) G) (phaseIn s) (phaseIn s′)
+    (sinceIn s)
     (sinceIn s′)
 
 module _ (b : Board) (G : ℕ → Bool) (s : State) (t : ℕ) (c : Clean b s) where
   start : (a : Act) → Allowed b s t a
-      → Start maxProcessors (requestsOf (factsOf b s) G) (requestsOf (factsOf b (startOf s t a)) G) (phaseIn s) (phaseIn (startOf s t a))
+      → Start maxProcessors (requestsOf (factsOf b s) G) (requestsOf (factsOf b (startOf s t a)) G) (phaseIn s)
+      (phaseIn (startOf s t a))
   start (puts p e) k =
       puts-in p
-      (put-in (b .rows) (b .terms .writes) (s .requested) (s .earlier) (s .phases) p e G (c .entry-length) (c .tidy) (k .below)
+      (put-in (b .rows) (b .terms .writes) (s .requested) (s .earlier) (s .phases) p e G (c .entry-length) (c .tidy)
+      (k .below)
       (k .may .was-idle))
   start (takes p) k = takes-out p (taken-out (s .phases) p (requestsOf (factsOf b s) G) (k .below) (k .may .was-active))
 
@@ -93,7 +99,8 @@ module _ (b : Board) (G : ℕ → Bool) (s : State) (t : ℕ) (c : Clean b s) wh
         start = start a k;
         first = first;
         left =
-            λ i l read w. stopped-after (λ j m v. write-kept1 (first j m) v) (first-leaves f G (x .phases) zero i l read w);
+            λ i l read w. stopped-after (λ j m v. write-kept1 (first j m) v)
+            (first-leaves f G (x .phases) zero i l read w);
         second = second-step f G y₁ one;
         third = third-step f G (step2 f y₁) two;
         fourth = fourth-step f G (step3 f (step2 f y₁)) three;

@@ -55,11 +55,14 @@ unfolding cleaned isHolding isEntitled isWaiting
 clean-phases b s c =
     λ i. record {
       waiting =
-          sym (is-mask maxProcessors (s .phases .waiting) _ (c .tidy .waiting-below) (λ q l. ap (λ b. b .0) (same q l))) i;
+          sym (is-mask maxProcessors (s .phases .waiting) _ (c .tidy .waiting-below) (λ q l. ap (λ b. b .0) (same q l)))
+          i;
       entitled =
-          sym (is-mask maxProcessors (s .phases .entitled) _ (c .tidy .entitled-below) (λ q l. ap (λ b. b .1) (same q l))) i;
+          sym (is-mask maxProcessors (s .phases .entitled) _ (c .tidy .entitled-below)
+          (λ q l. ap (λ b. b .1) (same q l))) i;
       holding =
-          sym (is-mask maxProcessors (s .phases .holding) _ (c .tidy .holding-below) (λ q l. ap (λ b. b .2) (same q l))) i;
+          sym (is-mask maxProcessors (s .phases .holding) _ (c .tidy .holding-below) (λ q l. ap (λ b. b .2) (same q l)))
+          i;
     }
   where
     counts : (q : ℕ) → q < maxProcessors → (phaseIn s q ≡ idle → ⊥) → inPlan (b .terms) (s .requested) q ≡ true
@@ -68,7 +71,8 @@ clean-phases b s c =
         ap₂ _&&_ (ap₂ _&&_ (lt-ltb q maxProcessors l) (lt-ltb q (b .terms .processors) (p .0)))
         (lt-ltb (entryFor s q) (b .terms .count) (p .1))
 
-    same : (q : ℕ) → q < maxProcessors → bitsAt (s .phases) q ≡ counted (inPlan (b .terms) (s .requested) q) (bitsAt (s .phases) q)
+    same : (q : ℕ) → q < maxProcessors → bitsAt (s .phases) q
+        ≡ counted (inPlan (b .terms) (s .requested) q) (bitsAt (s .phases) q)
     same q l =
         let is = c .tidy .bits q l in
         is ∙ all-counted (phaseIn s q) _ (counts q l) ∙ ap (counted (inPlan (b .terms) (s .requested) q)) (sym is)

@@ -16,7 +16,8 @@ use Rattle.rules.specs.Requests.{Facts, factsBy, isEarlier, active}
 use Rattle.rules.specs.Acts.{putIn, putLast, takenOut}
 use Rattle.runs.proofs.history.Cases.{by-processor, getD-set}
 use Rattle.runs.proofs.columns.Columns.{idle, waiting, Requests, PutIn, TakenOut}
-use Rattle.runs.proofs.refinement.State.{requestsOf, phaseOf, three, bitsOf, Tidy, idle-inactive, not-idle-active, bits-in, Becomes, moved, kept}
+use Rattle.runs.proofs.refinement.State.{requestsOf, phaseOf, three, bitsOf, Tidy, idle-inactive}
+use Rattle.runs.proofs.refinement.State.{not-idle-active, bits-in, Becomes, moved, kept}
 
 -- ---- added
 
@@ -51,7 +52,8 @@ module _ (earlier : List ℕ) (ph : Phases) (p j q : ℕ) (lj : j < maxProcessor
   unfolding putLast
   put-earlier =
       getD-tabulate maxProcessors
-      (λ q. cond (eqb q p) (maskOf maxProcessors (active ph)) (maskOf maxProcessors (λ r. bit (getD earlier q 0) r && not (eqb r p)))) q 0 lq
+      (λ q. cond (eqb q p) (maskOf maxProcessors (active ph))
+      (maskOf maxProcessors (λ r. bit (getD earlier q 0) r && not (eqb r p)))) q 0 lq
 
   put-earlier-new : q ≡ p → bit (getD (putLast earlier ph p) q 0) j ≡ active ph j
   put-earlier-new same =

@@ -11,12 +11,16 @@ use Rattle.masks.proofs.Some.{some-found, some-none-at}
 use Rattle.masks.proofs.Truth.{and-left, and-right, and-both, or-cases, or-left, or-right}
 use Rattle.plans.specs.Entries.{maxProcessors}
 use Rattle.rules.specs.declared.states.Phases.{Phases}
-use Rattle.rules.specs.Requests.{Facts, isEarlier, isWriter, conflicts, against, unsatisfied, unsatisfiedWrite, holdingRead, holdingWrite, entitledRead, entitledWrite, waitingRead, waitingWrite}
+use Rattle.rules.specs.Requests.{Facts, isEarlier, isWriter, conflicts, against, unsatisfied, unsatisfiedWrite}
+use Rattle.rules.specs.Requests.{holdingRead, holdingWrite, entitledRead, entitledWrite, waitingRead, waitingWrite}
 use Rattle.rules.specs.Settling.{hold, entitle, test1, test2, test3, test4, step1, step2, step3, step4}
-use Rattle.runs.proofs.columns.Columns.{Phase, waiting, entitled, holding, Requests, Exists, None, In, EarlierUnsatisfied, Step1, Step2, Step3, Step4}
+use Rattle.runs.proofs.columns.Columns.{Phase, waiting, entitled, holding, Requests, Exists, None, In}
+use Rattle.runs.proofs.columns.Columns.{EarlierUnsatisfied, Step1, Step2, Step3, Step4}
 use Rattle.runs.proofs.columns.Phases.{clash, true-not-false}
 use Rattle.runs.proofs.refinement.First.{Stopped}
-use Rattle.runs.proofs.refinement.State.{requestsOf, phaseOf, three, bitsOf, Tidy, bits-in, Becomes, moved, kept, becomes-tidy, Marks, marks-holding, marks-entitled, marks-waiting, entitled-phase, waiting-phase, unsatisfied-phase, unsatisfied-bit}
+use Rattle.runs.proofs.refinement.State.{requestsOf, phaseOf, three, bitsOf, Tidy, bits-in, Becomes, moved, kept}
+use Rattle.runs.proofs.refinement.State.{becomes-tidy, Marks, marks-holding, marks-entitled, marks-waiting}
+use Rattle.runs.proofs.refinement.State.{entitled-phase, waiting-phase, unsatisfied-phase, unsatisfied-bit}
 
 -- ---- searches among the requests that conflict with p's
 
@@ -43,7 +47,12 @@ module _ (f : Facts) (G : ℕ → Bool) (ph : Phases) (p : ℕ) where
   says-write mask phase marks =
       record {
         into = λ q l t x.
-            record { phase-is = marks .into q l (and-left (bit mask q) _ t); write-is = and-right (bit mask q) _ t; conflict = x };
+            record {
+              phase-is = marks .into q l (and-left (bit mask q) _ t);
+              write-is = and-right
+                  (bit mask q) _ t;
+              conflict = x;
+            };
         passes = λ q l x. and-both (bit mask q) (isWriter f q) (marks .from q l (x .phase-is)) (x .write-is);
         conflict = λ q l x. x .conflict;
       }
@@ -76,7 +85,8 @@ module _ (f : Facts) (G : ℕ → Bool) (ph : Phases) (p : ℕ) where
     pub says-entitled-read : Says f p (entitledRead f ph) (In (requestsOf f G) (phaseOf ph) entitled false p)
     says-entitled-read = says-read (ph .entitled) entitled (marks-entitled ph c)
 
-    pub says-earlier : Says f p (λ q. isEarlier f q p && unsatisfiedWrite f ph q) (EarlierUnsatisfied (requestsOf f G) (phaseOf ph) p)
+    pub says-earlier : Says f p (λ q. isEarlier f q p && unsatisfiedWrite f ph q)
+        (EarlierUnsatisfied (requestsOf f G) (phaseOf ph) p)
     says-earlier =
         record {
           into = λ q l t x.
@@ -115,7 +125,8 @@ module _ (ph : Phases) (test : ℕ → Bool) (c : Tidy ph) where
         entitled-below = mask-below maxProcessors e;
         holding-below = mask-below maxProcessors h;
         bits = λ q l.
-            ap₂ (λ u v. three u v (bit (maskOf maxProcessors h) q)) (bit-mask-at maxProcessors w q l) (bit-mask-at maxProcessors e q l)
+            ap₂ (λ u v. three u v (bit (maskOf maxProcessors h) q)) (bit-mask-at maxProcessors w q l)
+            (bit-mask-at maxProcessors e q l)
             ∙ ap (three (w q) (e q)) (bit-mask-at maxProcessors h q l)
             ∙ hold-bits _ _ _ (test q);
       }
@@ -130,7 +141,8 @@ module _ (ph : Phases) (test : ℕ → Bool) (c : Tidy ph) where
         entitled-below = mask-below maxProcessors e;
         holding-below = c .holding-below;
         bits = λ q l.
-            ap₂ (λ u v. three u v (bit (ph .holding) q)) (bit-mask-at maxProcessors w q l) (bit-mask-at maxProcessors e q l)
+            ap₂ (λ u v. three u v (bit (ph .holding) q)) (bit-mask-at maxProcessors w q l)
+            (bit-mask-at maxProcessors e q l)
             ∙ entitle-bits _ _ _ (test q) (λ t. bits-in ph q c l waiting (from q l t));
       }
 
@@ -198,18 +210,21 @@ module _ (f : Facts) (G : ℕ → Bool) (ph : Phases) (c : Tidy ph) (i : ℕ) (l
       grants e (inl r) =
           Step1.grants (not-true _ (and-right (bit (ph .entitled) i) _ r))
           (entitled-phase ph i c l (and-left (bit (ph .entitled) i) _ r))
-          (not-found (says-holding-write f G ph i c) (not-true _ (and-right (entitledRead f ph i || waitingRead f ph i && not next) _ e)))
+          (not-found (says-holding-write f G ph i c)
+          (not-true _ (and-right (entitledRead f ph i || waitingRead f ph i && not next) _ e)))
           (moved (step1-moves f ph c) i l e)
       grants e (inr r) =
           let w = and-left (waitingRead f ph i) _ r in
           Step1.grants-waiting (not-true _ (and-right (bit (ph .waiting) i) _ w))
           (waiting-phase ph i c l (and-left (bit (ph .waiting) i) _ w))
-          (not-found (says-holding-write f G ph i c) (not-true _ (and-right (entitledRead f ph i || waitingRead f ph i && not next) _ e)))
+          (not-found (says-holding-write f G ph i c)
+          (not-true _ (and-right (entitledRead f ph i || waitingRead f ph i && not next) _ e)))
           (not-found (says-entitled-write f G ph i c) (not-true _ (and-right (waitingRead f ph i) _ r)))
           (moved (step1-moves f ph c) i l e)
 
       go : (t : Bool) → test1 f ph i ≡ t → Step1 maxProcessors R (phaseOf ph) (phaseOf (step1 f ph)) i
-      go true e = grants e (or-cases (entitledRead f ph i) _ (and-left (entitledRead f ph i || waitingRead f ph i && not next) _ e))
+      go true e = grants e (or-cases (entitledRead f ph i) _
+          (and-left (entitledRead f ph i || waitingRead f ph i && not next) _ e))
       go false e =
           Step1.stays
           (λ k w.
@@ -227,7 +242,8 @@ module _ (f : Facts) (G : ℕ → Bool) (ph : Phases) (c : Tidy ph) (i : ℕ) (l
       next : Bool
       next = against f i (entitledWrite f ph)
 
-      reason : waitingRead f ph i ≡ true → test1 f ph i ≡ false → (t : Bool) → next ≡ t → Stopped maxProcessors R (phaseOf ph) i
+      reason : waitingRead f ph i ≡ true → test1 f ph i ≡ false → (t : Bool) → next ≡ t
+          → Stopped maxProcessors R (phaseOf ph) i
       reason r e true k = inr (found (says-entitled-write f G ph i c) k)
       reason r e false k =
           inl
@@ -257,7 +273,8 @@ module _ (f : Facts) (G : ℕ → Bool) (ph : Phases) (c : Tidy ph) (i : ℕ) (l
 
       reason : (not earlier && (not held && not read)) ≡ false
           → Exists maxProcessors (EarlierUnsatisfied R (phaseOf ph) i)
-          ⊎ (Exists maxProcessors (In R (phaseOf ph) holding true i) ⊎ Exists maxProcessors (In R (phaseOf ph) entitled false i))
+          ⊎ (Exists maxProcessors (In R (phaseOf ph) holding true i)
+          ⊎ Exists maxProcessors (In R (phaseOf ph) entitled false i))
       reason e =
           ⊎-elim (λ h. inl (found (says-earlier f G ph i c) (not-false _ h)))
           (λ h.
@@ -278,7 +295,8 @@ module _ (f : Facts) (G : ℕ → Bool) (ph : Phases) (c : Tidy ph) (i : ℕ) (l
           (not-found (says-entitled-read f G ph i c) (not-true _ (and-right (not held) _ rest)))
           (moved (step2-moves f ph c) i l e)
       go false e =
-          Step2.stays (λ k w. reason (second-fails (waitingWrite f ph i) _ e (and-both _ _ (marks-waiting ph c .from i l k) w)))
+          Step2.stays (λ k w. reason (second-fails (waitingWrite f ph i) _ e
+          (and-both _ _ (marks-waiting ph c .from i l k) w)))
           (kept (step2-moves f ph c) i l e)
 
   pub third-step : Step3 maxProcessors R (phaseOf ph) (phaseOf (step3 f ph)) i
@@ -310,7 +328,8 @@ module _ (f : Facts) (G : ℕ → Bool) (ph : Phases) (c : Tidy ph) (i : ℕ) (l
       next = against f i (entitledWrite f ph)
 
       reason : (held ≡ false) ⊎ (not next ≡ false)
-          → None maxProcessors (In R (phaseOf ph) holding true i) ⊎ Exists maxProcessors (In R (phaseOf ph) entitled true i)
+          → None maxProcessors (In R (phaseOf ph) holding true i)
+          ⊎ Exists maxProcessors (In R (phaseOf ph) entitled true i)
       reason (inl h) = inl (not-found (says-holding-write f G ph i c) h)
       reason (inr h) = inr (found (says-entitled-write f G ph i c) (not-false _ h))
 

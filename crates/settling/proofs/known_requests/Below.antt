@@ -1,4 +1,5 @@
--- Those among the processors whose entries are below a count, where a walk begins and where all are. Assumes nothing.
+-- The processors whose entries are below a count: at the start of a walk, and if all entries are below. Assumes
+-- nothing.
 use mathlib.Core.Path.{_≡_, sym, ap, _∙_}
 use mathlib.Core.Bool.{Bool, _&&_, _||_}
 use Prim.Native.Nat.{ℕ, _-_, _^_, _<_, _≤_}
@@ -18,21 +19,24 @@ use Rattle.plans.specs.Entries.{maxProcessors}
 pub fit : maxProcessors ≤ 32
 fit = omega arith
 
--- The walk through those of a mask that there are places for.
+-- The walk through the places of a mask, cut to the processors.
 pub kept-cut : (P : ℕ → Bool) (among : ℕ) → Kept maxProcessors 32 P among (bitAnd among (2 ^ maxProcessors - 1)) 0
 kept-cut P among =
     record {
       walk = left-first fit among;
       width = pow-pos maxProcessors;
       places = λ k l.
-          ap (λ t. t || bit (bitAnd among (2 ^ maxProcessors - 1)) k && P k) (bit-zero k) ∙ ap (λ t. t && P k) (bit-first maxProcessors among k l);
+          ap (λ t. t || bit (bitAnd among (2 ^ maxProcessors - 1)) k && P k) (bit-zero k)
+          ∙ ap (λ t. t && P k) (bit-first maxProcessors among k l);
     }
 
--- Where the largest entry is below the count, all are.
+-- If the largest entry is below the count, all are.
 module _ (f : ℕ → ℕ) (most count : ℕ) (bound : (k : ℕ) → k < maxProcessors → f k ≤ most) (below : most < count) where
-  pub among-below : (among : ℕ) → bitAnd among (2 ^ maxProcessors - 1) ≡ maskOf maxProcessors (λ k. bit among k && ltb (f k) count)
+  pub among-below : (among : ℕ) → bitAnd among (2 ^ maxProcessors - 1)
+      ≡ maskOf maxProcessors (λ k. bit among k && ltb (f k) count)
   among-below among =
-      agree-is (λ k l. ap (λ t. bit among k && t) (sym (lt-ltb (f k) count (omega (arith, bound k l))))) (any-and among (all-is maxProcessors)) .is
+      agree-is (λ k l. ap (λ t. bit among k && t) (sym (lt-ltb (f k) count (omega (arith, bound k l)))))
+      (any-and among (all-is maxProcessors)) .is
 
   pub everyone-below : 2 ^ maxProcessors - 1 ≡ maskOf maxProcessors (λ k. ltb (f k) count)
   everyone-below = agree-is (λ k l. sym (lt-ltb (f k) count (omega (arith, bound k l)))) (all-is maxProcessors) .is

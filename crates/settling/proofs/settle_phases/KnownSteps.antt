@@ -1,4 +1,4 @@
--- The four steps by the masks that the code goes by: of the reads, the known ones. Assumes nothing.
+-- The four steps with the masks that the code uses: only the known reads. Assumes nothing.
 use mathlib.Core.Path.{_≡_, refl, ap, _∙_}
 use mathlib.Core.Bool.{false, _&&_, and-false}
 use Prim.Native.Nat.{ℕ, _^_, _<_}
@@ -12,14 +12,17 @@ use Rattle.rules.specs.Settling.{step1, step2, step3, step4}
 use Rattle.rules.specs.inner.Moves.{Table, Known, knownIn, unopposedIn, firstInLine, Follows}
 use Rattle.rules.specs.declared.states.Phases.{Phases}
 use Rattle.rules.proofs.FourSteps.{activeWrite, At, at-first, after1, after2, after3, after4}
-use Rattle.rules.proofs.Known.{unknown-read, known-writers, known1, known2, known3, known4, known-all, known-kept, and-known}
+use Rattle.rules.proofs.Known.{unknown-read, known-writers, known1, known2, known3, known4, known-all, known-kept}
+use Rattle.rules.proofs.Known.{and-known}
 
 -- The writes among the known processors of a mask.
-pub known-writes : (f : Facts) {k w : ℕ} (a : ℕ) → k ≡ knownIn (f .requested) → w ≡ maskOf maxProcessors (λ p. bit (bitAnd a k) p && isWriter f p)
+pub known-writes : (f : Facts) {k w : ℕ} (a : ℕ) → k ≡ knownIn (f .requested) → w
+    ≡ maskOf maxProcessors (λ p. bit (bitAnd a k) p && isWriter f p)
     → Known (f .requested) w
 known-writes f a all are = known-kept _ (and-known a (known-all all)) are
 
-module _ (f : Facts) (small : f .writes < 2 ^ maxEntries) (table : Table (f .rows)) {k : ℕ} (all : k ≡ knownIn (f .requested)) where
+module _ (f : Facts) (small : f .writes < 2 ^ maxEntries) (table : Table (f .rows)) {k : ℕ}
+    (all : k ≡ knownIn (f .requested)) where
   pub at-known : {ph : Phases} {w x e h : ℕ} → Follows ph x e h
       → w ≡ maskOf maxProcessors (λ p. bit (bitAnd (bitOr (bitOr x e) h) k) p && isWriter f p) → At f ph w x e h
   at-known {x = x} {e} {h} given are = at-first given (are ∙ known-writers f small (bitOr (bitOr x e) h) all)
@@ -32,7 +35,8 @@ module _ (f : Facts) (small : f .writes < 2 ^ maxEntries) (table : Table (f .row
         → g ≡ unopposedIn f (bitOr (bitAnd e (without 32 k w)) o) (bitAnd h w)
         → At f (step1 f ph) w (without 32 x (bitOr (without 32 (bitOr x e) k) g))
         (without 32 e (bitOr (without 32 (bitOr x e) k) g)) (bitOr h (bitOr (without 32 (bitOr x e) k) g))
-    known-after1 ahead free = after1 at refl (known1 f table all (at .writes) none _ _ (at .waits) (at .entitles) ahead free)
+    known-after1 ahead free = after1 at refl
+        (known1 f table all (at .writes) none _ _ (at .waits) (at .entitles) ahead free)
 
     pub known-after2 : {o g : ℕ} → o ≡ unopposedIn f (bitAnd x w) (bitOr (bitAnd h w) (bitAnd e (without 32 k w)))
         → g ≡ firstInLine f o (bitAnd (bitOr x e) w) → At f (step2 f ph) w (without 32 x g) (bitOr e g) h

@@ -18,23 +18,25 @@ use Rattle.plans.specs.Entries.{maxProcessors}
 use Rattle.masks.specs.Tabulation.{tabulate}
 use Rattle.masks.proofs.Tabulate.{length-tabulate, getD-tabulate}
 use Rattle.rules.specs.declared.states.Phases.{Phases}
-use Rattle.rules.specs.Requests.{Facts, active, isEarlier, isWriter, conflicts, holdingRead, holdingWrite, entitledWrite}
+use Rattle.rules.specs.Requests.{Facts, active, isEarlier, isWriter, conflicts, holdingRead, holdingWrite}
+use Rattle.rules.specs.Requests.{entitledWrite}
 use Rattle.waits.specs.Waits.{waitsIn}
 
--- Who neither waits nor is entitled waits for nobody.
-neither-waits : (x e W a b c d : Bool) → (x || e) ≡ false → (e && not W && a || (x && not W && b || (e && W && c || x && W && d))) ≡ false
+-- A processor whose request neither waits nor is entitled waits for nobody.
+neither-waits : (x e W a b c d : Bool) → (x || e) ≡ false
+    → (e && not W && a || (x && not W && b || (e && W && c || x && W && d))) ≡ false
 neither-waits true e W a b c d h = absurd (true≢false h)
 neither-waits false true W a b c d h = absurd (true≢false h)
 neither-waits false false W a b c d h = refl
 
--- The masks of the start are all empty.
+-- At the start all masks are empty.
 getD-zeros : (n p : ℕ) → _≡_ {A = ℕ} (getD (replicate n 0) p 0) 0
 getD-zeros zero p = refl
 getD-zeros (suc n) zero = refl
 getD-zeros (suc n) (suc p) = getD-zeros n p
 
 module _ (f : Facts) (ph : Phases) where
-  -- All masks are filled in but those of what is left of the processors.
+  -- All masks are filled in except those of the processors that are left.
   pub record Filled (left : ℕ) (out : List ℕ) : Type 0 where
     pub walk : Left maxProcessors 32 left
     pub full : length out ≡ maxProcessors
@@ -46,10 +48,12 @@ module _ (f : Facts) (ph : Phases) where
       sym (mask-none maxProcessors)
       ∙ mask-agree maxProcessors _ _
       (λ q l. sym (neither-waits (bit (ph .waiting) k) (bit (ph .entitled) k) (isWriter f k)
-      (holdingWrite f ph q && conflicts f k q) (entitledWrite f ph q && conflicts f k q) (holdingRead f ph q && conflicts f k q)
+      (holdingWrite f ph q && conflicts f k q) (entitledWrite f ph q && conflicts f k q)
+      (holdingRead f ph q && conflicts f k q)
       (isEarlier f q k && (active ph q && isWriter f q) && conflicts f k q) e))
 
-  pub filled-first : Left maxProcessors 32 (bitOr (ph .waiting) (ph .entitled)) → length {A = ℕ} (replicate maxProcessors 0) ≡ maxProcessors
+  pub filled-first : Left maxProcessors 32 (bitOr (ph .waiting) (ph .entitled))
+      → length {A = ℕ} (replicate maxProcessors 0) ≡ maxProcessors
       → Filled (bitOr (ph .waiting) (ph .entitled)) (replicate maxProcessors 0)
   filled-first walk full =
       record {
@@ -79,8 +83,10 @@ module _ (f : Facts) (ph : Phases) where
               ∙ at-place k l (eqb k low) refl (sym (bit-left (h .walk) some-left k) ∙ none);
         }
 
-  pub filled-last : {left : ℕ} {out : List ℕ} → left ≡ 0 → Filled left out → out ≡ tabulate maxProcessors (λ p. maskOf maxProcessors (waitsIn f ph p))
+  pub filled-last : {left : ℕ} {out : List ℕ} → left ≡ 0 → Filled left out → out
+      ≡ tabulate maxProcessors (λ p. maskOf maxProcessors (waitsIn f ph p))
   filled-last {left} {out} e h =
       ext-getD 0 out _ (h .full ∙ sym (length-tabulate maxProcessors _))
       (λ k l. let here : k < maxProcessors = omega (arith, h .full) in
-      h .masks k here (bit-none left k e) ∙ sym (getD-tabulate maxProcessors (λ p. maskOf maxProcessors (waitsIn f ph p)) k 0 here))
+      h .masks k here (bit-none left k e) ∙ sym
+      (getD-tabulate maxProcessors (λ p. maskOf maxProcessors (waitsIn f ph p)) k 0 here))

@@ -18,7 +18,8 @@ use Rattle.waits.specs.inner.Writers.{writersIn}
 pub bit-active : (ph : Phases) (q : ℕ) → bit (bitOr (bitOr (ph .waiting) (ph .entitled)) (ph .holding)) q ≡ active ph q
 bit-active ph q = bit-or _ (ph .holding) q ∙ ap (λ t. t || bit (ph .holding) q) (bit-or (ph .waiting) (ph .entitled) q)
 
-joined-place : (before set after k : ℕ) (t u v : Bool) → after ≡ cond t (bitOr before set) before → bit before k ≡ u → bit set k ≡ v
+joined-place : (before set after k : ℕ) (t u v : Bool) → after ≡ cond t (bitOr before set) before → bit before k ≡ u
+    → bit set k ≡ v
     → bit after k ≡ (u || (t && v))
 joined-place before set after k t u v e f g =
     ap (λ (x : ℕ). bit x k) e ∙ bit-or-if before set k t ∙ ap₂ (λ x y. x || (t && y)) f g
@@ -27,16 +28,18 @@ left-to-right : (a b c d : Bool) → (a || b || c || d) ≡ (a || (b || (c || d)
 left-to-right a b c d = or-assoc (a || b) c d ∙ or-assoc a b (c || d)
 
 each-way : (a x b y c z d u k : Bool)
-    → ((a && x || (b && y || (c && z || d && u))) && k) ≡ (a && (x && k) || (b && (y && k) || (c && (z && k) || d && (u && k))))
+    → ((a && x || (b && y || (c && z || d && u))) && k)
+    ≡ (a && (x && k) || (b && (y && k) || (c && (z && k) || d && (u && k))))
 each-way a x b y c z d u true = simp and-true
 each-way a x b y c z d u false = simp and-false
 
--- Of the writers just the active ones are looked for. Each is asked for beside its phase, so that it is the same.
+-- The code searches only the active writers. Every test of a writer also tests a phase, so the result is the same.
 active-sides : (ep wp ap eq hq aq Wp Wq before k : Bool) → (ep ≡ true → ap ≡ true) → (wp ≡ true → ap ≡ true)
     → (eq ≡ true → aq ≡ true) → (hq ≡ true → aq ≡ true)
     → (ep && not (ap && Wp) && (hq && (aq && Wq) && k) || (wp && not (ap && Wp) && (eq && (aq && Wq) && k)
     || (ep && (ap && Wp) && (hq && not (aq && Wq) && k) || wp && (ap && Wp) && (before && (aq && Wq) && k))))
-    ≡ (ep && not Wp && (hq && Wq && k) || (wp && not Wp && (eq && Wq && k) || (ep && Wp && (hq && not Wq && k) || wp && Wp && (before && (aq && Wq) && k))))
+    ≡ (ep && not Wp && (hq && Wq && k) || (wp && not Wp && (eq && Wq && k)
+    || (ep && Wp && (hq && not Wq && k) || wp && Wp && (before && (aq && Wq) && k))))
 active-sides ep wp ap eq hq aq Wp Wq before k e w f h =
     rw (
       within-not ep ap Wp e,
@@ -62,7 +65,8 @@ module _ (f : Facts) (ph : Phases) (writers p : ℕ) (are : writers ≡ writersI
     bit-others : (q : ℕ) → bit others q
         ≡ (entitled && not write && (bit (ph .holding) q && bit writers q)
         || (waiting && not write && (bit (ph .entitled) q && bit writers q)
-        || (entitled && write && (bit (ph .holding) q && not (bit writers q)) || waiting && write && (isEarlier f q p && bit writers q))))
+        || (entitled && write && (bit (ph .holding) q && not (bit writers q)) || waiting && write
+        && (isEarlier f q p && bit writers q))))
     bit-others q =
         joined-place third _ others q (waiting && write) _ _ e4
         (joined-place second _ third q (entitled && write) _ _ e3
@@ -81,15 +85,21 @@ module _ (f : Facts) (ph : Phases) (writers p : ℕ) (are : writers ≡ writersI
     unfolding waitsIn
     waits-place q l =
         ap (λ t. t && conflicts f p q) (bit-others q)
-        ∙ each-way (entitled && not write) (bit (ph .holding) q && bit writers q) (waiting && not write) (bit (ph .entitled) q && bit writers q)
-        (entitled && write) (bit (ph .holding) q && not (bit writers q)) (waiting && write) (isEarlier f q p && bit writers q) (conflicts f p q)
+        ∙ each-way (entitled && not write) (bit (ph .holding) q && bit writers q) (waiting && not write)
+        (bit (ph .entitled) q && bit writers q)
+        (entitled && write) (bit (ph .holding) q && not (bit writers q)) (waiting && write)
+        (isEarlier f q p && bit writers q) (conflicts f p q)
         ∙ rw (ew, ee, er, is-writer p below, is-writer q l)
-        (active-sides (bit (ph .entitled) p) (bit (ph .waiting) p) (active ph p) (bit (ph .entitled) q) (bit (ph .holding) q) (active ph q)
-        (isWriter f p) (isWriter f q) (isEarlier f q p) (conflicts f p q) (entitled-active ph p) (waiting-active ph p) (entitled-active ph q)
+        (active-sides (bit (ph .entitled) p) (bit (ph .waiting) p) (active ph p) (bit (ph .entitled) q)
+        (bit (ph .holding) q) (active ph q)
+        (isWriter f p) (isWriter f q) (isEarlier f q p) (conflicts f p q) (entitled-active ph p) (waiting-active ph p)
+        (entitled-active ph q)
         (holding-active ph q))
 
-    pub waits-mask : (row r : ℕ) → row ≡ getD (f .rows) (entryOf f p) 0 → r ≡ maskOf maxProcessors (λ q. bit others q && bit row (entryOf f q))
+    pub waits-mask : (row r : ℕ) → row ≡ getD (f .rows) (entryOf f p) 0 → r
+        ≡ maskOf maxProcessors (λ q. bit others q && bit row (entryOf f q))
         → r ≡ maskOf maxProcessors (waitsIn f ph p)
     waits-mask row r conflicting e =
         e
-        ∙ mask-agree maxProcessors _ _ (λ q l. ap (λ (x : ℕ). bit others q && bit x (entryOf f q)) conflicting ∙ waits-place q l)
+        ∙ mask-agree maxProcessors _ _ (λ q l. ap (λ (x : ℕ). bit others q && bit x (entryOf f q)) conflicting
+        ∙ waits-place q l)

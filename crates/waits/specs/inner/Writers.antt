@@ -1,4 +1,4 @@
--- Who writes, as the private functions go by it.
+-- The writers, as the private functions use them.
 use Prim.Native.Nat.{ℕ}
 use mathlib.Core.Bool.{_&&_}
 use Rattle.masks.specs.Sets.{maskOf}

@@ -6,11 +6,13 @@ use Rattle.bench_library.proofs.turns.sum_from.Statement.{statement}
 use Rattle.bench_library.proofs.turns.sum_from.Tie as tie
 
 abbrev Inv-loop : tie.InvT-loop
-Inv-loop processors turns terms rows lengths entries₀ since₀ earlier₀ moment₀ seed₀ sum₀ tick₀ entries since earlier moment seed sum tick =
+Inv-loop processors turns terms rows lengths entries₀ since₀ earlier₀ moment₀ seed₀ sum₀ tick₀ entries since earlier
+    moment seed sum tick =
     tick ≤ turns
 
 abbrev μ-loop : tie.MeasureT-loop
-μ-loop processors turns terms rows lengths entries₀ since₀ earlier₀ moment₀ seed₀ sum₀ tick₀ entries since earlier moment seed sum tick =
+μ-loop processors turns terms rows lengths entries₀ since₀ earlier₀ moment₀ seed₀ sum₀ tick₀ entries since earlier
+    moment seed sum tick =
     turns - tick
 
 place-requires : tie.Need-place-requires Inv-loop μ-loop

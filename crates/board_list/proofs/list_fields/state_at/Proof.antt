@@ -13,7 +13,13 @@ returns c = rw (← c .before .has32 .ensures, c .if1 .taken)
 
 returns-2 : tie.Need-returns-2
 unfolding stateIn
-returns-2 c = rw (← c .before .before .before .has32 .ensures, c .before .before .if1 .left, ← c .before .has322 .ensures, c .if2 .taken)
+returns-2 c = rw (
+  ← c .before .before .before .has32 .ensures,
+  c .before .before .if1 .left,
+  ←
+      c .before .has322 .ensures,
+  c .if2 .taken,
+)
 
 returns-3 : tie.Need-returns-3
 unfolding stateIn

@@ -20,7 +20,8 @@ returns-2 c =
     let start = c .before .before .before .before .before .before in
     let a = start .args in
     c .before .before .write-number .ensures .1
-    ∙ stored-where-fits (a .buffer .now) (a .at) (bytesOf (a .size) (a .mask)) (a .size) (length-bytesOf (a .size) (a .mask)) (start .pre)
+    ∙ stored-where-fits (a .buffer .now) (a .at) (bytesOf (a .size) (a .mask)) (a .size)
+    (length-bytesOf (a .size) (a .mask)) (start .pre)
 
 pub store-mask-spec : {M : Type 1} → statement M
 store-mask-spec =

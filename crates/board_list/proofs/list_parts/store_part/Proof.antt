@@ -59,7 +59,8 @@ returns c =
 returns-2 : tie.Need-returns-2
 returns-2 c =
     let a = c .before .before .before .args in
-    without-room (partSize (a .size)) (a .at) (a .buffer .now) (partBytes (a .size) (a .state) (a .entry) (a .waited) (a .waits))
+    without-room (partSize (a .size)) (a .at) (a .buffer .now)
+    (partBytes (a .size) (a .state) (a .entry) (a .waited) (a .waits))
     (sym (c .before .has-room .ensures .0) ∙ c .if1 .left) .1
 
 pub store-part-spec : {M : Type 1} → statement M

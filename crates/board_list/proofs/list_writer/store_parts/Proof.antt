@@ -43,7 +43,8 @@ loop-again c =
     (partIn (a .size) (a .phases) (a .last) (a .requested .now) (a .since .now) (a .waits .now))
     (λ p. length-part (a .size) _ _ _ _) 1 (a .count) (loop .i) (a .buffer .now) (loop .buffer) _ low
     (start .pre .2) (loop .inv .1) (loop .inv .2)
-    (rw (state .state-at .ensures, entry .entry-at .ensures, waited .waited-at .ensures) at (stored .store-part .ensures)) in
+    (rw (state .state-at .ensures, entry .entry-at .ensures, waited .waited-at .ensures) at
+    (stored .store-part .ensures)) in
     (omega arith, next .0, next .1)
 
 mul-store-part-2 : tie.Need-mul-store-part-2 Inv-loop μ-loop

@@ -1,5 +1,5 @@
--- `store_and_reply` meets its contract: it returns the reply in numbers, and stores the moment if the call was carried out.
--- Assumes nothing.
+-- `store_and_reply` meets its contract: it returns the reply in numbers, and stores the moment if the call was carried
+-- out. Assumes nothing.
 use mathlib.Core.Path.{refl}
 use borrow.Author.Needs.{needs}
 use Rattle.c_calls.proofs.c_replies.store_and_reply.Statement.{statement}
@@ -17,4 +17,5 @@ returns-2 c =
     (rw is (c .refused .ensures), rw is refl)
 
 pub store-and-reply-spec : {M : Type 1} → statement M
-store-and-reply-spec = tie.close (tie.spec (λ c. search needs) (λ c κs. search needs) (λ c κs. search needs) (λ c. search needs) (λ c κs. search needs) returns returns-2)
+store-and-reply-spec = tie.close (tie.spec (λ c. search needs) (λ c κs. search needs) (λ c κs. search needs)
+    (λ c. search needs) (λ c κs. search needs) returns returns-2)

@@ -11,7 +11,11 @@ returns c = rw (fails _ _ (c .before .is-in-time .ensures) (c .if1 .taken))
 returns-2 : tie.Need-returns-2
 returns-2 c =
     let timed = c .before .before in
-    rw (passes _ _ (timed .before .is-in-time .ensures) (timed .if1 .left), fails _ _ (c .before .is-counted .ensures) (c .if2 .taken))
+    rw (
+      passes _ _ (timed .before .is-in-time .ensures) (timed .if1 .left),
+      fails _ _ (c .before .is-counted .ensures)
+          (c .if2 .taken),
+    )
 
 returns-3 : tie.Need-returns-3
 returns-3 c =

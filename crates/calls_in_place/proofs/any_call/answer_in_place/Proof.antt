@@ -6,16 +6,20 @@ use Rattle.calls_in_place.proofs.any_call.answer_in_place.Statement.{st
 use Rattle.calls_in_place.proofs.any_call.answer_in_place.Tie as tie
 
 returns : tie.Need-returns
-returns c = c .issue-in-place .ensures ∙ ap (answered _ _) (sym (c .before .before .before .before .before .call .given .1))
+returns c = c .issue-in-place .ensures ∙ ap (answered _ _)
+    (sym (c .before .before .before .before .before .call .given .1))
 
 returns-2 : tie.Need-returns-2
-returns-2 c = c .complete-in-place .ensures ∙ ap (answered _ _) (sym (c .before .before .before .before .before .call2 .given .1))
+returns-2 c = c .complete-in-place .ensures
+    ∙ ap (answered _ _) (sym (c .before .before .before .before .before .call2 .given .1))
 
 returns-3 : tie.Need-returns-3
-returns-3 c = c .withdraw-in-place .ensures ∙ ap (answered _ _) (sym (c .before .before .before .before .before .call3 .given .1))
+returns-3 c = c .withdraw-in-place .ensures
+    ∙ ap (answered _ _) (sym (c .before .before .before .before .before .call3 .given .1))
 
 returns-4 : tie.Need-returns-4
-returns-4 c = c .handover-in-place .ensures ∙ ap (answered _ _) (sym (c .before .before .before .before .before .call4 .given .1))
+returns-4 c = c .handover-in-place .ensures
+    ∙ ap (answered _ _) (sym (c .before .before .before .before .before .call4 .given .1))
 
 pub answer-in-place-spec : {M : Type 1} → statement M
 answer-in-place-spec =

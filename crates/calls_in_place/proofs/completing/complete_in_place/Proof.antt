@@ -15,7 +15,8 @@ returns : tie.Need-returns
 returns c =
     let found = c .before .before .before .before in
     c .refused .ensures _ _ _
-    ∙ complete-refused _ _ _ (found .before .clean .ensures) _ _ _ (found .check-complete .ensures) _ (c .before .before .verdict .given .1)
+    ∙ complete-refused _ _ _ (found .before .clean .ensures) _ _ _ (found .check-complete .ensures) _
+    (c .before .before .verdict .given .1)
 
 returns-2 : tie.Need-returns-2
 returns-2 c =
@@ -24,7 +25,8 @@ returns-2 c =
     let told = marked .before .before .before .before .before in
     let found = told .before .before in
     c .accepted .ensures _ _ _
-    ∙ complete-done _ _ _ (found .before .clean .ensures) _ _ _ (found .check-complete .ensures) (told .enum-told .given .1) _ _ _
+    ∙ complete-done _ _ _ (found .before .clean .ensures) _ _ _ (found .check-complete .ensures)
+    (told .enum-told .given .1) _ _ _
     (marked .before .before .length-at .ensures) (marked .late-mark .ensures) (gone .leave .ensures)
 
 pub complete-in-place-spec : {M : Type 1} → statement M

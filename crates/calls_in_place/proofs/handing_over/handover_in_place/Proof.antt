@@ -23,7 +23,8 @@ returns : tie.Need-returns
 returns c =
     let found = c .before .before .before .before in
     c .refused .ensures _ _ _
-    ∙ handover-refused _ _ _ (found .before .clean .ensures) _ _ _ _ (found .check-handover .ensures) _ (c .before .before .verdict .given .1)
+    ∙ handover-refused _ _ _ (found .before .clean .ensures) _ _ _ _ (found .check-handover .ensures) _
+    (c .before .before .verdict .given .1)
 
 returns-2 : tie.Need-returns-2
 returns-2 c =
@@ -36,8 +37,10 @@ returns-2 c =
     let told = marked .before .before .before .before .before in
     let found = told .before .before in
     c .accepted .ensures _ _ _
-    ∙ handover-done _ _ _ (found .before .clean .ensures) _ _ _ _ (found .check-handover .ensures) (told .enum-told .given .1) _ _
-    (marked .before .before .length-at .ensures) (marked .late-mark .ensures) _ (gone .leave .ensures) _ (cleaned .clean2 .ensures) _
+    ∙ handover-done _ _ _ (found .before .clean .ensures) _ _ _ _ (found .check-handover .ensures)
+    (told .enum-told .given .1) _ _
+    (marked .before .before .length-at .ensures) (marked .late-mark .ensures) _ (gone .leave .ensures) _
+    (cleaned .clean2 .ensures) _
     (put .put-last .ensures) _ (entered .enter .ensures) _ (merged .merge .ensures _ _ _ _ _ _ _)
 
 pub handover-in-place-spec : {M : Type 1} → statement M

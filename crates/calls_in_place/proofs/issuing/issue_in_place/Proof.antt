@@ -9,7 +9,8 @@ returns : tie.Need-returns
 returns c =
     let found = c .before .before .before .before in
     c .refused .ensures _ _ _
-    ∙ issue-refused _ _ _ (found .before .clean .ensures) _ _ _ _ (found .check-issue .ensures) _ (c .before .before .verdict .given .1)
+    ∙ issue-refused _ _ _ (found .before .clean .ensures) _ _ _ _ (found .check-issue .ensures) _
+    (c .before .before .verdict .given .1)
 
 put-last-requires : tie.Need-put-last-requires
 put-last-requires c κs = search needs
@@ -21,7 +22,8 @@ returns-2 c =
     let told = put .before .before in
     let found = told .before .before in
     c .accepted .ensures _ _ _
-    ∙ issue-done _ _ _ (found .before .clean .ensures) _ _ _ _ (found .check-issue .ensures) (told .enum-told .given .1) _ _
+    ∙ issue-done _ _ _ (found .before .clean .ensures) _ _ _ _ (found .check-issue .ensures)
+    (told .enum-told .given .1) _ _
     (put .put-last .ensures) (entered .enter .ensures)
 
 pub issue-in-place-spec : {M : Type 1} → statement M

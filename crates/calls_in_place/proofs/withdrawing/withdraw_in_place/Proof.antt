@@ -9,7 +9,8 @@ returns : tie.Need-returns
 returns c =
     let found = c .before .before .before .before in
     c .refused .ensures _ _ _
-    ∙ withdraw-refused _ _ _ (found .before .clean .ensures) _ _ _ (found .check-withdraw .ensures) _ (c .before .before .verdict .given .1)
+    ∙ withdraw-refused _ _ _ (found .before .clean .ensures) _ _ _ (found .check-withdraw .ensures) _
+    (c .before .before .verdict .given .1)
 
 returns-2 : tie.Need-returns-2
 returns-2 c =
@@ -17,7 +18,8 @@ returns-2 c =
     let told = gone .before .before in
     let found = told .before .before in
     c .accepted .ensures _ _ _
-    ∙ withdraw-done _ _ _ (found .before .clean .ensures) _ _ _ (found .check-withdraw .ensures) (told .enum-told .given .1) _
+    ∙ withdraw-done _ _ _ (found .before .clean .ensures) _ _ _ (found .check-withdraw .ensures)
+    (told .enum-told .given .1) _
     (gone .leave .ensures)
 
 pub withdraw-in-place-spec : {M : Type 1} → statement M

@@ -15,7 +15,8 @@ returns-2 c =
 returns-3 : tie.Need-returns-3
 returns-3 c =
     let a = c .before .before .before .args in
-    by-names (a .writes) (a .reads) (a .names) (a .widened) (c .before .before .if1 .left) (c .before .if2 .left) (c .conflict-over2 .ensures)
+    by-names (a .writes) (a .reads) (a .names) (a .widened) (c .before .before .if1 .left) (c .before .if2 .left)
+    (c .conflict-over2 .ensures)
 
 pub conflict-by-spec : {M : Type 1} → statement M
 conflict-by-spec = tie.close (tie.spec (λ c κs. search needs) returns returns-2 (λ c κs. search needs) returns-3)

@@ -22,6 +22,11 @@ conflict-over-spec =
     tie.close
     (tie.spec
     returns
-    (λ c. omega (arith, lowest-below maxResources _ (some c) (c .before .fits .set .fits), leading-le maxResources (c .before .args .set)))
+    (λ c. omega (
+      arith,
+      lowest-below maxResources _ (some c) (c .before .fits .set .fits),
+      leading-le maxResources
+          (c .before .args .set),
+    ))
     (λ c. omega (arith, ones-le maxResources _ (c .before .fits .set .fits)))
     returns-2)

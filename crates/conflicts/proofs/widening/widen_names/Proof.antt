@@ -12,7 +12,8 @@ use Rattle.conflicts.proofs.widening.widen_names.Statement.{statement}
 use Rattle.conflicts.proofs.widening.widen_names.Tie as tie
 
 abbrev Inv-loop : tie.InvT-loop
-Inv-loop names plan out₀ i₀ out i = (i ≤ min (plan .count) maxEntries) × (out ≡ widen names (drop i (countedEntries plan)))
+Inv-loop names plan out₀ i₀ out i = (i ≤ min (plan .count) maxEntries)
+    × (out ≡ widen names (drop i (countedEntries plan)))
 
 abbrev μ-loop : tie.MeasureT-loop
 μ-loop names plan out₀ i₀ out i = i
@@ -28,7 +29,8 @@ loop-again c =
     let full : length (c .before .before .before .before .before .args .t1 .entries) ≡ maxEntries =
     simp length-map at (c .before .before .before .before .before .good .0 .1 .1 .1 .1 .1 .0 .1 .0 .1) in (
       omega arith,
-      widened-by-next (c .before .before .before .before .before .args .t1) _ full _ _ _ (c .before .before .loop-test .taken)
+      widened-by-next (c .before .before .before .before .before .args .t1) _ full _ _ _
+          (c .before .before .loop-test .taken)
           (c .before .before .before .loop .inv .0) (c .before .before .before .loop .inv .1) (c .brought .ensures),
     )
 

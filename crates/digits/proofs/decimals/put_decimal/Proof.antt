@@ -19,13 +19,15 @@ returns c =
     let a = asked .before .before .before .args in
     let counted = asked .before .digit-count .ensures .0 in
     placed (decimal (a .n)) _ _ _ (omega arith) _ (ap (λ x. x + a .more) counted) _ (asked .has-room .ensures .0) _
-    (c .before .before .before .before .if1 .taken) counted (record { place = refl; stores = c .before .before .write-digits .ensures })
+    (c .before .before .before .before .if1 .taken) counted
+    (record { place = refl; stores = c .before .before .write-digits .ensures })
 
 returns-2 : tie.Need-returns-2
 returns-2 c =
     let asked = c .before in
     let a = asked .before .before .before .args in
-    not-placed (decimal (a .n)) _ _ _ (omega arith) _ (ap (λ x. x + a .more) (asked .before .digit-count .ensures .0)) _ (asked .has-room .ensures .0) (c .if1 .left)
+    not-placed (decimal (a .n)) _ _ _ (omega arith) _ (ap (λ x. x + a .more) (asked .before .digit-count .ensures .0)) _
+    (asked .has-room .ensures .0) (c .if1 .left)
 
 pub put-decimal-spec : {M : Type 1} → statement M
 put-decimal-spec =

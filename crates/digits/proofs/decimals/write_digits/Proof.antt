@@ -22,13 +22,22 @@ add-write-two c = omega (arith, c .before .before .loop .inv .within)
 
 write-two-requires : tie.Need-write-two-requires Inv-loop μ-loop
 write-two-requires c κs =
-    let loop = c .before .before .loop in
-    (omega arith, omega (arith, loop .inv .within, loop .inv .same, two-at-least _ _ _ _ _ _ (loop .inv) (c .before .loop-test .taken)))
+    let loop = c .before .before .loop in (
+      omega arith,
+      omega (
+        arith,
+        loop .inv .within,
+        loop .inv .same,
+        two-at-least _ _ _ _ _ _ (loop .inv)
+            (c .before .loop-test .taken),
+      ),
+    )
 
 loop-again : tie.Need-loop-again Inv-loop μ-loop
 loop-again c =
     let two = c .before .before in
-    two-digits-less _ _ _ _ _ _ (two .before .before .before .loop .inv) _ (two .before .before .loop-test .taken) (two .write-two .ensures)
+    two-digits-less _ _ _ _ _ _ (two .before .before .before .loop .inv) _ (two .before .before .loop-test .taken)
+    (two .write-two .ensures)
 
 write-lead-requires : tie.Need-write-lead-requires Inv-loop μ-loop
 write-lead-requires c κs =

@@ -15,7 +15,8 @@ returns c = (rw (lt-leb _ _ (c .if1 .taken)) refl, λ e. let z : _≡_ {A = ℕ}
 returns-2 : tie.Need-returns-2
 returns-2 c =
     let a = c .before .args in
-    let test : leb (a .needed) (a .size - a .at) ≡ hasRoom (a .needed) (a .size) (a .at) = rw (le-leb _ _ (c .if1 .left)) refl in
+    let test : leb (a .needed) (a .size - a .at)
+    ≡ hasRoom (a .needed) (a .size) (a .at) = rw (le-leb _ _ (c .if1 .left)) refl in
     (test, λ e. there-is-room (a .needed) (a .size) (a .at) (sym test ∙ e))
 
 pub has-room-spec : {M : Type 1} → statement M

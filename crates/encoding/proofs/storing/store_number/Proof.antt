@@ -13,7 +13,8 @@ use Rattle.encoding.proofs.storing.store_number.Tie as tie
 
 abbrev Inv-loop : tie.InvT-loop
 Inv-loop value size buffer₀ at rest₀ i₀ buffer rest i =
-    (i ≤ size) × ((length buffer ≡ length buffer₀) × (sets buffer (at + i) (bytesOf (size - i) rest) ≡ sets buffer₀ at (bytesOf size value)))
+    (i ≤ size) × ((length buffer ≡ length buffer₀)
+    × (sets buffer (at + i) (bytesOf (size - i) rest) ≡ sets buffer₀ at (bytesOf size value)))
 
 abbrev μ-loop : tie.MeasureT-loop
 μ-loop value size buffer₀ at rest₀ i₀ buffer rest i = size - i
@@ -37,8 +38,14 @@ loop-less : tie.Need-loop-less Inv-loop μ-loop
 loop-less c = omega arith
 
 loop-again : tie.Need-loop-again Inv-loop μ-loop
-loop-again c =
-    (omega arith, (simp length-set (c .before .loop .inv .1 .0), number-turn _ _ _ _ _ (c .loop-test .taken) ∙ c .before .loop .inv .1 .1))
+loop-again c = (
+  omega arith,
+  (
+    simp length-set (c .before .loop .inv .1 .0),
+    number-turn _ _ _ _ _ (c .loop-test .taken)
+        ∙ c .before .loop .inv .1 .1,
+  ),
+)
 
 same-length : tie.Need-same-length Inv-loop μ-loop
 same-length c = c .before .loop .inv .1 .0

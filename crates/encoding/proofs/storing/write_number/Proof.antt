@@ -13,8 +13,10 @@ store-number-requires c κs = c .before .before .has-room .ensures .1 (c .before
 returns : tie.Need-returns
 returns c =
     let a = c .before .before .before .before .before .before .before .args in
-    let room = sym (c .before .before .before .before .before .has-room .ensures .0) ∙ c .before .before .before .before .if1 .taken in
-    with-room (a .size) (a .at) (a .buffer .now) (bytesOf (a .size) (a .value)) (length-bytesOf (a .size) (a .value)) room
+    let room = sym (c .before .before .before .before .before .has-room .ensures .0)
+    ∙ c .before .before .before .before .if1 .taken in
+    with-room (a .size) (a .at) (a .buffer .now) (bytesOf (a .size) (a .value))
+    (length-bytesOf (a .size) (a .value)) room
     _ (c .before .before .store-number .ensures)
 
 returns-2 : tie.Need-returns-2
@@ -24,4 +26,5 @@ returns-2 c =
     (sym (c .before .has-room .ensures .0) ∙ c .if1 .left)
 
 pub write-number-spec : {M : Type 1} → statement M
-write-number-spec = tie.close (tie.spec (λ c κs. search needs) store-number-requires (λ c. search needs) returns returns-2)
+write-number-spec = tie.close (tie.spec (λ c κs. search needs) store-number-requires
+    (λ c. search needs) returns returns-2)

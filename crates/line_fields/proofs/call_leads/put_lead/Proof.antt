@@ -20,8 +20,10 @@ returns : tie.Need-returns
 returns c =
     let put = c .before .before .before in
     let a = put .before .before .before .before .args in
-    nothing-placed (decimal (a .tick)) (32 ∷ a .letter ∷ 32 ∷ decimal (a .processor)) (a .buffer .now) (a .at) _ (a .more) (some-digit (a .tick))
-    (rest-size (a .processor) _ (a .more) (put .before .before .byte-digits .ensures .0) (a .letter)) (put .put-decimal .ensures .0) (put .put-decimal .ensures .1) (c .if1 .taken)
+    nothing-placed (decimal (a .tick)) (32 ∷ a .letter ∷ 32 ∷ decimal (a .processor)) (a .buffer .now) (a .at) _
+    (a .more) (some-digit (a .tick))
+    (rest-size (a .processor) _ (a .more) (put .before .before .byte-digits .ensures .0) (a .letter))
+    (put .put-decimal .ensures .0) (put .put-decimal .ensures .1) (c .if1 .taken)
 
 add-write-letter : tie.Need-add-write-letter
 add-write-letter c =
@@ -29,8 +31,10 @@ add-write-letter c =
     let a = put .before .before .before .before .args in
     omega (
       arith,
-      second-fits (decimal (a .tick)) (32 ∷ a .letter ∷ 32 ∷ decimal (a .processor)) (a .buffer .now) (a .at) _ (a .more) (some-digit (a .tick))
-          (rest-size (a .processor) _ (a .more) (put .before .before .byte-digits .ensures .0) (a .letter)) (put .put-decimal .ensures .0) (put .put-decimal .ensures .1) (c .before .if1 .left),
+      second-fits (decimal (a .tick)) (32 ∷ a .letter ∷ 32 ∷ decimal (a .processor)) (a .buffer .now) (a .at) _
+          (a .more) (some-digit (a .tick))
+          (rest-size (a .processor) _ (a .more) (put .before .before .byte-digits .ensures .0) (a .letter))
+          (put .put-decimal .ensures .0) (put .put-decimal .ensures .1) (c .before .if1 .left),
     )
 
 write-letter-requires : tie.Need-write-letter-requires
@@ -39,8 +43,10 @@ write-letter-requires c κs =
     let a = put .before .before .before .before .args in
     omega (
       arith,
-      second-fits (decimal (a .tick)) (32 ∷ a .letter ∷ 32 ∷ decimal (a .processor)) (a .buffer .now) (a .at) _ (a .more) (some-digit (a .tick))
-          (rest-size (a .processor) _ (a .more) (put .before .before .byte-digits .ensures .0) (a .letter)) (put .put-decimal .ensures .0) (put .put-decimal .ensures .1) (c .before .if1 .left),
+      second-fits (decimal (a .tick)) (32 ∷ a .letter ∷ 32 ∷ decimal (a .processor)) (a .buffer .now) (a .at) _
+          (a .more) (some-digit (a .tick))
+          (rest-size (a .processor) _ (a .more) (put .before .before .byte-digits .ensures .0) (a .letter))
+          (put .put-decimal .ensures .0) (put .put-decimal .ensures .1) (c .before .if1 .left),
     )
 
 add-result : tie.Need-add-result
@@ -50,17 +56,23 @@ add-result c =
     omega (
       arith,
       put .before .before .byte-digits .ensures .1,
-      second-fits (decimal (a .tick)) (32 ∷ a .letter ∷ 32 ∷ decimal (a .processor)) (a .buffer .now) (a .at) _ (a .more) (some-digit (a .tick))
-          (rest-size (a .processor) _ (a .more) (put .before .before .byte-digits .ensures .0) (a .letter)) (put .put-decimal .ensures .0) (put .put-decimal .ensures .1) (c .before .before .before .before .if1 .left),
+      second-fits (decimal (a .tick)) (32 ∷ a .letter ∷ 32 ∷ decimal (a .processor)) (a .buffer .now) (a .at) _
+          (a .more) (some-digit (a .tick))
+          (rest-size (a .processor) _ (a .more) (put .before .before .byte-digits .ensures .0) (a .letter))
+          (put .put-decimal .ensures .0) (put .put-decimal .ensures .1)
+          (c .before .before .before .before .if1 .left),
     )
 
 returns-2 : tie.Need-returns-2
 returns-2 c =
     let put = c .before .before .before .before .before .before .before in
     let a = put .before .before .before .before .args in
-    both-placed (decimal (a .tick)) (32 ∷ a .letter ∷ 32 ∷ decimal (a .processor)) (a .buffer .now) (a .at) _ (a .more) (some-digit (a .tick))
-    (rest-size (a .processor) _ (a .more) (put .before .before .byte-digits .ensures .0) (a .letter)) (put .put-decimal .ensures .0) (put .put-decimal .ensures .1) (c .before .before .before .before .if1 .left)
-    _ (omega (arith, put .before .before .byte-digits .ensures .0)) (record { place = refl; stores = c .before .before .write-letter .ensures })
+    both-placed (decimal (a .tick)) (32 ∷ a .letter ∷ 32 ∷ decimal (a .processor)) (a .buffer .now) (a .at) _ (a .more)
+    (some-digit (a .tick))
+    (rest-size (a .processor) _ (a .more) (put .before .before .byte-digits .ensures .0) (a .letter))
+    (put .put-decimal .ensures .0) (put .put-decimal .ensures .1) (c .before .before .before .before .if1 .left)
+    _ (omega (arith, put .before .before .byte-digits .ensures .0))
+    (record { place = refl; stores = c .before .before .write-letter .ensures })
 
 pub put-lead-spec : {M : Type 1} → statement M
 put-lead-spec =

@@ -12,19 +12,24 @@ use borrow.Author.Needs.{needs}
 use Rattle.line_fields.proofs.call_leads.write_letter.Statement.{statement}
 use Rattle.line_fields.proofs.call_leads.write_letter.Tie as tie
 
-three : (l : List ℕ) (at x y z : ℕ) → Stored (x ∷ y ∷ z ∷ []) l at (at + 3) (set (set (set l at x) (at + 1) y) (at + 2) z)
+three : (l : List ℕ) (at x y z : ℕ) → Stored (x ∷ y ∷ z ∷ []) l at (at + 3)
+    (set (set (set l at x) (at + 1) y) (at + 2) z)
 three l at x y z =
     let one : at + 1 ≡ suc at = omega arith in
     let two : at + 2 ≡ suc (suc at) = omega arith in
     record { place = refl; stores = rw (one, two) refl }
 
-letter-stored : (letter processor at : ℕ) (l : List ℕ) → at + 3 + length (decimal processor) ≤ length l → {told : ℕ} {after : List ℕ}
-    → (told ≡ placedSize (length (decimal processor) + 0) (decimal processor) (length (set (set (set l at 32) (at + 1) letter) (at + 2) 32)) (at + 3))
-    × (after ≡ placedBuffer (length (decimal processor) + 0) (decimal processor) (set (set (set l at 32) (at + 1) letter) (at + 2) 32) (at + 3))
+letter-stored : (letter processor at : ℕ) (l : List ℕ) → at + 3 + length (decimal processor) ≤ length l
+    → {told : ℕ} {after : List ℕ}
+    → (told ≡ placedSize (length (decimal processor) + 0) (decimal processor)
+    (length (set (set (set l at 32) (at + 1) letter) (at + 2) 32)) (at + 3))
+    × (after ≡ placedBuffer (length (decimal processor) + 0) (decimal processor)
+    (set (set (set l at 32) (at + 1) letter) (at + 2) 32) (at + 3))
     → Stored (32 ∷ letter ∷ 32 ∷ decimal processor) l at (at + 3 + told) after
 letter-stored letter processor at l fits both =
     then-stored (three l at 32 letter 32)
-    (placed-stored (decimal processor) _ (at + 3) (length (decimal processor) + 0) (omega arith) (omega (arith, stored-length (three l at 32 letter 32))) (both .0) (both .1))
+    (placed-stored (decimal processor) _ (at + 3) (length (decimal processor) + 0) (omega arith)
+    (omega (arith, stored-length (three l at 32 letter 32))) (both .0) (both .1))
 
 slice-write-buffer-2 : tie.Need-slice-write-buffer-2
 slice-write-buffer-2 c = simp length-set (omega arith)
@@ -36,7 +41,8 @@ same-length : tie.Need-same-length
 same-length c =
     let put = c .before .before in
     let a = put .before .before .before .args in
-    stored-length (letter-stored (a .letter) (a .processor) (a .at) (a .buffer .now) (omega arith) (put .put-decimal .ensures))
+    stored-length (letter-stored (a .letter) (a .processor) (a .at) (a .buffer .now) (omega arith)
+    (put .put-decimal .ensures))
 
 returns : tie.Need-returns
 returns c =

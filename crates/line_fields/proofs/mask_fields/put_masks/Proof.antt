@@ -12,7 +12,8 @@ use borrow.Author.Needs.{needs}
 use Rattle.line_fields.proofs.mask_fields.put_masks.Statement.{statement}
 use Rattle.line_fields.proofs.mask_fields.put_masks.Tie as tie
 
-whole-size : (pairs : List ℕ) (n granted entitled k : ℕ) → k ≡ n → 2 + 4 * k ≡ length (maskFields pairs n granted entitled)
+whole-size : (pairs : List ℕ) (n granted entitled k : ℕ) → k ≡ n → 2 + 4 * k
+    ≡ length (maskFields pairs n granted entitled)
 whole-size pairs n granted entitled k e = omega (arith, masks-length pairs n granted entitled)
 
 mul-needed : tie.Need-mul-needed
@@ -30,7 +31,14 @@ write-mask-requires-2 : tie.Need-write-mask-requires-2
 write-mask-requires-2 c κs =
     let asked = c .before .before .before .before .before .before in
     let a = asked .before .before .before .before .args in
-    omega (arith, mask-place (a .pairs .now) (maskSizeFor (a .processors)) _ (c .before .before .before .write-mask .ensures), asked .before .mask-size .ensures, asked .has-room .ensures .1 (c .before .before .before .before .before .if1 .taken))
+    omega (
+      arith,
+      mask-place (a .pairs .now) (maskSizeFor (a .processors)) _
+          (c .before .before .before .write-mask .ensures),
+      asked .before .mask-size .ensures,
+      asked .has-room .ensures .1
+          (c .before .before .before .before .before .if1 .taken),
+    )
 
 returns : tie.Need-returns
 returns c =
@@ -38,8 +46,11 @@ returns c =
     let a = asked .before .before .before .before .args in
     let both =
     field-placed (maskFields (a .pairs .now) (maskSizeFor (a .processors)) (a .granted) (a .entitled)) _ _ _
-    (whole-size (a .pairs .now) (maskSizeFor (a .processors)) (a .granted) (a .entitled) _ (asked .before .mask-size .ensures)) _ (asked .has-room .ensures .0)
-    (c .before .before .before .before .before .before .before .before .if1 .taken) (then-stored (c .before .before .before .before .before .before .write-mask .ensures) (c .before .before .write-mask2 .ensures)) in
+    (whole-size (a .pairs .now) (maskSizeFor (a .processors)) (a .granted) (a .entitled) _
+    (asked .before .mask-size .ensures)) _ (asked .has-room .ensures .0)
+    (c .before .before .before .before .before .before .before .before .if1 .taken)
+    (then-stored (c .before .before .before .before .before .before .write-mask .ensures)
+    (c .before .before .write-mask2 .ensures)) in
     (both .0, (both .1, omega (arith, asked .before .mask-size .ensures, most-bytes (a .processors))))
 
 returns-2 : tie.Need-returns-2
@@ -48,7 +59,8 @@ returns-2 c =
     let a = asked .before .before .before .before .args in
     let none =
     field-not-placed (maskFields (a .pairs .now) (maskSizeFor (a .processors)) (a .granted) (a .entitled)) _ _ _
-    (whole-size (a .pairs .now) (maskSizeFor (a .processors)) (a .granted) (a .entitled) _ (asked .before .mask-size .ensures)) _ (asked .has-room .ensures .0) (c .if1 .left) in
+    (whole-size (a .pairs .now) (maskSizeFor (a .processors)) (a .granted) (a .entitled) _
+    (asked .before .mask-size .ensures)) _ (asked .has-room .ensures .0) (c .if1 .left) in
     (none .0, (none .1, omega arith))
 
 pub put-masks-spec : {M : Type 1} → statement M

@@ -20,7 +20,8 @@ write-half-requires-2 : tie.Need-write-half-requires-2
 write-half-requires-2 c κs =
     let sized = c .before .before in
     let a = sized .before .before .before .args in
-    let four : maskSizeFor (a .processors) ≡ 4 = else-four (a .processors) (λ e. omega (arith, sized .mask-size .ensures)) in
+    let four : maskSizeFor (a .processors) ≡ 4 = else-four (a .processors)
+    (λ e. omega (arith, sized .mask-size .ensures)) in
     simp length-set (omega arith)
 
 write-half-requires-3 : tie.Need-write-half-requires-3
@@ -28,7 +29,8 @@ write-half-requires-3 c κs =
     let half = c .before .before .before in
     let sized = half .before .before .before in
     let a = sized .before .before .before .args in
-    let four : maskSizeFor (a .processors) ≡ 4 = else-four (a .processors) (λ e. omega (arith, sized .mask-size .ensures)) in
+    let four : maskSizeFor (a .processors) ≡ 4 = else-four (a .processors)
+    (λ e. omega (arith, sized .mask-size .ensures)) in
     omega (arith, half-place (a .pairs .now) _ (half .write-half2 .ensures), length-set (a .buffer .now) (a .at) 32)
 
 same-length : tie.Need-same-length
@@ -55,7 +57,8 @@ returns-2 c =
     let high = low .before .before .before .before in
     let sized = high .before .before .before in
     let a = sized .before .before .before .args in
-    let four : maskSizeFor (a .processors) ≡ 4 = else-four (a .processors) (λ e. omega (arith, sized .mask-size .ensures)) in
+    let four : maskSizeFor (a .processors) ≡ 4 = else-four (a .processors)
+    (λ e. omega (arith, sized .mask-size .ensures)) in
     wide-stored (a .pairs .now) _ _ (a .mask) _ four (high .write-half2 .ensures) (low .write-half3 .ensures)
 
 pub write-mask-spec : {M : Type 1} → statement M

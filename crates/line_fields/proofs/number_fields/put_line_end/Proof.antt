@@ -24,7 +24,9 @@ returns c =
     let a = put .before .before .before .before .args in
     let field = labelled (a .word .now) (a .n) in
     rw (← append-assoc (a .word .now) (decimal (a .n)) (10 ∷ []))
-    (alone (field ++ (10 ∷ [])) (a .buffer .now) (a .at) (nothing-placed field (10 ∷ []) (a .buffer .now) (a .at) 1 0 (some-byte (a .word .now) (a .n)) refl (put .put-field .ensures .0) (put .put-field .ensures .1) (c .if1 .taken)))
+    (alone (field ++ (10 ∷ [])) (a .buffer .now) (a .at)
+    (nothing-placed field (10 ∷ []) (a .buffer .now) (a .at) 1 0 (some-byte (a .word .now) (a .n)) refl
+    (put .put-field .ensures .0) (put .put-field .ensures .1) (c .if1 .taken)))
 
 slice-write-buffer : tie.Need-slice-write-buffer
 slice-write-buffer c =
@@ -32,7 +34,9 @@ slice-write-buffer c =
     let a = put .before .before .before .before .args in
     omega (
       arith,
-      second-fits (labelled (a .word .now) (a .n)) (10 ∷ []) (a .buffer .now) (a .at) 1 0 (some-byte (a .word .now) (a .n)) refl (put .put-field .ensures .0) (put .put-field .ensures .1) (c .if1 .left),
+      second-fits (labelled (a .word .now) (a .n)) (10 ∷ []) (a .buffer .now) (a .at) 1 0
+          (some-byte (a .word .now) (a .n)) refl (put .put-field .ensures .0) (put .put-field .ensures .1)
+          (c .if1 .left),
     )
 
 add-buffer : tie.Need-add-buffer
@@ -47,7 +51,9 @@ returns-2 c =
     let a = put .before .before .before .before .args in
     let field = labelled (a .word .now) (a .n) in
     rw (← append-assoc (a .word .now) (decimal (a .n)) (10 ∷ []))
-    (alone (field ++ (10 ∷ [])) (a .buffer .now) (a .at) (both-placed field (10 ∷ []) (a .buffer .now) (a .at) 1 0 (some-byte (a .word .now) (a .n)) refl (put .put-field .ensures .0) (put .put-field .ensures .1) (c .if1 .left) _ refl (one-stored _ _ 10)))
+    (alone (field ++ (10 ∷ [])) (a .buffer .now) (a .at)
+    (both-placed field (10 ∷ []) (a .buffer .now) (a .at) 1 0 (some-byte (a .word .now) (a .n)) refl
+    (put .put-field .ensures .0) (put .put-field .ensures .1) (c .if1 .left) _ refl (one-stored _ _ 10)))
 
 pub put-line-end-spec : {M : Type 1} → statement M
 put-line-end-spec =

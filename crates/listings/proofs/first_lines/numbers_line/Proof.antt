@@ -16,14 +16,17 @@ returns c =
     let asked = c .before .before .before .before .before in
     let a = asked .before .before .before .args in
     room (numbersLine (a .processors) (a .resources) (a .count) (a .read) (a .write)) (a .buffer .now) (a .at) _ _
-    (first-size-is (a .processors) (a .resources) (a .count) (a .read) (a .write) _ (asked .before .first-size .ensures .0))
-    (asked .has-room .ensures .0) _ _ (c .before .before .before .before .if1 .taken) (record { place = refl; stores = c .before .before .write-first .ensures })
+    (first-size-is (a .processors) (a .resources) (a .count) (a .read) (a .write) _
+    (asked .before .first-size .ensures .0))
+    (asked .has-room .ensures .0) _ _ (c .before .before .before .before .if1 .taken)
+    (record { place = refl; stores = c .before .before .write-first .ensures })
 
 returns-2 : tie.Need-returns-2
 returns-2 c =
     let a = c .before .before .before .before .args in
     no-room (numbersLine (a .processors) (a .resources) (a .count) (a .read) (a .write)) (a .buffer .now) (a .at) _ _
-    (first-size-is (a .processors) (a .resources) (a .count) (a .read) (a .write) _ (c .before .before .first-size .ensures .0))
+    (first-size-is (a .processors) (a .resources) (a .count) (a .read) (a .write) _
+    (c .before .before .first-size .ensures .0))
     (c .before .has-room .ensures .0) (c .if1 .left)
 
 pub numbers-line-spec : {M : Type 1} → statement M

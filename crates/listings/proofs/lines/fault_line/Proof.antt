@@ -11,12 +11,24 @@ use Rattle.listings.proofs.lines.fault_line.Tie as tie
 returns : tie.Need-returns
 returns c =
     rw (fault-parts (c .before .before .before .before .before .before .before .args .number))
-    (no-field-line (lastField (refusedWord ++ (32 ∷ [])) (c .before .before .before .before .before .before .before .args .number)) (c .before .before .before .before .before .before .before .args .buffer .now) _ (c .before .before .before .before .before .before .before .args .at) _ (some-fault (c .before .before .before .before .before .before .before .args .number)) (c .before .before .before .put-line-end .ensures .0) (c .before .before .before .put-line-end .ensures .1) (c .if1 .taken))
+    (no-field-line (lastField (refusedWord ++ (32 ∷ []))
+    (c .before .before .before .before .before .before .before .args .number))
+    (c .before .before .before .before .before .before .before .args .buffer .now) _
+    (c .before .before .before .before .before .before .before .args .at) _
+    (some-fault (c .before .before .before .before .before .before .before .args .number))
+    (c .before .before .before .put-line-end .ensures .0) (c .before .before .before .put-line-end .ensures .1)
+    (c .if1 .taken))
 
 returns-2 : tie.Need-returns-2
 returns-2 c =
     rw (fault-parts (c .before .before .before .before .before .before .before .args .number))
-    (field-line (lastField (refusedWord ++ (32 ∷ [])) (c .before .before .before .before .before .before .before .args .number)) (c .before .before .before .before .before .before .before .args .buffer .now) _ (c .before .before .before .before .before .before .before .args .at) _ (some-fault (c .before .before .before .before .before .before .before .args .number)) (c .before .before .before .put-line-end .ensures .0) (c .before .before .before .put-line-end .ensures .1) (c .if1 .left))
+    (field-line (lastField (refusedWord ++ (32 ∷ []))
+    (c .before .before .before .before .before .before .before .args .number))
+    (c .before .before .before .before .before .before .before .args .buffer .now) _
+    (c .before .before .before .before .before .before .before .args .at) _
+    (some-fault (c .before .before .before .before .before .before .before .args .number))
+    (c .before .before .before .put-line-end .ensures .0) (c .before .before .before .put-line-end .ensures .1)
+    (c .if1 .left))
 
 pub fault-line-spec : {M : Type 1} → statement M
 fault-line-spec =

@@ -28,7 +28,8 @@ loop-again c =
       omega arith,
       (
         simp length-set (loop .loop .inv .1 .0),
-        copy-turn _ _ _ _ (loop .loop .inv .1 .1) _ (omega arith) left (read-ahead _ _ _ _ (loop .loop .inv .1 .1) (omega arith)),
+        copy-turn _ _ _ _ (loop .loop .inv .1 .1) _ (omega arith) left
+            (read-ahead _ _ _ _ (loop .loop .inv .1 .1) (omega arith)),
       ),
     )
 

@@ -11,7 +11,8 @@ use Rattle.log_input.proofs.front_bytes.copy_in.Tie as tie
 
 abbrev Inv-loop : tie.InvT-loop
 Inv-loop bytes buffer₀ most i₀ buffer i =
-    (i ≤ most) × ((most ≡ min (length bytes) (length buffer₀)) × ((length buffer ≡ length buffer₀) × (buffer ≡ paste buffer₀ 0 bytes i)))
+    (i ≤ most) × ((most ≡ min (length bytes) (length buffer₀))
+    × ((length buffer ≡ length buffer₀) × (buffer ≡ paste buffer₀ 0 bytes i)))
 
 abbrev μ-loop : tie.MeasureT-loop
 μ-loop bytes buffer₀ most i₀ buffer i = most - i
@@ -19,14 +20,24 @@ abbrev μ-loop : tie.MeasureT-loop
 loop-holds : tie.Need-loop-holds Inv-loop μ-loop
 loop-holds c = (
   omega arith,
-  (⊎-elim (λ w. omega arith) (λ w. omega arith) (c .if1 .came), (refl, paste-zero (c .before .args .buffer .now) 0 (c .before .args .bytes .now))),
+  (
+    ⊎-elim (λ w. omega arith) (λ w. omega arith) (c .if1 .came),
+    (refl, paste-zero (c .before .args .buffer .now) 0 (c .before .args .bytes .now)),
+  ),
 )
 
 loop-again : tie.Need-loop-again Inv-loop μ-loop
 loop-again c =
     let inv = c .before .before .loop .inv in (
       omega arith,
-      (inv .1 .0, (simp length-set (inv .1 .1 .0), copy-turn _ _ _ _ (inv .1 .1 .1) _ (omega arith) (omega arith) refl)),
+      (
+        inv .1 .0,
+        (
+          simp length-set (inv .1 .1 .0),
+          copy-turn _ _ _ _ (inv .1 .1 .1) _ (omega arith)
+              (omega arith) refl,
+        ),
+      ),
     )
 
 same-length : tie.Need-same-length Inv-loop μ-loop
@@ -35,7 +46,8 @@ same-length c = c .before .loop .inv .1 .1 .0
 returns : tie.Need-returns Inv-loop μ-loop
 returns c =
     let inv = c .before .loop .inv in
-    let all : c .before .loop .i ≡ min (length (c .before .before .before .args .bytes .now)) (length (c .before .before .before .args .buffer .now)) = omega arith in
+    let all : c .before .loop .i ≡ min (length (c .before .before .before .args .bytes .now))
+    (length (c .before .before .before .args .buffer .now)) = omega arith in
     (all, copy-done _ _ _ _ (inv .1 .1 .1) _ all)
 
 pub copy-in-spec : {M : Type 1} → statement M

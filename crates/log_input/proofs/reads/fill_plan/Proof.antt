@@ -33,8 +33,11 @@ returns c =
 
 loop-again : tie.Need-loop-again Inv-loop μ-loop
 loop-again c =
-    let read = c .before .before .before .before .before in
-    (read .read-behind .ensures .0, read .read-behind .kept .1 .0 ∙ read .before .before .before .before .before .before .loop .inv .1)
+    let read = c .before .before .before .before .before in (
+      read .read-behind .ensures .0,
+      read .read-behind .kept .1 .0
+          ∙ read .before .before .before .before .before .before .loop .inv .1,
+    )
 
 loop-less : tie.Need-loop-less Inv-loop μ-loop
 loop-less c = omega (arith, c .before .before .before .before .before .read-behind .kept .1 .0)

@@ -9,7 +9,8 @@ use Rattle.log_input.proofs.reads.fill_to.Tie as tie
 
 abbrev Inv-loop : tie.InvT-loop
 Inv-loop input buffer₀ first needed most have₀ buffer have =
-    (have ≤ length buffer) × ((min first (length buffer) ≤ have) × ((length buffer ≡ length buffer₀) × (take first buffer ≡ take first buffer₀)))
+    (have ≤ length buffer) × ((min first (length buffer) ≤ have)
+    × ((length buffer ≡ length buffer₀) × (take first buffer ≡ take first buffer₀)))
 
 abbrev μ-loop : tie.MeasureT-loop
 μ-loop input buffer₀ first needed most have₀ buffer have = most - have
@@ -31,8 +32,11 @@ returns c =
     let loop = read .before .before .before in
     let inv = loop .loop .inv in
     let first = loop .before .before .before .before .args .first in
-    let within : first ≤ loop .loop .have = omega arith in
-    (omega (arith, inv .0, read .read-behind .kept .1 .0), front-kept _ _ first _ within (read .read-behind .ensures .1) ∙ inv .1 .1 .1)
+    let within : first ≤ loop .loop .have = omega arith in (
+      omega (arith, inv .0, read .read-behind .kept .1 .0),
+      front-kept _ _ first _ within (read .read-behind .ensures .1)
+          ∙ inv .1 .1 .1,
+    )
 
 loop-again : tie.Need-loop-again Inv-loop μ-loop
 loop-again c =

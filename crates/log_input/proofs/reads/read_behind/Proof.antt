@@ -10,8 +10,11 @@ returns : tie.Need-returns
 returns c =
     let read = c .before .before .before .before .before in
     let start = read .before .before .before in
-    let buffer = start .args .buffer .now in
-    (search needs, take-put (start .args .have) (length buffer - start .args .have) buffer (read .read .last .1 .0) (start .pre))
+    let buffer = start .args .buffer .now in (
+      search needs,
+      take-put (start .args .have) (length buffer - start .args .have) buffer (read .read .last .1 .0)
+          (start .pre),
+    )
 
 pub read-behind-spec : {M : Type 1} → statement M
 read-behind-spec =

@@ -12,13 +12,18 @@ returns : tie.Need-returns
 returns c = rw (lt-leb _ _ (c .if1 .taken))
 
 slice-aggregate-read-number : tie.Need-slice-aggregate-read-number
-slice-aggregate-read-number c = sym (length-take-le 2 (c .before .before .before .args .bytes .now) (c .before .if1 .left))
+slice-aggregate-read-number c = sym (length-take-le 2 (c .before .before .before .args .bytes .now)
+    (c .before .if1 .left))
 
 cast-t8 : tie.Need-cast-t8
-cast-t8 c = record { fits = part-below 2 (c .before .before .before .before .args .bytes .now) _ (c .read-number .ensures .1) }
+cast-t8 c = record {
+  fits = part-below 2 (c .before .before .before .before .args .bytes .now) _
+      (c .read-number .ensures .1);
+}
 
 returns-2 : tie.Need-returns-2
-returns-2 c = count-read (c .before .before .before .before .args .bytes .now) _ (c .before .before .if1 .left) (c .read-number .ensures .0)
+returns-2 c = count-read (c .before .before .before .before .args .bytes .now) _ (c .before .before .if1 .left)
+    (c .read-number .ensures .0)
 
 pub read-count-spec : {M : Type 1} → statement M
 read-count-spec =

@@ -26,7 +26,8 @@ returns-4 c =
 returns-5 : tie.Need-returns-5
 returns-5 c =
     let a = c .before .before .before .before .args in
-    no-verb (a .verb) (a .processor) (a .entry) (a .tick) (c .before .before .before .if1 .left) (c .before .before .if2 .left)
+    no-verb (a .verb) (a .processor) (a .entry) (a .tick) (c .before .before .before .if1 .left)
+    (c .before .before .if2 .left)
     (c .before .if3 .left) (c .if4 .left)
 
 pub call-by-spec : {M : Type 1} → statement M

@@ -12,7 +12,8 @@ returns : tie.Need-returns
 returns c = adds 32 (c .before .args .set) (c .before .args .k) (c .if1 .taken)
 
 returns-2 : tie.Need-returns-2
-returns-2 c = leaves 32 (c .before .args .set) (added (c .before .args .set) (c .before .args .k)) (c .before .args .k) (c .if1 .left)
+returns-2 c = leaves 32 (c .before .args .set) (added (c .before .args .set) (c .before .args .k)) (c .before .args .k)
+    (c .if1 .left)
 
 pub add32-spec : {M : Type 1} → statement M
 add32-spec = tie.close (tie.spec shl-result returns returns-2)

@@ -1,4 +1,4 @@
--- `entry_of` gives the entry of the first 11 bytes: the set and the length are the numbers of their parts. Assumes
+-- `entry_of` returns the entry in the first 11 bytes: the set and the length are the numbers in their parts. Assumes
 -- nothing.
 use native.Mathlib.Omega.{arith}
 use lib.ListN.{drop}

@@ -1,5 +1,5 @@
--- `write_entry` meets its contract: with room its stores are the entry's bytes, without it nothing is stored.
--- Assumes nothing.
+-- `write_entry` meets its contract: with room it stores the entry's bytes, and without room it stores nothing. Assumes
+-- nothing.
 use mathlib.Core.Path.{sym, _∙_}
 use native.Mathlib.Omega.{arith}
 use lib.ListN.{length-set}

@@ -1,4 +1,4 @@
--- `check_head` answers the first fault of the counts, each due before it is checked. Assumes nothing.
+-- `check_head` returns the first fault of the counts, each due before it is checked. Assumes nothing.
 use borrow.Author.Needs.{needs}
 use Rattle.plan_bytes.specs.inner.Head.{headFault}
 use Rattle.plan_bytes.proofs.plan_head.check_head.Statement.{statement}

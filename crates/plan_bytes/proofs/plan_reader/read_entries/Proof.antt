@@ -1,5 +1,5 @@
--- `read_entries` reads the entries and stops at the first fault. The invariant is `SoFar`, the measure how many are
--- left. Assumes nothing.
+-- `read_entries` reads the entries and stops at the first fault. The invariant is `SoFar`, and the measure is how many
+-- entries are left. Assumes nothing.
 use Prim.Native.Nat.{_-_}
 use native.Mathlib.Omega.{arith}
 use mathlib.Core.Logic.{⊎-elim}
@@ -8,7 +8,8 @@ use lib.ListN.{getD}
 use Rattle.plans.proofs.Sizes.{sized-due}
 use Rattle.plan_bytes.proofs.plan_reader.Answers.{refused-only}
 use Rattle.plan_bytes.proofs.plan_reader.Section.{SoFar, nothing-read, rest-length, entry-passes, read-whole}
-use Rattle.plan_bytes.proofs.plan_reader.Section.{not-both, left-with, entry-missing, kind-refused, names-refused, ticks-refused}
+use Rattle.plan_bytes.proofs.plan_reader.Section.{not-both, left-with, entry-missing, kind-refused}
+use Rattle.plan_bytes.proofs.plan_reader.Section.{names-refused, ticks-refused}
 use Rattle.plan_bytes.proofs.plan_reader.read_entries.Statement.{statement}
 use Rattle.plan_bytes.proofs.plan_reader.read_entries.Tie as tie
 
@@ -47,7 +48,7 @@ loop-again c =
     _ (c .before .before .before .check-length .ensures) (c .before .enum-told3 .given .1) (omega arith)
     _ (c .entry-size .ensures)
 
--- The loop is left after the last entry. The other ways out have a refusal.
+-- The loop ends after the last entry. The other exits return a refusal.
 returns : tie.Need-returns Inv-loop μ-loop
 returns c =
     let accepted = c .before .enum-told4 .given .1 in
@@ -60,7 +61,7 @@ returns c =
     in
     read-whole _ _ _ _ (end .before .loop .inv) all _ (c .whole .ensures)
 
--- It is left with the refusal of the bytes, of a kind, of names or of a length.
+-- The loop ends with a refusal: of the bytes, of a kind, of names or of a length.
 returns-2 : tie.Need-returns-2 Inv-loop μ-loop
 returns-2 c =
     let refused = c .before .before .verdict .given .1 in
@@ -70,7 +71,8 @@ returns-2 c =
     (⊎-elim (λ w. left-with _ _ _ refused _ (entry-missing _ _ _ _ _ _ inv (w .0 .left) (w .1 .taken)) (w .2))
     (⊎-elim
     (λ w. left-with _ _ _ refused _
-    (kind-refused _ _ _ _ _ _ inv (w .0 .left) (w .1 .left) _ (w .3 .ensures) _ (w .4 .ensures) _ (w .6 .given .1)) (w .8))
+    (kind-refused _ _ _ _ _ _ inv (w .0 .left) (w .1 .left) _ (w .3 .ensures) _ (w .4 .ensures) _ (w .6 .given .1))
+    (w .8))
     (⊎-elim
     (λ w. left-with _ _ _ refused _
     (names-refused _ _ _ _ _ _ inv (w .0 .left) (w .1 .left) _ (w .3 .ensures) _ (w .4 .ensures) (w .6 .given .1)

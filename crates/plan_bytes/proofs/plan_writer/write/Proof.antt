@@ -1,4 +1,4 @@
--- `write` meets its contract: an accepted plan is stored where there is room for it, and a refusal stores nothing.
+-- `write` meets its contract: an accepted plan is stored if there is room for it, and a refusal stores nothing.
 -- Assumes nothing.
 use Rattle.plan_bytes.proofs.plan_writer.Answers.{plan-fits, written-answer, refused-answer}
 use borrow.Author.Needs.{needs}

@@ -1,5 +1,5 @@
--- `write_plan` meets its contract: three stores, then the section into the rest of the buffer, which comes back.
--- Assumes nothing.
+-- `write_plan` meets its contract: three stores, then the section into the rest of the buffer, which is a part lent and
+-- given back. Assumes nothing.
 use native.Mathlib.Omega.{arith}
 use mathlib.Core.Path.{_∙_}
 use lib.ListN.{length-set, length-take, length-drop}
@@ -28,7 +28,8 @@ same-length c = c .before .buffer .given .1 ∙ simp length-set
 
 returns : tie.Need-returns
 returns c =
-    rw (c .before .before .write-section .ensures) (plan-stores _ _ _ (c .before .before .before .before .before .before .before .pre .1))
+    rw (c .before .before .write-section .ensures)
+    (plan-stores _ _ _ (c .before .before .before .before .before .before .before .pre .1))
 
 pub write-plan-spec : {M : Type 1} → statement M
 write-plan-spec =

@@ -1,4 +1,4 @@
--- `check` meets its contract: the fault of the counts, and where there is none, that of the counted entries. Assumes
+-- `check` meets its contract: the fault of the counts, and if there is none, that of the counted entries. Assumes
 -- nothing.
 use mathlib.Core.Path.{sym, ap, _∙_}
 use borrow.Author.Needs.{needs}
@@ -22,7 +22,8 @@ returns c =
 returns-2 : tie.Need-returns-2
 unfolding planFault
 returns-2 c =
-    rw (← c .before .before .before .check-counts .ensures) (sym (first-refuses-verdict _ _ _ (c .before .verdict .given .1)))
+    rw (← c .before .before .before .check-counts .ensures)
+    (sym (first-refuses-verdict _ _ _ (c .before .verdict .given .1)))
 
 pub check-spec : {M : Type 1} → statement M
 check-spec =

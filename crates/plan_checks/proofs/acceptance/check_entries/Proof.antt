@@ -1,5 +1,5 @@
--- `check_entries` meets its contract. The loop's invariant: the fault of the counted entries is that of those left.
--- The measure is how many are left. Assumes nothing.
+-- `check_entries` meets its contract. The loop's invariant: the fault of the counted entries is the fault of the
+-- entries left. The measure is how many are left. Assumes nothing.
 use Prim.Native.Nat.{_≤_, _-_}
 use mathlib.Core.Path.{_≡_, refl, sym, ap, _∙_}
 use native.Mathlib.Omega.{arith}

@@ -1,4 +1,4 @@
--- `check_counts` meets its contract: the three checks in file order. Assumes nothing.
+-- `check_counts` meets its contract: the three checks in the order of the bytes. Assumes nothing.
 use borrow.Author.Needs.{needs}
 use Rattle.plans.specs.Acceptance.{countsFault}
 use Rattle.plan_checks.proofs.plan_counts.check_counts.Statement.{statement}

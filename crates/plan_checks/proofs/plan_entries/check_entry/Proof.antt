@@ -1,4 +1,4 @@
--- `check_entry` meets its contract: the three checks of an entry in their order, 6, 7, 8. Assumes nothing.
+-- `check_entry` meets its contract: the three checks of an entry in the order 6, 7, 8. Assumes nothing.
 use Rattle.plans.specs.Acceptance.{entryFault}
 use borrow.Author.Needs.{needs}
 use Rattle.plan_checks.proofs.plan_entries.check_entry.Statement.{statement}

@@ -1,4 +1,4 @@
--- `check_set` meets its contract: the names are some, and all counted. Assumes nothing.
+-- `check_set` meets its contract: there is a name, and all names are counted. Assumes nothing.
 use borrow.Author.Needs.{needs}
 use Rattle.plan_checks.proofs.plan_entries.check_set.Statement.{statement}
 use Rattle.plan_checks.proofs.plan_entries.check_set.Tie as tie

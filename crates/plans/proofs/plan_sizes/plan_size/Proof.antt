@@ -1,5 +1,5 @@
--- `plan_size` meets its contract. The loop's invariant: the bytes so far and those of the entries left are those of the
--- plan, and there are not too many. The measure is how many entries are left. Assumes nothing.
+-- `plan_size` meets its contract. The loop's invariant: the bytes so far plus those of the entries left are the plan's
+-- bytes, and the bytes so far have a bound. The measure is how many entries are left. Assumes nothing.
 use Prim.Native.Nat.{_+_, _-_, _*_, _≤_}
 use native.Mathlib.Omega.{arith}
 use mathlib.Core.Path.{_≡_, refl, ap, _∙_}

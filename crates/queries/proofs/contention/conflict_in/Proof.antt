@@ -13,11 +13,14 @@ use Rattle.queries.proofs.contention.conflict_in.Statement.{statement}
 use Rattle.queries.proofs.contention.conflict_in.Tie as tie
 
 -- What holds for the kinds and sets that were looked up holds for the entries.
-looked-up : (writes : ℕ) (names widened : List ℕ) (i j : ℕ) {o : Over} {w w′ : Bool} {n n′ d d′ : ℕ} → w ≡ bit writes i → w′ ≡ bit writes j
+looked-up : (writes : ℕ) (names widened : List ℕ) (i j : ℕ) {o : Over} {w w′ : Bool} {n n′ d d′ : ℕ} → w ≡ bit writes i
+    → w′ ≡ bit writes j
     → n ≡ getD names i 0 → n′ ≡ getD names j 0 → d ≡ getD widened i 0 → d′ ≡ getD widened j 0
-    → o ≡ over (sharedBy (w && w′) (not w && not w′) (bitAnd n n′) (bitAnd d d′)) → o ≡ over (sharedIn writes names widened i j)
+    → o ≡ over (sharedBy (w && w′) (not w && not w′) (bitAnd n n′) (bitAnd d d′)) → o
+    ≡ over (sharedIn writes names widened i j)
 looked-up writes names widened i j ew ew′ en en′ ed ed′ e =
-    e ∙ (λ k. over (sharedBy (ew k && ew′ k) (not (ew k) && not (ew′ k)) (bitAnd (en k) (en′ k)) (bitAnd (ed k) (ed′ k))))
+    e ∙ (λ k. over (sharedBy (ew k && ew′ k) (not (ew k) && not (ew′ k)) (bitAnd (en k) (en′ k))
+    (bitAnd (ed k) (ed′ k))))
 
 returns : tie.Need-returns
 returns c =

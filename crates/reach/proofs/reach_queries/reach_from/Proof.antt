@@ -1,4 +1,5 @@
--- `reach_from` meets its contract: accepted, the rows are stored; refused, nothing is. Assumes nothing.
+-- `reach_from` meets its contract: if it accepts, it stores the rows, and if it refuses, it stores nothing. Assumes
+-- nothing.
 use mathlib.Core.Path.{refl, sym, ap, _∙_}
 use lib.ListN.{length}
 use Rattle.refusals.specs.Number.{verdictNumber}
@@ -13,7 +14,8 @@ write-reach-requires : tie.Need-write-reach-requires
 write-reach-requires c κs =
     let a = c .before .before .before .before .before .args in
     let checked = c .before .before .before .check-reach .ensures in
-    reach-accepted (a .terms) (a .processor) (length (a .scratch .now)) (sym checked ∙ ap verdictNumber (c .before .enum-told .given .1))
+    reach-accepted (a .terms) (a .processor) (length (a .scratch .now))
+    (sym checked ∙ ap verdictNumber (c .before .enum-told .given .1))
 
 returns : tie.Need-returns
 unfolding reachFault reachScratch

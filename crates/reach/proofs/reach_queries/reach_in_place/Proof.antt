@@ -11,8 +11,11 @@ returns c =
     let direct = found .before .before in
     let a = direct .before .before .args in
     let b = boardWith (a .terms) (a .rows .now) in
-    let s = stateWith (a .requested .now) (a .earlier .now) (a .phases) in
-    (found .reach-from .ensures .0 b s refl (direct .direct-rows .ensures), found .reach-from .ensures .1 b s refl (direct .direct-rows .ensures))
+    let s = stateWith (a .requested .now) (a .earlier .now) (a .phases) in (
+      found .reach-from .ensures .0 b s refl (direct .direct-rows .ensures),
+      found .reach-from .ensures .1 b s refl
+          (direct .direct-rows .ensures),
+    )
 
 pub reach-in-place-spec : {M : Type 1} → statement M
 reach-in-place-spec = tie.close (tie.spec (λ c κs. search needs) (λ c κs. search needs) (λ c. search needs) returns)

@@ -1,4 +1,5 @@
--- `reach_rows` meets its contract. The invariant: the rows have the chains through processors passed. Assumes nothing.
+-- `reach_rows` meets its contract. The invariant: the rows contain the chains through the processors passed. Assumes
+-- nothing.
 use mathlib.Core.Path.{_≡_, refl, sym, ap, _∙_}
 use mathlib.Core.List.{List}
 use Prim.Native.Nat.{ℕ, _≤_, _-_}

@@ -1,4 +1,4 @@
--- `room_of` meets its contract: a mask's bytes are few, and so nothing runs over. Assumes nothing.
+-- `room_of` meets its contract: a mask takes few bytes, so the product does not overflow. Assumes nothing.
 use native.Mathlib.Omega.{arith}
 use Rattle.board_list.proofs.Sizes.{mask-size-small}
 use Rattle.reach.proofs.Words.{words-small}

@@ -1,4 +1,4 @@
--- `write_rows` meets its contract: with room the rows are stored, without it nothing is. Assumes nothing.
+-- `write_rows` meets its contract: with room it stores the rows, and without room it stores nothing. Assumes nothing.
 use mathlib.Core.Path.{_≡_, sym, ap, _∙_}
 use Prim.Native.Nat.{ℕ, _≤_}
 use native.Mathlib.Omega.{arith}

@@ -14,8 +14,10 @@ returns c =
     let second = pending .before in
     let first = second .before in
     let a = first .before .args in
-    accepted-put (a .bytes) (record { number = 0; granted = a .granted; entitled = a .entitled; late = a .late }) _ _ _ _ _ (search needs)
-    (first .put-mask .ensures) (second .put-mask2 .ensures) (pending .pending-in .ensures) (c .before .put-mask3 .ensures) (c .with-line .ensures)
+    accepted-put (a .bytes) (record { number = 0; granted = a .granted; entitled = a .entitled; late = a .late }) _ _ _
+    _ _ (search needs)
+    (first .put-mask .ensures) (second .put-mask2 .ensures) (pending .pending-in .ensures)
+    (c .before .put-mask3 .ensures) (c .with-line .ensures)
 
 pub accept-spec : {M : Type 1} → statement M
 accept-spec =

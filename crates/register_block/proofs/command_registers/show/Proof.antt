@@ -10,7 +10,8 @@ returns c = rw (c .before .before .reply .given .1) (c .accept .ensures)
 
 returns-2 : tie.Need-returns-2
 returns-2 c =
-    rw (c .before .before .before .reply2 .given .1, number-not-zero _) (rw (c .before .number .ensures) at (c .refuse .ensures))
+    rw (c .before .before .before .reply2 .given .1, number-not-zero _)
+    (rw (c .before .number .ensures) at (c .refuse .ensures))
 
 pub show-spec : {M : Type 1} → statement M
 show-spec =

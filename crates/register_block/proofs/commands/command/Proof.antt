@@ -16,7 +16,8 @@ returns-3 c =
     let replied = c .before .before .before in
     let made = replied .before in
     let tested = made .before .before in
-    command-answered _ _ _ _ _ _ (replied .answer-on .result) _ (tested .before .if1 .left) (tested .if2 .left) (made .call-of .ensures) (replied .answer-on .ensures)
+    command-answered _ _ _ _ _ _ (replied .answer-on .result) _ (tested .before .if1 .left) (tested .if2 .left)
+    (made .call-of .ensures) (replied .answer-on .ensures)
     (c .before .show .ensures) (c .unmoved3 .ensures)
 
 pub command-spec : {M : Type 1} → statement M

@@ -11,7 +11,8 @@ array-share-prefix-bytes : tie.Need-array-share-prefix-bytes
 array-share-prefix-bytes c = omega (arith, simp length-map at (c .before .before .good .0 .1 .1 .0 .1 .0 .1))
 
 slice-aggregate-write-all : tie.Need-slice-aggregate-write-all
-slice-aggregate-write-all c = sym (length-take-le _ _ (omega (arith, simp length-map at (c .before .before .before .good .0 .1 .1 .0 .1 .0 .1))))
+slice-aggregate-write-all c = sym (length-take-le _ _
+    (omega (arith, simp length-map at (c .before .before .before .good .0 .1 .1 .0 .1 .0 .1))))
 
 pub print-spec : {M : Type 1} → statement M
 print-spec =

@@ -18,22 +18,49 @@ returns-3 c = rw (ne-eqb _ _ (c .before .before .if1 .left), c .before .if2 .lef
 
 returns-4 : tie.Need-returns-4
 unfolding registerAt
-returns-4 c = rw (ne-eqb _ _ (c .before .before .before .if1 .left), c .before .before .if2 .left, c .before .if3 .left, c .if4 .taken)
+returns-4 c = rw (
+  ne-eqb _ _ (c .before .before .before .if1 .left),
+  c .before .before .if2 .left,
+  c .before .if3 .left,
+  c .if4 .taken,
+)
 
 returns-5 : tie.Need-returns-5
 unfolding registerAt
 returns-5 c =
-    rw (ne-eqb _ _ (c .before .before .before .before .if1 .left), c .before .before .before .if2 .left, c .before .before .if3 .left, c .before .if4 .left, c .if5 .taken)
+    rw (
+      ne-eqb _ _ (c .before .before .before .before .if1 .left),
+      c .before .before .before .if2 .left,
+      c .before .before .if3 .left,
+      c .before .if4 .left,
+      c .if5 .taken,
+    )
 
 returns-6 : tie.Need-returns-6
 unfolding registerAt
 returns-6 c =
-    rw (ne-eqb _ _ (c .before .before .before .before .before .if1 .left), c .before .before .before .before .if2 .left, c .before .before .before .if3 .left, c .before .before .if4 .left, c .before .if5 .left, eq-eqb _ _ (c .if6 .taken))
+    rw (
+      ne-eqb _ _ (c .before .before .before .before .before .if1 .left),
+      c .before .before .before .before .if2 .left,
+      c .before .before .before .if3 .left,
+      c .before .before .if4 .left,
+      c .before .if5 .left,
+      eq-eqb _ _
+          (c .if6 .taken),
+    )
 
 returns-7 : tie.Need-returns-7
 unfolding registerAt
 returns-7 c =
-    rw (ne-eqb _ _ (c .before .before .before .before .before .if1 .left), c .before .before .before .before .if2 .left, c .before .before .before .if3 .left, c .before .before .if4 .left, c .before .if5 .left, ne-eqb _ _ (c .if6 .left))
+    rw (
+      ne-eqb _ _ (c .before .before .before .before .before .if1 .left),
+      c .before .before .before .before .if2 .left,
+      c .before .before .before .if3 .left,
+      c .before .before .if4 .left,
+      c .before .if5 .left,
+      ne-eqb _ _
+          (c .if6 .left),
+    )
 
 pub register-at-spec : {M : Type 1} → statement M
 register-at-spec =

@@ -15,8 +15,10 @@ returns c =
     let a = looked .before .before .args in
     c .with-line .ensures
     ∙ ap withLine (c .before .put-byte .ensures)
-    ∙ stored-at (a .block) (a .offset) (a .value) (made .new-byte .result) (looked .register-at .result) (looked .register-at .ensures)
-    (made .new-byte .ensures ∙ ap (λ (x : ℕ). newByte (looked .register-at .result) x (a .value)) (made .before .byte-at .ensures))
+    ∙ stored-at (a .block) (a .offset) (a .value) (made .new-byte .result) (looked .register-at .result)
+    (looked .register-at .ensures)
+    (made .new-byte .ensures ∙ ap (λ (x : ℕ). newByte (looked .register-at .result) x (a .value))
+    (made .before .byte-at .ensures))
 
 pub store-spec : {M : Type 1} → statement M
 store-spec =

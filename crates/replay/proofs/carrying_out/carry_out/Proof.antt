@@ -9,7 +9,8 @@ returns c =
     let called = c .before .before .before in
     let carried = called .before .before .before in
     let a = carried .before .before .before .before .before .before .args in
-    call-carried _ _ _ _ (a .out .now) (a .at) _ (called .call-line-by .result) _ _ (carried .answer-in-place .ensures) (called .call-line-by .ensures .0)
+    call-carried _ _ _ _ (a .out .now) (a .at) _ (called .call-line-by .result) _ _ (carried .answer-in-place .ensures)
+    (called .call-line-by .ensures .0)
     (called .call-line-by .ensures .1)
     (c .line-size .ensures)
 

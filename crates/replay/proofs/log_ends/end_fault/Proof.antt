@@ -15,13 +15,15 @@ returns-2 : tie.Need-returns-2
 unfolding endFault
 returns-2 c =
     let read = c .before .before in
-    rw (ne-eqb _ 0 (read .before .if1 .left)) (sym (record-is _ _ (read .read-record .ensures) _ (c .enum-told .given .1) .0))
+    rw (ne-eqb _ 0 (read .before .if1 .left))
+    (sym (record-is _ _ (read .read-record .ensures) _ (c .enum-told .given .1) .0))
 
 returns-3 : tie.Need-returns-3
 unfolding endFault
 returns-3 c =
     let read = c .before .before .before in
-    rw (ne-eqb _ 0 (read .before .if1 .left)) (sym (record-refused _ _ (read .read-record .ensures) _ (c .before .found .given .1)))
+    rw (ne-eqb _ 0 (read .before .if1 .left))
+    (sym (record-refused _ _ (read .read-record .ensures) _ (c .before .found .given .1)))
 
 pub end-fault-spec : {M : Type 1} → statement M
 end-fault-spec =

@@ -8,7 +8,8 @@ returns : tie.Need-returns
 returns c = rw (c .before .before .before .before .enum-told .given .1) (c .before .before .first-line .ensures)
 
 returns-2 : tie.Need-returns-2
-returns-2 c = rw (c .before .before .before .before .before .outcome .given .1, number-not-zero _) (c .before .before .refusal-line .ensures)
+returns-2 c = rw (c .before .before .before .before .before .outcome .given .1, number-not-zero _)
+    (c .before .before .refusal-line .ensures)
 
 pub opening-line-spec : {M : Type 1} → statement M
 opening-line-spec =

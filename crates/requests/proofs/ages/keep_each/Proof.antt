@@ -23,7 +23,8 @@ loop-again : tie.Need-loop-again Inv-loop μ-loop
 loop-again c = each-more (c .before .loop-test .taken) (c .before .before .loop .inv)
 
 returns : tie.Need-returns Inv-loop μ-loop
-returns c = is-tabulate maxProcessors _ _ (c .before .loop .inv .full) (each-last (c .loop-test .left) (c .before .loop .inv))
+returns c = is-tabulate maxProcessors _ _ (c .before .loop .inv .full)
+    (each-last (c .loop-test .left) (c .before .loop .inv))
 
 pub keep-each-spec : {M : Type 1} → statement M
 keep-each-spec =

@@ -1,4 +1,4 @@
--- `stamp` meets its contract, by the walk through the places of the mask. Assumes nothing.
+-- `stamp` meets its contract: the walk goes through the places of the mask. Assumes nothing.
 use native.Mathlib.Omega.{arith}
 use borrow.Author.Needs.{needs}
 use Rattle.masks.proofs.Lowest.{rest-less}
@@ -34,7 +34,8 @@ loop-again : tie.Need-loop-again Inv-loop μ-loop
 loop-again c = stored-more (omega arith) (c .before .loop .inv)
 
 returns : tie.Need-returns Inv-loop μ-loop
-returns c = is-tabulate maxProcessors _ _ (c .before .loop .inv .full) (stored-last (c .loop-test .left) (c .before .loop .inv))
+returns c = is-tabulate maxProcessors _ _ (c .before .loop .inv .full)
+    (stored-last (c .loop-test .left) (c .before .loop .inv))
 
 pub stamp-spec : {M : Type 1} → statement M
 stamp-spec =

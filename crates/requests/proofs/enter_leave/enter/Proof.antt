@@ -1,4 +1,4 @@
--- `enter` meets its contract, put together from its parts. Assumes nothing.
+-- `enter` meets its contract, built from those of its parts. Assumes nothing.
 use lib.ListN.{set}
 use borrow.Author.Needs.{needs}
 use Rattle.requests.proofs.enter_leave.Done.{entered-done}

@@ -1,4 +1,4 @@
--- `leave` meets its contract, put together from its parts. Assumes nothing.
+-- `leave` meets its contract, built from those of its parts. Assumes nothing.
 use borrow.Author.Needs.{needs}
 use Rattle.rules.specs.Requests.{factsBy}
 use Rattle.requests.proofs.enter_leave.Done.{left-done}
@@ -9,7 +9,8 @@ returns : tie.Need-returns
 returns c =
     let settles = c .before .before in
     let a = settles .before .before .args in
-    left-done (factsBy (a .rows .now) (a .writes) (a .requested .now) (a .earlier .now)) (a .tick) (a .late) (a .requested .now)
+    left-done (factsBy (a .rows .now) (a .writes) (a .requested .now) (a .earlier .now)) (a .tick) (a .late)
+    (a .requested .now)
     (a .since .now) (a .earlier .now) (settles .before .take-out .ensures) (settles .settle-left .ensures)
     (c .accept .ensures _ _)
 

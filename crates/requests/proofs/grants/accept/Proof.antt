@@ -1,4 +1,4 @@
--- `accept` meets its contract, by the law of the masks and the ticks of grants. Assumes nothing.
+-- `accept` meets its contract, using the law of the masks and the ticks of grants. Assumes nothing.
 use borrow.Author.Needs.{needs}
 use Rattle.requests.proofs.grants.Done.{carried-done}
 use Rattle.requests.proofs.grants.accept.Statement.{statement}

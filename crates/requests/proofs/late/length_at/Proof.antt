@@ -1,4 +1,4 @@
--- `length_at` meets its contract: past the end the list has its default, 0. Assumes nothing.
+-- `length_at` meets its contract: past the end of the list it returns the default, 0. Assumes nothing.
 use mathlib.Core.Path.{sym}
 use lib.ListN.{List·getD-eq-default}
 use borrow.Author.Needs.{needs}

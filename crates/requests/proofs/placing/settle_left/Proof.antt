@@ -1,4 +1,4 @@
--- `settle_left` meets its contract: with nobody unsatisfied settling changes nothing. Assumes nothing.
+-- `settle_left` meets its contract: if nobody is unsatisfied, settling changes nothing. Assumes nothing.
 use borrow.Author.Needs.{needs}
 use Rattle.rules.proofs.Quiet.{quiet-cut}
 use Rattle.requests.proofs.placing.settle_left.Statement.{statement}

@@ -1,5 +1,5 @@
--- `settle_new` meets its contract: on an idle board by the law of a request alone, elsewhere by its parts. Assumes
--- nothing.
+-- `settle_new` meets its contract: on an idle board using the law of a request alone, and otherwise using its parts.
+-- Assumes nothing.
 use mathlib.Core.Path.{ap, _∙_}
 use lib.Dec.{ltb}
 use borrow.Author.Needs.{needs}
@@ -12,9 +12,10 @@ use Rattle.requests.proofs.placing.PutIn.{idle-holds}
 use Rattle.requests.proofs.placing.settle_new.Statement.{statement}
 use Rattle.requests.proofs.placing.settle_new.Tie as tie
 
--- The processor has a place, where nobody is active.
+-- The processor has a place, and nobody is active.
 element-copy-out-if2 : tie.Need-element-copy-out-if2
-element-copy-out-if2 c = ltb-true _ _ (and-left (ltb (c .before .before .before .args .processor) maxProcessors) _ (c .if1 .taken))
+element-copy-out-if2 c = ltb-true _ _ (and-left (ltb (c .before .before .before .args .processor) maxProcessors) _
+    (c .if1 .taken))
 
 returns : tie.Need-returns
 returns c =
@@ -29,9 +30,11 @@ returns-2 : tie.Need-returns-2
 returns-2 c =
     let new = c .before in
     let a = new .before .before .before .before .args in
-    c .settle .ensures ∙ ap (settled (factsBy (a .rows .now) (a .writes) (a .requested .now) (a .earlier .now))) (new .put-in .ensures)
+    c .settle .ensures ∙ ap (settled (factsBy (a .rows .now) (a .writes) (a .requested .now) (a .earlier .now)))
+    (new .put-in .ensures)
 
 pub settle-new-spec : {M : Type 1} → statement M
 settle-new-spec =
     tie.close
-    (tie.spec (λ c. search needs) element-copy-out-if2 (λ c κs. search needs) returns (λ c κs. search needs) (λ c κs. search needs) returns-2)
+    (tie.spec (λ c. search needs) element-copy-out-if2 (λ c κs. search needs) returns (λ c κs. search needs)
+    (λ c κs. search needs) returns-2)

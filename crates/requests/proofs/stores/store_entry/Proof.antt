@@ -1,4 +1,4 @@
--- `store_entry` meets its contract: past the end a list has no place to change. Assumes nothing.
+-- `store_entry` meets its contract: a store past the end of a list changes nothing. Assumes nothing.
 use mathlib.Core.Path.{sym}
 use lib.Seq.{set-out}
 use borrow.Author.Needs.{needs}

@@ -1,4 +1,4 @@
--- `store_tick` meets its contract: past the end a list has no place to change. Assumes nothing.
+-- `store_tick` meets its contract: a store past the end of a list changes nothing. Assumes nothing.
 use mathlib.Core.Path.{sym}
 use lib.Seq.{set-out}
 use borrow.Author.Needs.{needs}
@@ -9,4 +9,5 @@ returns-2 : tie.Need-returns-2
 returns-2 c = sym (set-out _ _ _ (search needs))
 
 pub store-tick-spec : {M : Type 1} → statement M
-store-tick-spec = tie.close (tie.spec (λ c. search needs) (λ c. search needs) (λ c. search needs) (λ c. search needs) returns-2)
+store-tick-spec = tie.close (tie.spec (λ c. search needs) (λ c. search needs) (λ c. search needs)
+    (λ c. search needs) returns-2)

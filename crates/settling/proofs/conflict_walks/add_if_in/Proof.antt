@@ -1,4 +1,4 @@
--- `add_if_in` meets its contract, by the law of digits at 32 bits. Assumes nothing.
+-- `add_if_in` meets its contract, using the law of digits at 32 bits. Assumes nothing.
 use native.Mathlib.Omega.{arith}
 use Rattle.masks.specs.Sets.{bit}
 use Rattle.masks.proofs.Digits.{digit-lt}

@@ -1,5 +1,4 @@
--- `clear_of` meets its contract, by the walk that keeps the candidates whose row does not meet the set. Assumes
--- nothing.
+-- `clear_of` meets its contract: the walk keeps the candidates whose row does not meet the set. Assumes nothing.
 use mathlib.Core.Bool.{not}
 use native.Mathlib.Omega.{arith}
 use lib.ListN.{getD}

@@ -1,4 +1,4 @@
--- `entries_of` meets its contract, by the walk that gathers the entries. Assumes nothing.
+-- `entries_of` meets its contract: the walk gathers the entries. Assumes nothing.
 use mathlib.Core.Path.{ap, _∙_}
 use Prim.Native.Nat.{ℕ}
 use native.Mathlib.Omega.{arith}

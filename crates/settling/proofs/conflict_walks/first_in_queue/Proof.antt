@@ -1,5 +1,5 @@
--- `first_in_queue` meets its contract, by the walk that keeps the candidates whose row has no entry of those before
--- them. Assumes nothing.
+-- `first_in_queue` meets its contract: the walk keeps the candidates whose row contains no entry of the earlier ones.
+-- Assumes nothing.
 use mathlib.Core.Path.{_≡_, ap, _∙_}
 use mathlib.Core.Bool.{Bool, cond, not, _&&_}
 use mathlib.Core.List.{[]}
@@ -21,18 +21,18 @@ use Rattle.settling.proofs.conflict_walks.first_in_queue.Statement.{sta
 use Rattle.settling.proofs.conflict_walks.first_in_queue.Tie as tie
 
 module _ (f : Facts) (others : ℕ) where
-  -- An earlier one of the others conflicts with p's request.
+  -- An earlier request of the others conflicts with p's.
   abbrev opposed : ℕ → Bool
   opposed p = against f p (λ q. isEarlier f q p && bit others q)
 
-  -- The code joins two masks, and the definition asks of both.
+  -- The code intersects two masks, and the definition tests both.
   both-masks : (p row : ℕ) → row ≡ getD (f .rows) (entryOf f p) 0
       → some maxProcessors (λ q. bit (bitAnd (getD (f .earlier) p 0) others) q && bit row (entryOf f q)) ≡ opposed p
   both-masks p row e =
       ap (λ (x : ℕ). some maxProcessors (λ q. bit (bitAnd (getD (f .earlier) p 0) others) q && bit x (entryOf f q))) e
       ∙ some-agree maxProcessors _ _ (λ q l. ap (λ t. t && conflicts f p q) (bit-and (getD (f .earlier) p 0) others q))
 
-  -- The candidate is kept where its row has no entry of those before it.
+  -- The candidate is kept if its row contains no entry of the earlier ones.
   kept-where : {row : ℕ} {before : Bool} (next out p : ℕ) → row ≡ getD (f .rows) (entryOf f p) 0
       → before ≡ some maxProcessors (λ q. bit (bitAnd (getD (f .earlier) p 0) others) q && bit row (entryOf f q))
       → next ≡ cond (not before) (added out p) out → next ≡ cond (not (opposed p)) (added out p) out
@@ -40,7 +40,8 @@ module _ (f : Facts) (others : ℕ) where
 
 abbrev Inv-loop : tie.InvT-loop
 Inv-loop rows entry earlier candidates others out₀ left₀ out left =
-    Kept maxProcessors 32 (λ p. not (opposed (factsBy rows 0 entry earlier) others p)) candidates left out × Known entry left
+    Kept maxProcessors 32 (λ p. not (opposed (factsBy rows 0 entry earlier) others p)) candidates left out
+    × Known entry left
 
 abbrev μ-loop : tie.MeasureT-loop
 μ-loop rows entry earlier candidates others out₀ left₀ out left = left
@@ -70,7 +71,8 @@ loop-again c =
     let loop = row .before .before .loop in
     let a = row .before .before .before .args in (
       kept-more _ (omega arith) (loop .inv .0)
-          (kept-where (factsBy (a .rows .now) 0 (a .requested .now) (a .earlier .now)) (a .others) _ (loop .out) _ (row .row-at .ensures)
+          (kept-where (factsBy (a .rows .now) 0 (a .requested .now) (a .earlier .now)) (a .others) _ (loop .out) _
+          (row .row-at .ensures)
           (c .before .in-row .ensures) (c .add-if .ensures)),
       known-and _ (loop .inv .1),
     )

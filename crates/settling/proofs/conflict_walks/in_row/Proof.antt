@@ -1,5 +1,4 @@
--- `in_row` meets its contract, by the search that stops at the first processor whose entry is in the row. Assumes
--- nothing.
+-- `in_row` meets its contract: the search stops at the first processor whose entry is in the row. Assumes nothing.
 use native.Mathlib.Omega.{arith}
 use lib.ListN.{getD}
 use borrow.Author.Tests.{eq-eqb, ne-eqb}
@@ -15,7 +14,8 @@ use Rattle.settling.proofs.conflict_walks.in_row.Statement.{statement}
 use Rattle.settling.proofs.conflict_walks.in_row.Tie as tie
 
 abbrev Inv-loop : tie.InvT-loop
-Inv-loop row entry among left₀ left = Sought maxProcessors 32 (λ q. bit row (getD entry q 0)) among left × Known entry left
+Inv-loop row entry among left₀ left = Sought maxProcessors 32 (λ q. bit row (getD entry q 0)) among left
+    × Known entry left
 
 abbrev μ-loop : tie.MeasureT-loop
 μ-loop row entry among left₀ left = left
@@ -32,13 +32,17 @@ shr-if1 c = rw (c .entry-at .ensures) (lowest-entry (c .before .before .loop .in
 returns : tie.Need-returns Inv-loop μ-loop
 unfolding bit
 returns c =
-    sought-found (c .before .before .before .loop .inv .0) (omega arith) (rw (← c .before .entry-at .ensures) (eq-eqb _ _ (c .if1 .taken)))
+    sought-found (c .before .before .before .loop .inv .0) (omega arith)
+    (rw (← c .before .entry-at .ensures) (eq-eqb _ _ (c .if1 .taken)))
 
 loop-again : tie.Need-loop-again Inv-loop μ-loop
 unfolding bit
 loop-again c =
-    let inv = c .before .before .before .loop .inv in
-    (sought-more (inv .0) (omega arith) (rw (← c .before .entry-at .ensures) (ne-eqb _ _ (c .if1 .left))), known-and _ (inv .1))
+    let inv = c .before .before .before .loop .inv in (
+      sought-more (inv .0) (omega arith) (rw (← c .before .entry-at .ensures) (ne-eqb _ _ (c .if1 .left))),
+      known-and _
+          (inv .1),
+    )
 
 returns-2 : tie.Need-returns-2 Inv-loop μ-loop
 returns-2 c = sought-last (c .before .loop .inv .0) (c .loop-test .left)

@@ -1,4 +1,4 @@
--- `known_among` meets its contract, by the walk that keeps the processors whose entry is in the set. Assumes nothing.
+-- `known_among` meets its contract: the walk keeps the processors whose entry is in the set. Assumes nothing.
 use native.Mathlib.Omega.{arith}
 use lib.ListN.{getD}
 use Rattle.masks.specs.Sets.{bit}
@@ -31,8 +31,11 @@ add-if-in-requires c κs =
 
 loop-again : tie.Need-loop-again Inv-loop μ-loop
 loop-again c =
-    let inv = c .before .before .before .loop .inv in
-    (kept-more _ (omega arith) (inv .0) (rw (← c .before .entry-at .ensures) (c .add-if-in .ensures)), known-and _ (inv .1))
+    let inv = c .before .before .before .loop .inv in (
+      kept-more _ (omega arith) (inv .0) (rw (← c .before .entry-at .ensures) (c .add-if-in .ensures)),
+      known-and _
+          (inv .1),
+    )
 
 returns : tie.Need-returns Inv-loop μ-loop
 returns c = kept-last (c .loop-test .left) (c .before .loop .inv .0)
@@ -40,5 +43,6 @@ returns c = kept-last (c .loop-test .left) (c .before .loop .inv .0)
 pub known-among-spec : {M : Type 1} → statement M
 known-among-spec =
     tie.close
-    (tie.spec Inv-loop μ-loop loop-holds entry-at-requires add-if-in-requires (λ c. omega arith) (λ c. rest-less _ (omega arith))
+    (tie.spec Inv-loop μ-loop loop-holds entry-at-requires add-if-in-requires (λ c. omega arith)
+    (λ c. rest-less _ (omega arith))
     loop-again returns)

@@ -1,4 +1,5 @@
--- `processors_of` meets its contract, for fewer than a state holds and for all. Assumes nothing.
+-- `processors_of` meets its contract, for fewer processors than a state has places for, and for as many or more.
+-- Assumes nothing.
 use mathlib.Core.Path.{refl, sym, ap, _∙_}
 use Prim.Native.Nat.{ℕ, _-_}
 use native.Mathlib.Omega.{arith}
@@ -16,11 +17,13 @@ sub-result c = rw (one-shifted 32 (c .before .before .args .terms .processors) (
 
 returns : tie.Need-returns
 returns c =
-    ap (λ (x : ℕ). x - 1) (one-shifted 32 _ (omega arith)) ∙ processors-are (c .before .before .args .terms) _ (omega arith) (λ k l. refl)
+    ap (λ (x : ℕ). x - 1) (one-shifted 32 _ (omega arith))
+    ∙ processors-are (c .before .before .args .terms) _ (omega arith) (λ k l. refl)
 
 returns-2 : tie.Need-returns-2
 returns-2 c =
-    processors-are (c .before .before .args .terms) maxProcessors (omega arith) (λ k l. lt-ltb k maxProcessors l ∙ sym (lt-ltb k _ (omega arith)))
+    processors-are (c .before .before .args .terms) maxProcessors (omega arith)
+    (λ k l. lt-ltb k maxProcessors l ∙ sym (lt-ltb k _ (omega arith)))
 
 pub processors-of-spec : {M : Type 1} → statement M
 processors-of-spec =

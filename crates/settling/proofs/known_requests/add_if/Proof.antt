@@ -1,4 +1,4 @@
--- `add_if` meets its contract: one place below 32, as a set, is not shifted out. Assumes nothing.
+-- `add_if` meets its contract: the bit of a place below 32 is not shifted out. Assumes nothing.
 use borrow.Author.Tests.{lt-ltb}
 use borrow.Author.Needs.{needs}
 use Rattle.masks.proofs.Shifts.{adds}

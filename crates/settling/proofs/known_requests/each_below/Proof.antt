@@ -1,4 +1,4 @@
--- `each_below` meets its contract, by the walk that keeps those whose entries are below the count. Assumes nothing.
+-- `each_below` meets its contract: the walk keeps those whose entries are below the count. Assumes nothing.
 use native.Mathlib.Omega.{arith}
 use lib.Dec.{ltb}
 use lib.ListN.{getD}

@@ -1,4 +1,4 @@
--- `entries_below` meets its contract: where the largest entry is below the count, all are. Assumes nothing.
+-- `entries_below` meets its contract: if the largest entry is below the count, all are. Assumes nothing.
 use native.Mathlib.Omega.{arith}
 use lib.ListN.{getD}
 use borrow.Author.Needs.{needs}
@@ -9,7 +9,8 @@ use Rattle.settling.proofs.known_requests.entries_below.Tie as tie
 returns : tie.Need-returns
 returns c =
     let a = c .before .before .args in
-    among-below (λ k. getD (a .requested .now) k 0) _ (a .count) (c .before .largest .ensures) (omega (arith, c .if1 .taken)) (a .among)
+    among-below (λ k. getD (a .requested .now) k 0) _ (a .count) (c .before .largest .ensures)
+    (omega (arith, c .if1 .taken)) (a .among)
 
 pub entries-below-spec : {M : Type 1} → statement M
 entries-below-spec =

@@ -1,4 +1,4 @@
--- `largest` meets its contract. The loop's invariant: no entry passed is above it. Assumes nothing.
+-- `largest` meets its contract. The loop's invariant: no entry passed so far is above it. Assumes nothing.
 use Prim.Native.Nat.{ℕ, _+_, _<_, _≤_, _-_}
 use mathlib.Core.Path.{_≡_, refl, sym, subst}
 use mathlib.Core.Bool.{Bool, true, false}
@@ -42,5 +42,6 @@ returns c = λ k l. c .before .loop .inv .1 k (omega (arith, c .loop-test .left)
 pub largest-spec : {M : Type 1} → statement M
 largest-spec =
     tie.close
-    (tie.spec Inv-loop μ-loop loop-holds (λ c. search needs) (λ c κs. search needs) (λ c. omega arith) (λ c. omega arith)
+    (tie.spec Inv-loop μ-loop loop-holds (λ c. search needs) (λ c κs. search needs) (λ c. omega arith)
+    (λ c. omega arith)
     loop-again returns)

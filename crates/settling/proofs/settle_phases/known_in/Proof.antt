@@ -1,4 +1,4 @@
--- `known_in` meets its contract, by what a slice tells of its length and of each number in it. Assumes nothing.
+-- `known_in` meets its contract, using the length of a slice and the range of each number in it. Assumes nothing.
 use mathlib.Core.Path.{ap, _∙_}
 use Prim.Native.Nat.{ℕ}
 use native.Mathlib.Omega.{arith}
@@ -14,7 +14,8 @@ returns : tie.Need-returns
 returns c =
     let known = c .before in
     let a = known .before .args in (
-      c .all-below .ensures ∙ ap (λ (n : ℕ). maskOf maxProcessors (λ p. ltb (getD (a .requested .now) p 0) n)) (known .before .pre),
+      c .all-below .ensures ∙ ap (λ (n : ℕ). maskOf maxProcessors (λ p. ltb (getD (a .requested .now) p 0) n))
+          (known .before .pre),
       record { count = known .before .pre; places = λ e. known .shared-slice-known .given e .fits },
     )
 

@@ -1,4 +1,4 @@
--- `settle` meets its contract, by the four steps. Assumes nothing.
+-- `settle` meets its contract, using that of `four_steps`. Assumes nothing.
 use Rattle.rules.proofs.Quiet.{cut-follows}
 use Rattle.settling.proofs.settle_phases.settle.Statement.{statement}
 use Rattle.settling.proofs.settle_phases.settle.Tie as tie

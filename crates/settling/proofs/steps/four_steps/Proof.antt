@@ -6,7 +6,8 @@ use Rattle.rules.specs.Settling.{settled}
 use Rattle.rules.specs.inner.Moves.{Known}
 use Rattle.rules.proofs.FourSteps.{at-last}
 use Rattle.rules.proofs.Known.{known-all, known-kept, and-known, known-and, known-or}
-use Rattle.settling.proofs.settle_phases.KnownSteps.{known-writes, at-known, known-after1, known-after2, known-after3, known-after4}
+use Rattle.settling.proofs.settle_phases.KnownSteps.{known-writes, at-known, known-after1, known-after2}
+use Rattle.settling.proofs.settle_phases.KnownSteps.{known-after3, known-after4}
 use Rattle.settling.proofs.steps.four_steps.Statement.{statement}
 use Rattle.settling.proofs.steps.four_steps.Tie as tie
 
@@ -17,7 +18,8 @@ writes c =
     known-writes (factsBy (a .rows .now) (a .writes) (a .requested .now) (a .earlier .now))
     (bitOr (bitOr (a .waiting) (a .entitled)) (a .holding)) (c .before .pre .0) (c .known-among .ensures)
 
-reads : (c : tie.After-known-among) → Known (c .before .args .requested .now) (without 32 (c .before .args .known) (c .known-among .result))
+reads : (c : tie.After-known-among) → Known (c .before .args .requested .now)
+    (without 32 (c .before .args .known) (c .known-among .result))
 reads c = known-and _ (known-all (c .before .pre .0))
 
 among-known : tie.Need-known-among-requires
@@ -47,7 +49,8 @@ line-known c κs =
     let free = c .before in
     let w = writes (free .before .before) in
     let a = free .before .before .before .args in
-    let waiting = without 32 (a .waiting) (bitOr (without 32 (bitOr (a .waiting) (a .entitled)) (a .known)) (free .unopposed2 .result)) in
+    let waiting = without 32 (a .waiting) (bitOr (without 32 (bitOr (a .waiting) (a .entitled)) (a .known))
+    (free .unopposed2 .result)) in
     (known-kept _ (and-known waiting w) (c .unopposed3 .ensures), search and-known)
 
 granted-known : tie.Need-unopposed-requires-4

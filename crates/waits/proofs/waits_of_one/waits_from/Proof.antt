@@ -20,7 +20,8 @@ returns c writes are =
     let start = waiting .before in
     let a = start .args in
     let holding-fits : a .phases .holding < 2 ^ 32 = omega (arith, first .before .struct-known .given) in
-    waits-mask (factsBy (a .rows .now) writes (a .requested .now) (a .earlier .now)) (a .phases) (a .writers) (a .p) are (start .pre) holding-fits
+    waits-mask (factsBy (a .rows .now) writes (a .requested .now) (a .earlier .now)) (a .phases) (a .writers) (a .p) are
+    (start .pre) holding-fits
     (start .fits .writers .fits) _ _ _ _ _ _ _
     (waiting .has32 .ensures) (entitled .has322 .ensures) (write .has323 .ensures)
     (first .join-if .ensures) (second .join-if2 .ensures) (third .join-if3 .ensures) (fourth .join-if4 .ensures) _ _

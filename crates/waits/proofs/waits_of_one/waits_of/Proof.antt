@@ -1,4 +1,4 @@
--- `waits_of` meets its contract, from who writes. Assumes nothing.
+-- `waits_of` meets its contract, using the writers. Assumes nothing.
 use native.Mathlib.Omega.{arith}
 use borrow.Author.Tests.{lt-ltb, le-ltb}
 use borrow.Author.Needs.{needs}

@@ -1,4 +1,4 @@
--- `writers_of` meets its contract: the phases joined are the active ones. Assumes nothing.
+-- `writers_of` meets its contract: the union of the phases is the active processors. Assumes nothing.
 use mathlib.Core.Path.{ap, _∙_}
 use mathlib.Core.Bool.{_&&_}
 use lib.ListN.{getD}
@@ -14,7 +14,8 @@ returns : tie.Need-returns
 returns c =
     let a = c .before .before .before .args in
     c .those-in .ensures
-    ∙ mask-agree maxProcessors _ _ (λ q l. ap (λ t. t && bit (a .writes) (getD (a .requested .now) q 0)) (bit-active (a .phases) q))
+    ∙ mask-agree maxProcessors _ _ (λ q l. ap (λ t. t && bit (a .writes) (getD (a .requested .now) q 0))
+    (bit-active (a .phases) q))
 
 pub writers-of-spec : {M : Type 1} → statement M
 writers-of-spec = tie.close (tie.spec (λ c κs. search needs) returns)
