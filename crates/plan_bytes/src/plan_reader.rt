@@ -65,7 +65,8 @@ fn whole(bytes: &[u8], entries: [Entry; MAX_ENTRIES], taken: usize) -> Read
 fn read_entries(bytes: &[u8]) -> Read
     requires { ⌜ CountsThere (now bytes) ⌝ }
     ensures outcome { λ r. ⌜
-        outcomeAsNumbers (r .outcome) ≡ asNumbers (bodyFault (now (bytes .entry))) (planSize (planIn (now (bytes .entry))))
+        outcomeAsNumbers (r .outcome)
+        ≡ asNumbers (bodyFault (now (bytes .entry))) (planSize (planIn (now (bytes .entry))))
         ⌝ }
     ensures plan { λ r. ⌜
         r .plan ≡ cond (eqb (bodyFault (now (bytes .entry))) 0) (planIn (now (bytes .entry))) blankPlan

@@ -21,8 +21,10 @@ pub fn accept(
     since: &mut [u64; MAX_PROCESSORS],
     late: u8,
 ) -> Effect
-    ensures { λ r. ⌜ ((requested : List ℕ) (earlier : List ℕ) → effectAsNumbers r tick requested (now (since .exit)) earlier
-        ≡ done (stateBy (record { last = tick; phases = before }) requested (now (since .entry)) earlier) after late) ⌝ }
+    ensures { λ r. ⌜ ((requested : List ℕ) (earlier : List ℕ)
+        → effectAsNumbers r tick requested (now (since .exit)) earlier
+        ≡ done (stateBy (record { last = tick; phases = before }) requested (now (since .entry)) earlier)
+        after late) ⌝ }
 {
     let granted = without32(after.holding, before.holding);
     stamp(since, granted, tick);

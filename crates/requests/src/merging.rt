@@ -10,9 +10,11 @@ ghost use Rattle.requests.specs.Effect.{effectAsNumbers};
 // The second comes right after the first. A processor that is no longer entitled after both is not in the entitled
 // mask.
 pub fn merge(first: Effect, second: Effect) -> Effect
-    ensures { λ r. ⌜ ((tick : ℕ) (requested requested₂ : List ℕ) (since since₂ : List ℕ) (earlier earlier₂ : List ℕ)
+    ensures { λ r. ⌜ ((tick : ℕ) (requested requested₂ : List ℕ)
+        (since since₂ : List ℕ) (earlier earlier₂ : List ℕ)
         → effectAsNumbers r tick requested₂ since₂ earlier₂
-        ≡ both (effectAsNumbers first tick requested since earlier) (effectAsNumbers second tick requested₂ since₂ earlier₂)) ⌝ }
+        ≡ both (effectAsNumbers first tick requested since earlier)
+        (effectAsNumbers second tick requested₂ since₂ earlier₂)) ⌝ }
 {
     let granted = first.granted;
     let granted_later = second.granted;
