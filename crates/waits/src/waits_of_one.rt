@@ -32,7 +32,7 @@ pub fn writers_of(writes: u64, requested: &[u8; MAX_PROCESSORS], phases: Phases)
 }
 
 // The entries that an entry conflicts with.
-fn row_of(rows: &[u64; MAX_ENTRIES], entry: u8) -> u64
+pub fn row_of(rows: &[u64; MAX_ENTRIES], entry: u8) -> u64
     ensures { λ r. ⌜ r ≡ getD (now (rows .entry)) entry 0 ⌝ }
 {
     row_at(rows, entry as u32)
@@ -40,7 +40,7 @@ fn row_of(rows: &[u64; MAX_ENTRIES], entry: u8) -> u64
 
 // The direct waits of processor p, given the writers: those that it waits for in each of the four cases, if their
 // requests conflict with its own.
-pub fn waits_from(
+fn waits_from(
     rows: &[u64; MAX_ENTRIES],
     requested: &[u8; MAX_PROCESSORS],
     earlier: &[u32; MAX_PROCESSORS],

@@ -24,7 +24,7 @@ joined-place : (before set after k : ℕ) (t u v : Bool) → after ≡ cond t (b
 joined-place before set after k t u v e f g =
     ap (λ (x : ℕ). bit x k) e ∙ bit-or-if before set k t ∙ ap₂ (λ x y. x || (t && y)) f g
 
-left-to-right : (a b c d : Bool) → (a || b || c || d) ≡ (a || (b || (c || d)))
+pub left-to-right : (a b c d : Bool) → (a || b || c || d) ≡ (a || (b || (c || d)))
 left-to-right a b c d = or-assoc (a || b) c d ∙ or-assoc a b (c || d)
 
 each-way : (a x b y c z d u k : Bool)
@@ -34,7 +34,7 @@ each-way a x b y c z d u true = simp and-true
 each-way a x b y c z d u false = simp and-false
 
 -- The code searches only the active writers. Every test of a writer also tests a phase, so the result is the same.
-active-sides : (ep wp ap eq hq aq Wp Wq before k : Bool) → (ep ≡ true → ap ≡ true) → (wp ≡ true → ap ≡ true)
+pub active-sides : (ep wp ap eq hq aq Wp Wq before k : Bool) → (ep ≡ true → ap ≡ true) → (wp ≡ true → ap ≡ true)
     → (eq ≡ true → aq ≡ true) → (hq ≡ true → aq ≡ true)
     → (ep && not (ap && Wp) && (hq && (aq && Wq) && k) || (wp && not (ap && Wp) && (eq && (aq && Wq) && k)
     || (ep && (ap && Wp) && (hq && not (aq && Wq) && k) || wp && (ap && Wp) && (before && (aq && Wq) && k))))
@@ -51,11 +51,14 @@ active-sides ep wp ap eq hq aq Wp Wq before k e w f h =
       within-and eq aq Wq f,
     )
 
+-- The places of the mask of writers.
+pub is-writer : (f : Facts) (ph : Phases) (writers : ℕ) → writers ≡ writersIn f ph → (k : ℕ) → k < maxProcessors
+    → bit writers k ≡ (active ph k && isWriter f k)
+is-writer f ph writers are k l =
+    ap (λ (x : ℕ). bit x k) are ∙ bit-mask-at maxProcessors (λ q. active ph q && isWriter f q) k l
+
 module _ (f : Facts) (ph : Phases) (writers p : ℕ) (are : writers ≡ writersIn f ph) (below : p < maxProcessors)
     (h : ph .holding < 2 ^ 32) (hw : writers < 2 ^ 32) where
-  is-writer : (k : ℕ) → k < maxProcessors → bit writers k ≡ (active ph k && isWriter f k)
-  is-writer k l = ap (λ (x : ℕ). bit x k) are ∙ bit-mask-at maxProcessors (λ q. active ph q && isWriter f q) k l
-
   module _ (first second third others : ℕ) (waiting entitled write : Bool)
       (ew : waiting ≡ bit (ph .waiting) p) (ee : entitled ≡ bit (ph .entitled) p) (er : write ≡ bit writers p)
       (e1 : first ≡ cond (entitled && not write) (bitOr 0 (bitAnd (ph .holding) writers)) 0)
@@ -89,7 +92,7 @@ module _ (f : Facts) (ph : Phases) (writers p : ℕ) (are : writers ≡ writersI
         (bit (ph .entitled) q && bit writers q)
         (entitled && write) (bit (ph .holding) q && not (bit writers q)) (waiting && write)
         (isEarlier f q p && bit writers q) (conflicts f p q)
-        ∙ rw (ew, ee, er, is-writer p below, is-writer q l)
+        ∙ rw (ew, ee, er, is-writer f ph writers are p below, is-writer f ph writers are q l)
         (active-sides (bit (ph .entitled) p) (bit (ph .waiting) p) (active ph p) (bit (ph .entitled) q)
         (bit (ph .holding) q) (active ph q)
         (isWriter f p) (isWriter f q) (isEarlier f q p) (conflicts f p q) (entitled-active ph p) (waiting-active ph p)
