@@ -10,7 +10,7 @@
 
 int main(int argc, char **argv)
 {
-    static uint8_t bytes[707]; /* the longest plan */
+    static uint8_t bytes[BITTMELON_MAX_PLAN_BYTES]; /* the longest plan */
     FILE *file = argc == 2 ? fopen(argv[1], "rb") : NULL;
     if (!file) {
         fprintf(stderr, "usage: plan_figures FILE\n");
