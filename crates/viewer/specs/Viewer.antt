@@ -9,10 +9,10 @@ use Rattle.plans.specs.Reading.{readFault, planRead}
 abbrev pub planRefusal : List ℕ → ℕ
 planRefusal s = readFault s
 
--- Clause 7.6: the read figure, or 0 for a refused plan. The figure of an accepted plan can be 0 too.
+-- Clause 7.6: the read figure, or 0 for a refused plan. That of an accepted plan is never 0.
 unfoldable pub planReadFigure : List ℕ → ℕ
 planReadFigure s = asNumbers (readFault s) (readFigure (planRead s)) .value
 
--- Clause 7.6: the write figure, or 0 for a refused plan.
+-- Clause 7.6: the write figure, or 0 for a refused plan. That of an accepted plan is 0 too if it has one processor.
 unfoldable pub planWriteFigure : List ℕ → ℕ
 planWriteFigure s = asNumbers (readFault s) (writeFigure (planRead s)) .value
