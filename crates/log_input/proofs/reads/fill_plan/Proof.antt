@@ -1,9 +1,11 @@
--- `reads::fill_plan` lends only parts that exist, and it ends: each read but the last adds a byte. Assumes nothing.
+-- `reads::fill_plan` meets its contract, and it ends: each read but the last adds a byte. Assumes nothing.
 use Prim.Native.Nat.{_≤_, _-_}
-use mathlib.Core.Path.{_≡_, refl, sym, _∙_}
+use mathlib.Core.Path.{_≡_, refl, ap, sym, _∙_}
+use mathlib.Core.Bool.{false≢true}
 use native.Mathlib.Omega.{arith}
 use lib.ListN.{length}
 use lib.Seq.{length-take-le}
+use Rattle.log_input.specs.Stages.{isShort}
 use Rattle.log_input.proofs.reads.fill_plan.Statement.{statement}
 use Rattle.log_input.proofs.reads.fill_plan.Tie as tie
 
@@ -29,7 +31,18 @@ returns c =
     let read = c .before .before .before .before in
     let inv = read .before .before .before .before .before .before .loop .inv in
     let long = read .read-behind .kept .1 .0 in
-    (omega (arith, inv .0, long), long ∙ inv .1)
+    let short = ap isShort (read .read-behind .ensures .1 .0) ∙ sym (read .before .before .before .is-short .ensures)
+    ∙ read .before .before .if1 .taken in
+    (omega (arith, inv .0, long), (long ∙ inv .1, λ e. (omega (arith, inv .0, long), short)))
+
+returns-2 : tie.Need-returns-2 Inv-loop μ-loop
+returns-2 c =
+    let inv = c .before .before .before .before .loop .inv in
+    (inv .0, (inv .1, λ e. absurd (false≢true e)))
+
+returns-3 : tie.Need-returns-3 Inv-loop μ-loop
+returns-3 c =
+    let inv = c .before .loop .inv in (inv .0, (inv .1, λ e. absurd (false≢true e)))
 
 loop-again : tie.Need-loop-again Inv-loop μ-loop
 loop-again c =
@@ -59,6 +72,6 @@ fill-plan-spec =
     loop-less
     loop-again
     (λ c. c .before .before .before .before .loop .inv .1)
-    (λ c. c .before .before .before .before .loop .inv)
+    returns-2
     (λ c. c .before .loop .inv .1)
-    (λ c. c .before .loop .inv))
+    returns-3)

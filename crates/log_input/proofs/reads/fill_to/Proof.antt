@@ -1,22 +1,26 @@
 -- `reads::fill_to` meets its contract, and it ends: each read but the last adds a byte. Assumes nothing.
-use Prim.Native.Nat.{_≤_, _-_, min}
+use Prim.Native.Nat.{_≤_, _-_}
 use mathlib.Core.Path.{_≡_, refl, _∙_}
+use mathlib.Core.Bool.{false≢true}
 use native.Mathlib.Omega.{arith}
 use lib.ListN.{length, take}
+use Rattle.log_input.specs.Reads.{atHand}
 use Rattle.log_input.proofs.front_bytes.Copies.{front-kept}
 use Rattle.log_input.proofs.reads.fill_to.Statement.{statement}
 use Rattle.log_input.proofs.reads.fill_to.Tie as tie
 
+-- The last part: with enough bytes at hand there is no turn.
 abbrev Inv-loop : tie.InvT-loop
 Inv-loop input buffer₀ first needed most have₀ buffer have =
-    (have ≤ length buffer) × ((min first (length buffer) ≤ have)
-    × ((length buffer ≡ length buffer₀) × (take first buffer ≡ take first buffer₀)))
+    (have ≤ length buffer) × ((atHand first buffer₀ ≤ have)
+    × ((length buffer ≡ length buffer₀) × ((take first buffer ≡ take first buffer₀)
+    × (most ≤ atHand first buffer₀ → (buffer ≡ buffer₀) × (have ≡ atHand first buffer₀)))))
 
 abbrev μ-loop : tie.MeasureT-loop
 μ-loop input buffer₀ first needed most have₀ buffer have = most - have
 
 loop-holds : tie.Need-loop-holds Inv-loop μ-loop
-loop-holds c = (omega arith, (omega arith, (refl, refl)))
+loop-holds c = (omega arith, (omega arith, (refl, (refl, λ h. (refl, omega arith)))))
 
 read-behind-requires : tie.Need-read-behind-requires Inv-loop μ-loop
 read-behind-requires c κs = c .before .before .loop .inv .0
@@ -32,10 +36,13 @@ returns c =
     let loop = read .before .before .before in
     let inv = loop .loop .inv in
     let first = loop .before .before .before .before .args .first in
-    let within : first ≤ loop .loop .have = omega arith in (
-      omega (arith, inv .0, read .read-behind .kept .1 .0),
-      front-kept _ _ first _ within (read .read-behind .ensures .1)
-          ∙ inv .1 .1 .1,
+    let within : first ≤ loop .loop .have = omega arith in
+    let long = read .read-behind .kept .1 .0 in (
+      omega (arith, inv .0, long),
+      (
+        front-kept _ _ first _ within (read .read-behind .ensures .1 .0) ∙ inv .1 .1 .1 .0,
+        (long ∙ inv .1 .1 .0, (inv .1 .0, (λ h. absurd (omega arith), λ e. omega arith))),
+      ),
     )
 
 loop-again : tie.Need-loop-again Inv-loop μ-loop
@@ -49,7 +56,23 @@ loop-again c =
       read .read-behind .ensures .0,
       (
         omega (arith, inv .1 .0, long),
-        (long ∙ inv .1 .1 .0, front-kept _ _ first _ within (read .read-behind .ensures .1) ∙ inv .1 .1 .1),
+        (
+          long ∙ inv .1 .1 .0,
+          (
+            front-kept _ _ first _ within (read .read-behind .ensures .1 .0) ∙ inv .1 .1 .1 .0,
+            λ h. absurd (omega arith),
+          ),
+        ),
+      ),
+    )
+
+returns-2 : tie.Need-returns-2 Inv-loop μ-loop
+returns-2 c =
+    let inv = c .before .loop .inv in (
+      inv .0,
+      (
+        inv .1 .1 .1 .0,
+        (inv .1 .1 .0, (inv .1 .0, (λ h. inv .1 .1 .1 .1 (omega arith), λ e. absurd (false≢true e)))),
       ),
     )
 
@@ -69,4 +92,4 @@ fill-to-spec =
     (λ c. omega arith)
     loop-again
     (λ c. c .before .loop .inv .1 .1 .0)
-    (λ c. (c .before .loop .inv .0, c .before .loop .inv .1 .1 .1)))
+    returns-2)
