@@ -1,12 +1,13 @@
 -- The three demands, each with the definitions that state it and the theorem or promise that meets it. Theorems of
 -- other files are passed on from here: the round trips of demand 2, what a handover does, demand 3, freedom from
--- deadlock, what the list of the whole board contains for each processor, and runs of steps on a register block.
--- Assumes nothing.
+-- deadlock, that a withdrawn request never holds, what the list of the whole board contains for each processor, and runs
+-- of steps on a register block. Assumes nothing.
 pub use Rattle.plans.proofs.RoundTrip.{written-in-buffer, written-back}
 pub use Rattle.runs.proofs.Handover.{leaves-what-both-leave, grants-of-both, entitlements-of-both}
 pub use Rattle.demands.proofs.Handover.{handover-grants, handover-entitles}
 pub use Rattle.runs.proofs.refinement.WholeRuns.{whole-runs}
 pub use Rattle.runs.proofs.Freedom.{no-deadlock}
+pub use Rattle.runs.proofs.NeverHolds.{withdrawn-never-holds}
 pub use Rattle.queries.proofs.WholeBoard.{part-is-queries}
 pub use Rattle.register_runs.proofs.Runs.{pending-are-grants, grant-stays, line-is-right, calls-of-run, register-runs}
 use Prim.Native.Nat.{ℕ, _<_}

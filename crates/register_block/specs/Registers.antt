@@ -15,16 +15,16 @@ use Rattle.registers.specs.Registers.{pendingIn, withLine}
 abbrev pub withMask : ℕ → ℕ → List ℕ → List ℕ
 withMask at mask bytes = overwritten bytes at (bytesOf 4 mask)
 
--- Clause 10.8: the granted processors are added to the pending ones.
-unfoldable pub joined : ℕ → ℕ → ℕ
-joined pending granted = maskOf 32 (λ p. bit pending p || bit granted p)
+-- Clause 10.8: of w processors, the granted ones are added to the pending ones.
+unfoldable pub joined : ℕ → ℕ → ℕ → ℕ
+joined w pending granted = maskOf w (λ p. bit pending p || bit granted p)
 
 -- Clause 10.8: an accepted command leaves 0 as the last refusal, its late, its two masks, and the pending bit of each
 -- granted processor.
 unfoldable pub acceptedBlock : List ℕ → Response → Block
 acceptedBlock bytes reply =
     withLine
-    (withMask 20 (joined (pendingIn bytes) (reply .granted))
+    (withMask 20 (joined 32 (pendingIn bytes) (reply .granted))
     (withMask 16 (reply .entitled) (withMask 12 (reply .granted) (set (set bytes 3 0) 9 (reply .late)))))
 
 -- Clause 10.9: a refused command leaves the number of its refusal as the last refusal, and every other byte as it was.

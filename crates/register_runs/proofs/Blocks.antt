@@ -87,22 +87,22 @@ module _ (bytes : List ℕ) (h : Whole bytes) (o v : ℕ) where
   abbrev new : ℕ
   new = newByte (registerAt o) (getD bytes o 0) v
 
-  new-pending : (k : ℕ) → k < 4 → o ≡ 20 + k → new ≡ cleared (getD bytes o 0) v
+  new-pending : (k : ℕ) → k < 4 → o ≡ 20 + k → new ≡ cleared 8 (getD bytes o 0) v
   new-pending k l e = ap (λ r. newByte r (getD bytes o 0) v) (ap registerAt e ∙ pending-place k l)
 
   byte-after : (k : ℕ) → k < 4 → getD (set bytes o new) (20 + k) 0
-      ≡ cond (eqb o (20 + k)) (cleared (getD bytes (20 + k) 0) v) (getD bytes (20 + k) 0)
+      ≡ cond (eqb o (20 + k)) (cleared 8 (getD bytes (20 + k) 0) v) (getD bytes (20 + k) 0)
   byte-after k l = go (eqb o (20 + k)) refl
     where
       go : (t : Bool) → eqb o (20 + k) ≡ t → getD (set bytes o new) (20 + k) 0
-          ≡ cond t (cleared (getD bytes (20 + k) 0) v) (getD bytes (20 + k) 0)
+          ≡ cond t (cleared 8 (getD bytes (20 + k) 0) v) (getD bytes (20 + k) 0)
       go true e =
           let same : o ≡ 20 + k = eqb-true o (20 + k) e in
           let inside : o < length bytes = omega (arith, h .full) in
           ap (λ (i : ℕ). getD (set bytes o new) i 0) (sym same)
           ∙ getD-set-same bytes o new 0 inside
           ∙ new-pending k l same
-          ∙ ap (λ (i : ℕ). cleared (getD bytes i 0) v) same
+          ∙ ap (λ (i : ℕ). cleared 8 (getD bytes i 0) v) same
       go false e = getD-set-other bytes o (20 + k) new 0 (λ same. eqb-false o (20 + k) e (sym same))
 
   small-after : (k : ℕ) → k < 4 → getD (set bytes o new) (20 + k) 0 < 2 ^ 8
@@ -113,7 +113,7 @@ module _ (bytes : List ℕ) (h : Whole bytes) (o v : ℕ) where
       old = rw (getD-slice 20 24 bytes k (omega arith)) at
           (h .small k (omega (arith, length-slice 20 24 bytes (omega (arith, h .full)))))
 
-      go : (t : Bool) → cond t (cleared (getD bytes (20 + k) 0) v) (getD bytes (20 + k) 0) < 2 ^ 8
+      go : (t : Bool) → cond t (cleared 8 (getD bytes (20 + k) 0) v) (getD bytes (20 + k) 0) < 2 ^ 8
       go true = mask-below 8 _
       go false = old
 
@@ -155,7 +155,7 @@ module _ (bytes : List ℕ) (h : Whole bytes) (o v : ℕ) where
       old : ℕ
       old = getD bytes (20 + p / 8) 0
 
-      go : (t : Bool) → bit (cond t (cleared old v) old) (p % 8) ≡ (bit old (p % 8) && not (t && bit v (p % 8)))
+      go : (t : Bool) → bit (cond t (cleared 8 old v) old) (p % 8) ≡ (bit old (p % 8) && not (t && bit v (p % 8)))
       go true = bit-mask-at 8 (λ i. bit old i && not (bit v i)) (p % 8) (omega arith)
       go false = sym (and-true (bit old (p % 8)))
 
@@ -194,7 +194,7 @@ module _ (bytes : List ℕ) (h : Whole bytes) (x : ℕ) where
 -- What the block contains before the interrupt line is stored.
 pub record Answered (bytes : List ℕ) (reply : Response) (l : List ℕ) : Type 0 where
   pub full : length l ≡ 32
-  pub pending : slice 20 24 l ≡ bytesOf 4 (joined (pendingIn bytes) (reply .granted))
+  pub pending : slice 20 24 l ≡ bytesOf 4 (joined 32 (pendingIn bytes) (reply .granted))
   pub refusal : refusalIn (withLine l .bytes) ≡ 0
   pub late : lateIn (withLine l .bytes) ≡ reply .late
   pub granted : slice 12 16 (withLine l .bytes) ≡ bytesOf 4 (reply .granted)
@@ -202,7 +202,7 @@ pub record Answered (bytes : List ℕ) (reply : Response) (l : List ℕ) : Type 
 
 abbrev answeredBytes : Response → List ℕ → List ℕ
 answeredBytes reply bytes =
-    withMask 20 (joined (pendingIn bytes) (reply .granted))
+    withMask 20 (joined 32 (pendingIn bytes) (reply .granted))
     (withMask 16 (reply .entitled) (withMask 12 (reply .granted) (set (set bytes 3 0) 9 (reply .late))))
 
 answered-bytes : (reply : Response) (bytes : List ℕ) → length bytes ≡ 32
@@ -223,7 +223,7 @@ module _ (bytes : List ℕ) (h : Whole bytes) (reply : Response) (r : Holdable r
       (record {
         full = there .full;
         small = subst AreBytes (sym (there .pending))
-            (bytes-bytesOf 4 (joined (pendingIn bytes) (reply .granted)));
+            (bytes-bytesOf 4 (joined 32 (pendingIn bytes) (reply .granted)));
       })
 
   accepted-line : getD (acceptedBlock bytes reply .bytes) 28 0 ≡ lineOf (acceptedBlock bytes reply .bytes)
@@ -235,7 +235,7 @@ module _ (bytes : List ℕ) (h : Whole bytes) (reply : Response) (r : Holdable r
   unfolding acceptedBlock joined
   accepted-pending p few =
       ap (λ s. bit (number s) p) (line-pending (answeredBytes reply bytes) ∙ there .pending)
-      ∙ ap (λ (x : ℕ). bit x p) (number-bytesOf 4 (joined (pendingIn bytes) (reply .granted)) (mask-below 32 _))
+      ∙ ap (λ (x : ℕ). bit x p) (number-bytesOf 4 (joined 32 (pendingIn bytes) (reply .granted)) (mask-below 32 _))
       ∙ bit-mask-at 32 (λ q. bit (pendingIn bytes) q || bit (reply .granted) q) p few
 
   accepted-reply : reply .number ≡ 0 → replyIn (acceptedBlock bytes reply .bytes) ≡ reply

@@ -3,6 +3,8 @@ use Prim.Native.Nat.{ℕ, zero, suc, _+_, _-_, _*_, _/_, _%_, _^_, _≤_, _<_}
 use mathlib.Core.Path.{_≡_, refl, sym, ap, ap₂, subst, _∙_}
 use mathlib.Core.Bool.{Bool, true, false}
 use mathlib.Core.List.{List, [], _∷_}
+use native.Mathlib.Nat.{pow-suc, mul-comm, mul-assoc}
+use native.Mathlib.Numerals.{one-add}
 use native.Mathlib.Omega.{arith}
 use lib.Dec.{eqb, ltb}
 use lib.ListN.{length, getD, take, drop}
@@ -16,24 +18,28 @@ use Rattle.encoding.proofs.Bytes.{AreBytes, bytes-tail}
 
 -- ---- the bits of a number
 
--- The first eight bits are those of the low byte.
-bit-low : (b n p : ℕ) → b < 256 → p < 8 → bit (b + 256 * n) p ≡ bit b p
+-- The first w bits are those of the low part.
+double : (w n : ℕ) → 2 ^ suc w * n ≡ 2 * (2 ^ w * n)
+double w n =
+    ap (λ (x : ℕ). x * n) (pow-suc 2 w ∙ mul-comm (2 ^ w) 2) ∙ mul-assoc 2 (2 ^ w) n
+
+bit-half : (m p : ℕ) → bit m (suc p) ≡ bit (m / 2) p
 unfolding bit
-bit-low b n zero small few = let e : (b + 256 * n) / 1 % 2 ≡ b / 1 % 2 = omega arith in ap (λ (x : ℕ). eqb x 1) e
-bit-low b n (suc zero) small few = let e : (b + 256 * n) / 2 % 2 ≡ b / 2 % 2 = omega arith in ap (λ (x : ℕ). eqb x 1) e
-bit-low b n (suc (suc zero)) small few = let e : (b + 256 * n) / 4 % 2
-    ≡ b / 4 % 2 = omega arith in ap (λ (x : ℕ). eqb x 1) e
-bit-low b n (suc (suc (suc zero))) small few = let e : (b + 256 * n) / 8 % 2
-    ≡ b / 8 % 2 = omega arith in ap (λ (x : ℕ). eqb x 1) e
-bit-low b n (suc (suc (suc (suc zero)))) small few = let e : (b + 256 * n) / 16 % 2
-    ≡ b / 16 % 2 = omega arith in ap (λ (x : ℕ). eqb x 1) e
-bit-low b n (suc (suc (suc (suc (suc zero))))) small few = let e : (b + 256 * n) / 32 % 2
-    ≡ b / 32 % 2 = omega arith in ap (λ (x : ℕ). eqb x 1) e
-bit-low b n (suc (suc (suc (suc (suc (suc zero)))))) small few = let e : (b + 256 * n) / 64 % 2
-    ≡ b / 64 % 2 = omega arith in ap (λ (x : ℕ). eqb x 1) e
-bit-low b n (suc (suc (suc (suc (suc (suc (suc zero))))))) small few = let e : (b + 256 * n) / 128 % 2
-    ≡ b / 128 % 2 = omega arith in ap (λ (x : ℕ). eqb x 1) e
-bit-low b n (suc (suc (suc (suc (suc (suc (suc (suc p)))))))) small few = absurd (omega arith)
+bit-half m p =
+    ap (λ (x : ℕ). eqb (m / 2 ^ x % 2) 1) (sym (one-add p)) ∙ ap (λ (x : ℕ). eqb (x % 2) 1) (sym (shr-shr m 1 p))
+
+bit-low : (w b n p : ℕ) → p < w → bit (b + 2 ^ w * n) p ≡ bit b p
+unfolding bit
+bit-low zero b n p few = absurd (omega arith)
+bit-low (suc w) b n zero few =
+    let e : (b + 2 ^ suc w * n) / 1 % 2 ≡ b / 1 % 2 = omega (arith, double w n) in
+    ap (λ (x : ℕ). eqb x 1) e
+bit-low (suc w) b n (suc p) few =
+    let half : (b + 2 ^ suc w * n) / 2 ≡ b / 2 + 2 ^ w * n = omega (arith, double w n) in
+    bit-half (b + 2 ^ suc w * n) p
+    ∙ ap (λ (x : ℕ). bit x p) half
+    ∙ bit-low w (b / 2) n p (omega arith)
+    ∙ sym (bit-half b p)
 
 -- The others are those of the rest.
 bit-high : (b n j : ℕ) → b < 256 → bit (b + 256 * n) (8 + j) ≡ bit n j
@@ -54,7 +60,7 @@ bit-number (b ∷ s) h p = go (ltb p 8) refl (bit-number s (bytes-tail b s h))
         let few : p < 8 = ltb-true p 8 e in
         let first : 0 ≡ p / 8 = omega arith in
         let place : p ≡ p % 8 = omega arith in
-        bit-low b (number s) p (h 0 (omega arith)) few ∙ ap₂ (λ (i k : ℕ). bit (getD (b ∷ s) i 0) k) first place
+        bit-low 8 b (number s) p few ∙ ap₂ (λ (i k : ℕ). bit (getD (b ∷ s) i 0) k) first place
     go false e ih =
         let most : 8 ≤ p = ltb-false p 8 e in
         let split : p ≡ 8 + (p - 8) = omega arith in

@@ -9,6 +9,6 @@ use Rattle.registers.specs.Registers.{pendingIn, enabledIn, raised}
 -- The interrupt line is raised exactly if the two numbers share a bit.
 pub raised-meets : (bytes : List ℕ) (pending enabled : ℕ) → pending ≡ pendingIn bytes → enabled ≡ enabledIn bytes
     → pending < 2 ^ 32
-    → meets pending enabled ≡ raised bytes
+    → meets pending enabled ≡ raised 32 bytes
 unfolding raised
 raised-meets bytes pending enabled p e small = ap₂ meets p e ∙ meets-some 32 _ _ (rw p at small)

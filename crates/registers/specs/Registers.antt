@@ -56,13 +56,13 @@ pendingIn bytes = number (slice 20 24 bytes)
 abbrev pub enabledIn : List ℕ → ℕ
 enabledIn bytes = number (slice 24 28 bytes)
 
--- Clause 10.3: some bit is both pending and enabled.
-unfoldable pub raised : List ℕ → Bool
-raised bytes = some 32 (λ p. bit (pendingIn bytes) p && bit (enabledIn bytes) p)
+-- Clause 10.3: of w bits, some bit is both pending and enabled.
+unfoldable pub raised : ℕ → List ℕ → Bool
+raised w bytes = some w (λ p. bit (pendingIn bytes) p && bit (enabledIn bytes) p)
 
 -- Clause 10.3: the interrupt line is 1 if it is raised, else 0.
 abbrev pub lineOf : List ℕ → ℕ
-lineOf bytes = cond (raised bytes) 1 0
+lineOf bytes = cond (raised 32 bytes) 1 0
 
 -- Clause 10.3: the block with these bytes and its interrupt line at offset 28.
 unfoldable pub withLine : List ℕ → Block

@@ -9,16 +9,16 @@ use Rattle.registers.specs.declared.Register.the-variants.{Unlisted}
 use Rattle.registers.specs.declared.Block.{Block}
 use Rattle.registers.specs.Registers.{registerAt, withLine}
 
--- Clause 10.6: writing a one clears that bit of a byte, writing a zero does not.
-unfoldable pub cleared : ℕ → ℕ → ℕ
-cleared old value = maskOf 8 (λ i. bit old i && not (bit value i))
+-- Clause 10.6: of w bits, writing a one clears that bit, writing a zero does not.
+unfoldable pub cleared : ℕ → ℕ → ℕ → ℕ
+cleared w old value = maskOf w (λ i. bit old i && not (bit value i))
 
 -- Clause 10.6: the byte that a write leaves: pending bits are cleared, every other register takes the value.
 abbrev pub newByte : Register → ℕ → ℕ → ℕ
 newByte Command old value = value
 newByte Argument old value = value
 newByte Answer old value = value
-newByte Pending old value = cleared old value
+newByte Pending old value = cleared 8 old value
 newByte Enabled old value = value
 newByte Line old value = value
 newByte Unlisted old value = value

@@ -11,7 +11,7 @@ ghost use Rattle.registers.specs.Stores.{cleared, newByte, stored};
 
 // Clause 10.6: the bits of a byte without those that are set in the value.
 fn cleared_by(old: u8, value: u8) -> u8
-    ensures { λ r. ⌜ r ≡ cleared old value ⌝ }
+    ensures { λ r. ⌜ r ≡ cleared 8 old value ⌝ }
 {
     old & !value
 }

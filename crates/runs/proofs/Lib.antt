@@ -9,3 +9,4 @@ pub mod Reached
 pub mod Falling
 pub mod Holders
 pub mod Freedom
+pub mod NeverHolds

@@ -18,7 +18,8 @@ pub mask-put : (bytes : List ℕ) (place mask : ℕ) → place + 4 ≤ length by
     → bufferAfter (roomFault 4 (length bytes) place) (bytesOf 4 mask) bytes place ≡ withMask place mask bytes
 mask-put bytes place mask h = rw (fits-room 4 (length bytes) place h)
 
-or-joined : (pending granted : ℕ) → pending < 2 ^ 32 → granted < 2 ^ 32 → bitOr pending granted ≡ joined pending granted
+or-joined : (pending granted : ℕ) → pending < 2 ^ 32 → granted < 2 ^ 32 → bitOr pending granted
+    ≡ joined 32 pending granted
 unfolding joined
 or-joined pending granted p g = or-is (own-is 32 pending p) (own-is 32 granted g) .is
 
@@ -32,5 +33,5 @@ pub accepted-put : (bytes : List ℕ) (reply : Response) (pending : ℕ) (first 
     → block ≡ acceptedBlock bytes reply
 unfolding acceptedBlock
 accepted-put bytes reply pending first second third block g e1 e2 p e3 e =
-    let together = or-joined pending (reply .granted) (p .1) g ∙ ap (λ (x : ℕ). joined x (reply .granted)) (p .0) in
+    let together = or-joined pending (reply .granted) (p .1) g ∙ ap (λ (x : ℕ). joined 32 x (reply .granted)) (p .0) in
     e ∙ ap withLine (e3 ∙ ap₂ (withMask 20) together (e2 ∙ ap (withMask 16 (reply .entitled)) e1))

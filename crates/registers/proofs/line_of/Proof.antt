@@ -6,7 +6,7 @@ use Rattle.registers.proofs.Blocks.{raised-meets}
 use Rattle.registers.proofs.line_of.Statement.{statement}
 use Rattle.registers.proofs.line_of.Tie as tie
 
-line : (c : tie.After-meet64) → c .meet64 .result ≡ raised (c .before .before .before .args .bytes)
+line : (c : tie.After-meet64) → c .meet64 .result ≡ raised 32 (c .before .before .before .args .bytes)
 line c =
     let first = c .before .before in
     c .meet64 .ensures ∙ raised-meets _ _ _ (first .pending-in .ensures .0) (c .before .enabled-in .ensures)

@@ -11,7 +11,7 @@ use Rattle.registers.specs.Registers.{registerAt, withLine}
 use Rattle.registers.specs.Stores.{cleared, newByte, stored}
 
 -- A byte without the bits of another.
-pub without-cleared : (old value : ℕ) → old < 2 ^ 8 → value < 2 ^ 8 → bitAnd old (255 - value) ≡ cleared old value
+pub without-cleared : (old value : ℕ) → old < 2 ^ 8 → value < 2 ^ 8 → bitAnd old (255 - value) ≡ cleared 8 old value
 unfolding cleared
 without-cleared old value o v = without-is 8 (lit< tt) (own-is 8 old o) (own-is 8 value v) .is
 

@@ -14,7 +14,7 @@ use Rattle.rules.specs.declared.states.Board.{Board}
 use Rattle.rules.specs.declared.states.State.{State}
 use Rattle.rules.specs.Calls.{both, answered}
 use Rattle.boards.specs.Fresh.{freshState}
-use Rattle.runs.specs.Events.{events}
+use Rattle.runs.specs.Events.{events, stateAfter}
 use Rattle.runs.specs.History.{History, Act, puts, takes, allActing, counting, countedIn, nothing, holds}
 use Rattle.runs.specs.Claim.{request}
 use Rattle.runs.proofs.history.Frame.{BothAllowed, Answers, refused, acts, replaces, answers}
@@ -137,6 +137,14 @@ module _ (b : Board) (group : ℕ → Bool) (Lr Lw : ℕ) (A : Arbiter b group L
   run [] s h r = (s, r)
   run (c ∷ later) s h r =
       run later (answered b s c .state) (counting h c (answered b s c .reply)) (reached-next r (outcome c s h r))
+
+  -- The state that the calls leave and the history of the calls are related too.
+  pub run-to : (calls : List Call) (s : State) (h : History) → Reached s h
+      → Reached (stateAfter b s calls) (countedIn h (events b s calls))
+  unfolding events countedIn stateAfter
+  run-to [] s h r = r
+  run-to (c ∷ later) s h r =
+      run-to later (answered b s c .state) (counting h c (answered b s c .reply)) (reached-next r (outcome c s h r))
 
   -- If the holders keep to their lengths at the end, they do so at the start.
   keeps-first : (calls : List Call) (s : State) (h : History) → Reached s h

@@ -65,6 +65,12 @@ module _ (terms : Terms) (last : ℕ) (ph : Phases) (p t : ℕ) where
         was-active = due-accepted _ 14 (lit< tt) (first-accepted (due (active ph p) 14) phaseFault later .first);
       }
 
+  -- What is due for the phase of a request that leaves is not due either.
+  pub phase-taken : (phaseFault : ℕ) → takeFault terms last ph p t phaseFault ≡ 0 → phaseFault ≡ 0
+  phase-taken phaseFault ok =
+      first-accepted (due (active ph p) 14) phaseFault
+      (first-accepted (processorFault terms p) _ (first-accepted (tickFault last t) _ ok .later) .later) .later
+
   -- A request that is completed is not unsatisfied.
   pub completed-satisfied : completeFault terms last ph p t ≡ 0 → unsatisfied ph p ≡ false
   unfolding completeFault

@@ -37,7 +37,7 @@ at-most-longest test (e ∷ later) zero h =
 at-most-longest test (e ∷ later) (suc i) h = omega (arith, at-most-longest test later i h)
 
 -- The plan's two lengths bound those of all its entries.
-every-length : (p : Plan) → planFault p ≡ 0 → LengthsAtMost p everyEntry (longestRead p) (longestWrite p)
+pub every-length : (p : Plan) → planFault p ≡ 0 → LengthsAtMost p everyEntry (longestRead p) (longestWrite p)
 every-length p taken i l g = go (isWrite (entryAt p i)) refl
   where
     go : (w : Bool) → isWrite (entryAt p i) ≡ w
