@@ -26,15 +26,14 @@
 #include <stdint.h>
 
 /* The version in the file VERSION, as text and as the number 10000 x major + 100 x minor + patch. */
-#define BITTMELON_VERSION "3.3.0"
-#define BITTMELON_VERSION_NUMBER 30300
+#define BITTMELON_VERSION "3.2.0"
+#define BITTMELON_VERSION_NUMBER 30200
 
-/* The largest counts of a plan, and the most bytes that a plan takes: 3, and 11 for each entry that reads or writes, or 19 for
- * each mixed entry. */
+/* The largest counts of a plan, and the most bytes that a plan takes: 3, and 11 for each entry. */
 #define BITTMELON_MAX_PROCESSORS 32
 #define BITTMELON_MAX_RESOURCES 64
 #define BITTMELON_MAX_ENTRIES 64
-#define BITTMELON_MAX_PLAN_BYTES (3 + 19 * BITTMELON_MAX_ENTRIES)
+#define BITTMELON_MAX_PLAN_BYTES (3 + 11 * BITTMELON_MAX_ENTRIES)
 
 /* The most bytes that the scratch of a reach needs, and the most bytes that a list takes. A scratch needs 32 bytes for up to
  * 16 processors and 128 for more. A list takes 1 byte, and for each processor 8 bytes if there are up to 16 processors and 10
@@ -65,7 +64,7 @@ enum bittmelon_refusal {
     BITTMELON_PROCESSORS = 3,  /* processors: the count is not 1 to 32 */
     BITTMELON_RESOURCES = 4,   /* resources: the count is not 1 to 64 */
     BITTMELON_ENTRIES = 5,     /* entries: the count is not 1 to 64 */
-    BITTMELON_KIND = 6,        /* kind: above 2 */
+    BITTMELON_KIND = 6,        /* kind: neither 0 nor 1 */
     BITTMELON_SET = 7,         /* set: no resource, or a resource that the plan does not have */
     BITTMELON_LENGTH = 8,      /* length: 0 */
     BITTMELON_VERB = 9,        /* verb: above 3, or a completion or a withdrawal that has an entry */
@@ -77,8 +76,7 @@ enum bittmelon_refusal {
     BITTMELON_UNHELD = 15,     /* unheld: a completion or a handover while the request does not hold */
     BITTMELON_ROOM = 16,       /* room: a buffer or a scratch that is too short */
     BITTMELON_HELD = 17,       /* held: a withdrawal of a request that holds */
-    BITTMELON_REGISTER = 18,   /* register: an offset that is not listed or may not be written, or a command above 4 */
-    BITTMELON_READ_ONLY = 19   /* read-only: no resource, a resource that the plan does not have, or one of the entry's names */
+    BITTMELON_REGISTER = 18    /* register: an offset that is not listed or may not be written, or a command above 4 */
 };
 
 /* The values that bittmelon_state returns. */
@@ -93,7 +91,7 @@ enum bittmelon_phase {
  * bittmelon_fresh and bittmelon_shared use. The content is the library's business. */
 struct bittmelon_board {
     uint64_t last;       /* the last accepted tick */
-    uint64_t writes;     /* which entries are writes, mixed ones included */
+    uint64_t writes;     /* which entries are writes */
     uint32_t phases[3];  /* masks: waiting, entitled, holding */
     uint8_t processors;  /* the plan's counts of processors and of entries */
     uint8_t entries;
@@ -154,15 +152,10 @@ uint32_t bittmelon_version_number(void);
 /* The next three functions take the bytes of a plan. They ignore bytes after the plan. If the count is 0, the pointer may be
  * null. They only read, and may be called from any thread.
  *
- * A plan begins with one byte each for the number of processors (1 to 32), resources (1 to 64) and entries (1 to 64). Then
- * comes each entry: its kind in one byte (0 reads, 1 writes, 2 is mixed), its names in eight (bit r is resource r), and its
- * length in two (1 to 65,535 ticks). A mixed entry writes its names. It has eight bytes more, its read-only set: the resources
- * that it only reads, at least one and none of its names. The low byte of a number comes first.
- *
  * The figures are guaranteed if every holder keeps to its entry's declared length. If even one hold is longer, they promise
  * nothing. */
 
-/* The refusal number of the first fault in the order of the bytes (1, 3 to 8, or 19), or 0 if the plan is accepted. */
+/* The refusal number of the first fault in the order of the bytes (1 or 3 to 8), or 0 if the plan is accepted. */
 uint32_t bittmelon_plan_refusal(const uint8_t *bytes, size_t count);
 
 /* The longest time that a read waits if every holder keeps to its length: Lr + Lw, in ticks. 0 for a refused plan. */
@@ -203,7 +196,7 @@ struct bittmelon_conflict bittmelon_shared_parts(uint8_t processors, uint8_t ent
     const uint64_t widened[64], uint8_t first, uint8_t second);
 
 /* Makes the board of a plan, with no requests and the last accepted tick 0. The value is the number of bytes that the plan
- * took; bytes after the plan are ignored. Refused with 1, 3 to 8, or 19. */
+ * took; bytes after the plan are ignored. Refused with 1 or 3 to 8. */
 static inline struct bittmelon_answer bittmelon_fresh(struct bittmelon_board *board, const uint8_t *plan, size_t size)
 {
     return bittmelon_fresh_parts(plan, size, &board->processors, &board->entries, &board->writes, board->lengths,

@@ -17,8 +17,8 @@ static inline uint8_t *put_entry(uint8_t *at, uint8_t kind, uint64_t set, uint8_
     return at;
 }
 
-/* 64 resources and 64 entries, every third of which writes, over two or three resources. Gives the number of bytes. */
-static inline size_t plan(uint8_t bytes[BITTMELON_MAX_PLAN_BYTES], uint8_t processors)
+/* 64 resources and 64 entries, every third of which writes, over two or three resources. */
+static inline void plan(uint8_t bytes[BITTMELON_MAX_PLAN_BYTES], uint8_t processors)
 {
     uint8_t *at = bytes;
     *at++ = processors;
@@ -28,15 +28,14 @@ static inline size_t plan(uint8_t bytes[BITTMELON_MAX_PLAN_BYTES], uint8_t proce
         uint64_t set = (uint64_t)1 << i * 7 % 64 | (uint64_t)1 << i * 11 % 64 | (uint64_t)1 << i * 5 % 16;
         at = put_entry(at, i % 3 == 0, set, (uint8_t)(i % 20 + 1));
     }
-    return (size_t)(at - bytes);
 }
 
 /* A board of 16 or 32 processors on which so many have issued a first request. 0 if all went well. */
 static inline int fill(struct bittmelon_board *board, uint64_t busy)
 {
     uint8_t bytes[BITTMELON_MAX_PLAN_BYTES];
-    size_t size = plan(bytes, busy <= 16 ? 16 : 32);
-    if (busy < 1 || busy > 32 || bittmelon_fresh(board, bytes, size).refusal != 0)
+    plan(bytes, busy <= 16 ? 16 : 32);
+    if (busy < 1 || busy > 32 || bittmelon_fresh(board, bytes, sizeof bytes).refusal != 0)
         return 1;
     for (uint8_t p = 0; p < busy; p++)
         bittmelon_issue(board, p, p * 3 % 64, 0);

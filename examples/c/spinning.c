@@ -23,18 +23,16 @@
 
 #define THREADS 6
 #define RESOURCES 4
-#define ENTRIES 10
+#define ENTRIES 8
 #define LOGGED 65535
 #define WRITER 0x10000u /* what a writer adds to a resource's count of holders; a reader adds 1 */
 
-/* The last two entries are mixed: they write some resources and only read others. */
 static const struct {
-    uint8_t reads;   /* bit r is resource r */
     uint8_t writes;
+    uint8_t names;   /* bit r is resource r */
     uint16_t length; /* in ticks */
 } plan[ENTRIES] = {
-    {0x1, 0, 60}, {0x3, 0, 60}, {0xc, 0, 60}, {0xf, 0, 80}, {0, 0x1, 40}, {0, 0x6, 40}, {0, 0x8, 50}, {0, 0x5, 50},
-    {0x2, 0x1, 40}, {0x9, 0x4, 50},
+    {0, 0x1, 60}, {0, 0x3, 60}, {0, 0xc, 60}, {0, 0xf, 80}, {1, 0x1, 40}, {1, 0x6, 40}, {1, 0x8, 50}, {1, 0x5, 50},
 };
 
 struct logged {
@@ -99,42 +97,32 @@ static struct bittmelon_reply call(uint8_t verb, uint8_t processor, uint8_t entr
     return reply;
 }
 
-static int reads(uint8_t entry, unsigned r)
-{
-    return plan[entry].reads >> r & 1;
-}
-
-static int writes(uint8_t entry, unsigned r)
-{
-    return plan[entry].writes >> r & 1;
-}
-
-/* What a holder of the entry adds to the resource's count of holders. */
-static unsigned share(uint8_t entry, unsigned r)
-{
-    return writes(entry, r) ? WRITER : reads(entry, r) ? 1 : 0;
-}
-
 /* Holds for this many microseconds, and checks for a conflicting holder: a writer together with anybody else. */
 static void hold(uint8_t entry, uint64_t ticks)
 {
+    unsigned mine = plan[entry].writes ? WRITER : 1;
     for (unsigned r = 0; r < RESOURCES; r++) {
-        unsigned others = atomic_fetch_add(&holders[r], share(entry, r));
-        if ((writes(entry, r) && others != 0) || (reads(entry, r) && others >= WRITER))
+        if (!(plan[entry].names >> r & 1))
+            continue;
+        unsigned others = atomic_fetch_add(&holders[r], mine);
+        if (plan[entry].writes ? others != 0 : others >= WRITER)
             atomic_fetch_add(&violations, 1);
     }
     uint64_t until = now() + ticks, seen = 0;
     do {
         for (unsigned r = 0; r < RESOURCES; r++) {
-            if (writes(entry, r))
+            if (!(plan[entry].names >> r & 1))
+                continue;
+            if (plan[entry].writes)
                 record[r]++;
-            if (reads(entry, r))
+            else
                 seen += record[r];
         }
     } while (now() < until);
     (void)seen;
     for (unsigned r = 0; r < RESOURCES; r++)
-        atomic_fetch_sub(&holders[r], share(entry, r));
+        if (plan[entry].names >> r & 1)
+            atomic_fetch_sub(&holders[r], mine);
     atomic_fetch_add(&holds, 1);
 }
 
@@ -188,16 +176,6 @@ static void *run(void *argument)
     return NULL;
 }
 
-/* A set of resources, all below 8, in eight bytes. */
-static size_t put_set(uint8_t *bytes, size_t size, uint8_t set)
-{
-    bytes[size++] = set;
-    for (int i = 0; i < 7; i++)
-        bytes[size++] = 0;
-    return size;
-}
-
-/* The names of a mixed entry are what it writes. What it only reads comes after its length. */
 static size_t plan_bytes(uint8_t bytes[BITTMELON_MAX_PLAN_BYTES])
 {
     size_t size = 0;
@@ -205,13 +183,12 @@ static size_t plan_bytes(uint8_t bytes[BITTMELON_MAX_PLAN_BYTES])
     bytes[size++] = RESOURCES;
     bytes[size++] = ENTRIES;
     for (int e = 0; e < ENTRIES; e++) {
-        int mixed = plan[e].reads != 0 && plan[e].writes != 0;
-        bytes[size++] = mixed ? 2 : plan[e].writes != 0;
-        size = put_set(bytes, size, plan[e].writes != 0 ? plan[e].writes : plan[e].reads);
+        bytes[size++] = plan[e].writes;
+        bytes[size++] = plan[e].names;
+        for (int i = 0; i < 7; i++)
+            bytes[size++] = 0;
         bytes[size++] = (uint8_t)plan[e].length;
         bytes[size++] = (uint8_t)(plan[e].length >> 8);
-        if (mixed)
-            size = put_set(bytes, size, plan[e].reads);
     }
     return size;
 }

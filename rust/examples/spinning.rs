@@ -25,44 +25,34 @@ const LOGGED: usize = 65_535;
 const WRITER: u32 = 0x10000;
 
 struct Entry {
+    writes: bool,
     /// Bit r is resource r.
-    reads: u8,
-    writes: u8,
+    names: u8,
     /// In ticks.
     length: u16,
 }
 
-const fn entry(reads: u8, writes: u8, length: u16) -> Entry {
-    Entry { reads, writes, length }
+const fn entry(writes: bool, names: u8, length: u16) -> Entry {
+    Entry { writes, names, length }
 }
 
-/// The last two entries are mixed: they write some resources and only read others.
-const PLAN: [Entry; 10] = [
-    entry(0x1, 0, 60),
-    entry(0x3, 0, 60),
-    entry(0xc, 0, 60),
-    entry(0xf, 0, 80),
-    entry(0, 0x1, 40),
-    entry(0, 0x6, 40),
-    entry(0, 0x8, 50),
-    entry(0, 0x5, 50),
-    entry(0x2, 0x1, 40),
-    entry(0x9, 0x4, 50),
+const PLAN: [Entry; 8] = [
+    entry(false, 0x1, 60),
+    entry(false, 0x3, 60),
+    entry(false, 0xc, 60),
+    entry(false, 0xf, 80),
+    entry(true, 0x1, 40),
+    entry(true, 0x6, 40),
+    entry(true, 0x8, 50),
+    entry(true, 0x5, 50),
 ];
 
-/// The names of a mixed entry are what it writes. What it only reads comes after its length.
 fn plan_bytes() -> Vec<u8> {
     let mut bytes = vec![THREADS, RESOURCES, PLAN.len() as u8];
-    for Entry { reads, writes, length } in &PLAN {
-        let (kind, names, read_only) = match (reads, writes) {
-            (reads, 0) => (0, reads, None),
-            (0, writes) => (1, writes, None),
-            (reads, writes) => (2, writes, Some(reads)),
-        };
-        bytes.push(kind);
-        bytes.extend((*names as u64).to_le_bytes());
-        bytes.extend(length.to_le_bytes());
-        bytes.extend(read_only.into_iter().flat_map(|set| (*set as u64).to_le_bytes()));
+    for entry in &PLAN {
+        bytes.push(entry.writes as u8);
+        bytes.extend((entry.names as u64).to_le_bytes());
+        bytes.extend(entry.length.to_le_bytes());
     }
     bytes
 }
@@ -156,12 +146,11 @@ impl Shared {
 
     /// Holds for this many microseconds, and checks for a conflicting holder: a writer together with anybody else.
     fn hold(&self, entry: &Entry, ticks: u64) {
-        let used = |set: u8| (0..RESOURCES).filter(move |r| set >> r & 1 == 1).map(|r| &self.holders[r as usize]);
-        let shares =
-            || used(entry.reads).map(|holders| (holders, 1)).chain(used(entry.writes).map(|holders| (holders, WRITER)));
-        for (holders, mine) in shares() {
+        let named = || (0..RESOURCES).filter(|r| entry.names >> r & 1 == 1).map(|r| &self.holders[r as usize]);
+        let mine = if entry.writes { WRITER } else { 1 };
+        for holders in named() {
             let others = holders.fetch_add(mine, Ordering::SeqCst);
-            if others >= WRITER || mine == WRITER && others != 0 {
+            if if entry.writes { others != 0 } else { others >= WRITER } {
                 self.count(&self.violations);
             }
         }
@@ -169,7 +158,7 @@ impl Shared {
         while self.now() < until {
             std::hint::spin_loop();
         }
-        for (holders, mine) in shares() {
+        for holders in named() {
             holders.fetch_sub(mine, Ordering::SeqCst);
         }
         self.count(&self.holds);

@@ -85,7 +85,7 @@ fn size_of(answer: parts::Answer) -> Result<usize, Refusal> {
 
 impl Board {
     /// Makes the board of the plan at the start of the bytes. It has no requests, and its last accepted tick is 0. Bytes after
-    /// the plan are ignored. Refused as `Short`, `Processors` to `Length`, or `ReadOnly`.
+    /// the plan are ignored. Refused as `Short` or `Processors` to `Length`.
     ///
     /// ```
     /// use bittmelon::{Board, Refusal};
@@ -95,11 +95,6 @@ impl Board {
     /// assert!(Board::new(&plan).is_ok());
     /// assert_eq!(Board::new(&plan[..13]), Err(Refusal::Short));
     /// assert_eq!(Board::new(&[33, 1, 1]), Err(Refusal::Processors));
-    ///
-    /// // A mixed entry: it writes resource 0 and only reads resource 1, for at most 20 ticks.
-    /// let mixed = [2, 2, 1, 2, 1, 0, 0, 0, 0, 0, 0, 0, 20, 0, 2, 0, 0, 0, 0, 0, 0, 0];
-    /// assert!(Board::new(&mixed).is_ok());
-    /// assert_eq!(Board::new(&mixed[..14]), Err(Refusal::Short));
     /// ```
     pub fn new(plan: &[u8]) -> Result<Board, Refusal> {
         Board::read(plan).map(|(board, _)| board)

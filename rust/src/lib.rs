@@ -5,11 +5,6 @@
 //! and query it. A call takes `&mut self`, so a board has one caller at a time. Cores that share a board must take turns, for
 //! instance with a spin lock; `examples/spinning.rs` shows how.
 //!
-//! A plan begins with one byte each for the number of processors (1 to 32), resources (1 to 64) and entries (1 to 64). Then
-//! comes each entry: its kind in one byte (0 reads, 1 writes, 2 is mixed), its names in eight (bit r is resource r), and its
-//! length in two (1 to 65,535 ticks). A mixed entry writes its names. It has eight bytes more, its read-only set: the resources
-//! that it only reads, at least one and none of its names. The low byte of a number comes first.
-//!
 //! Ticks come from a clock of the caller's, in any unit, but the same unit as the plan's lengths. Nothing here reads a clock.
 //! Ticks never go back, and they range from 0 to [`MAX_TICK`]. A mask is a set of processors: bit p is processor p.
 //!
@@ -56,8 +51,8 @@ pub const MAX_RESOURCES: usize = 64;
 /// The most entries of a plan.
 pub const MAX_ENTRIES: usize = 64;
 
-/// The most bytes that a plan takes: 3, and 11 for each entry that reads or writes, or 19 for each mixed entry.
-pub const MAX_PLAN_BYTES: usize = 3 + 19 * MAX_ENTRIES;
+/// The most bytes that a plan takes: 3, and 11 for each entry.
+pub const MAX_PLAN_BYTES: usize = 3 + 11 * MAX_ENTRIES;
 
 /// The most bytes that the scratch of a [`Board::reach`] needs. For up to 16 processors, 32 bytes are enough.
 pub const MAX_SCRATCH_BYTES: usize = 128;

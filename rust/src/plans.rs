@@ -38,7 +38,7 @@ pub fn figures(plan: &[u8]) -> Result<Figures, Refusal> {
 /// The version of the archive: 10000 x major + 100 x minor + patch.
 ///
 /// ```
-/// assert_eq!(bittmelon::version(), 30300);
+/// assert_eq!(bittmelon::version(), 30200);
 /// ```
 pub fn version() -> u32 {
     parts::bittmelon_version_number()

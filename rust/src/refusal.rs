@@ -15,7 +15,7 @@ pub enum Refusal {
     Resources = 4,
     /// The count of entries is not 1 to 64.
     Entries = 5,
-    /// A kind is above 2.
+    /// A kind is neither 0 nor 1.
     Kind = 6,
     /// A set has no resource, or a resource that the plan does not have.
     Set = 7,
@@ -41,12 +41,10 @@ pub enum Refusal {
     Held = 17,
     /// An offset is not listed or may not be written, or a command is above 4.
     Register = 18,
-    /// A read-only set has no resource, a resource that the plan does not have, or one of its entry's names.
-    ReadOnly = 19,
 }
 
 /// Each refusal with its word, in the order of the numbers.
-const WORDS: [(Refusal, &str); 19] = [
+const WORDS: [(Refusal, &str); 18] = [
     (Refusal::Short, "short"),
     (Refusal::Tail, "tail"),
     (Refusal::Processors, "processors"),
@@ -65,11 +63,10 @@ const WORDS: [(Refusal, &str); 19] = [
     (Refusal::Room, "room"),
     (Refusal::Held, "held"),
     (Refusal::Register, "register"),
-    (Refusal::ReadOnly, "read-only"),
 ];
 
 impl Refusal {
-    /// The refusal's number, 1 to 19.
+    /// The refusal's number, 1 to 18.
     ///
     /// ```
     /// assert_eq!(bittmelon::Refusal::Busy.number(), 13);
@@ -86,7 +83,7 @@ impl Refusal {
     /// assert_eq!(Refusal::from_number(0), None);
     /// ```
     pub const fn from_number(number: u32) -> Option<Refusal> {
-        if number >= 1 && number <= 19 {
+        if number >= 1 && number <= 18 {
             Some(WORDS[number as usize - 1].0)
         } else {
             None

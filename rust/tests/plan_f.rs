@@ -1,4 +1,4 @@
-//! The calls of plan F from the stored log, mixed entries, and every refusal that a plan, a call or a query can return.
+//! The calls of plan F from the stored log, and every refusal that a plan, a call or a query can return.
 use bittmelon::{
     figures, Board, Figures, Phase, Refusal, Reply, Shared, MAX_LIST_BYTES, MAX_PLAN_BYTES, MAX_SCRATCH_BYTES, MAX_TICK,
 };
@@ -8,11 +8,6 @@ const READS: bool = false;
 
 fn entry(writes: bool, names: u64, length: u16) -> Vec<u8> {
     [&[writes as u8][..], &names.to_le_bytes(), &length.to_le_bytes()].concat()
-}
-
-/// An entry that writes its names and only reads the others.
-fn mixed(names: u64, read_only: u64, length: u16) -> Vec<u8> {
-    [&[2][..], &names.to_le_bytes(), &length.to_le_bytes(), &read_only.to_le_bytes()].concat()
 }
 
 fn plan(processors: u8, resources: u8, entries: &[Vec<u8>]) -> Vec<u8> {
@@ -70,29 +65,6 @@ fn queries_of_plan_f() {
     assert_eq!(figures(&plan_f()), Ok(Figures { read: 50, write: 150 }));
 }
 
-#[test]
-fn a_mixed_entry_takes_part_as_a_write() {
-    // Entry 0 writes resource 0 and only reads resource 1.
-    let entries = [mixed(0b01, 0b10, 20), entry(WRITES, 0b10, 9), entry(READS, 0b10, 5), entry(READS, 0b01, 5)];
-    let bytes = plan(3, 2, &entries);
-    let (mut board, taken) = Board::read(&bytes).unwrap();
-    assert_eq!((taken, bytes.len()), (3 + 19 + 3 * 11, taken));
-    assert_eq!(figures(&bytes), Ok(Figures { read: 25, write: 50 }));
-    assert_eq!(board.shared(0, 0), Ok(Some(Shared { lowest: 0, count: 2 })));
-    assert_eq!(board.shared(0, 1), Ok(Some(Shared { lowest: 1, count: 1 })));
-    assert_eq!(board.shared(0, 2), Ok(None));
-    assert_eq!(board.shared(3, 0), Ok(Some(Shared { lowest: 0, count: 1 })));
-    // A write of what it only reads waits for it, and a read of that holds beside it.
-    assert_eq!(board.issue(0, 0, 1), reply(0b001, 0, false));
-    assert_eq!(board.issue(1, 1, 2), reply(0, 0, false));
-    assert_eq!(board.issue(2, 2, 3), reply(0b100, 0, false));
-    assert_eq!(board.waits(1), Ok(0b001));
-    assert_eq!(board.complete(2, 4), reply(0, 0, false));
-    // A read of what it writes waits too. Its own hold is late after 20 ticks.
-    assert_eq!(board.issue(2, 3, 5), reply(0, 0b100, false));
-    assert_eq!(board.complete(0, 22), reply(0b110, 0, true));
-}
-
 /// Checks that the call is refused and that the board stays as it was.
 fn refuses<T: core::fmt::Debug + PartialEq>(
     board: &mut Board,
@@ -145,15 +117,11 @@ fn every_refusal_of_a_call_changes_nothing() {
 #[test]
 fn every_refusal_of_a_plan() {
     let one = |writes, names, length| plan(1, 1, &[entry(writes, names, length)]);
-    let one_mixed = |names, read_only, length| plan(1, 2, &[mixed(names, read_only, length)]);
     let mut kind = one(READS, 1, 1);
-    kind[3] = 3;
-    assert!(Board::new(&one_mixed(1, 2, 1)).is_ok());
+    kind[3] = 2;
     let cases = [
         (vec![], Refusal::Short),
         (plan_f()[..57].to_vec(), Refusal::Short),
-        (one_mixed(0, 0, 0)[..14].to_vec(), Refusal::Short),
-        (one_mixed(0, 0, 0)[..21].to_vec(), Refusal::Short),
         (plan(0, 1, &[]), Refusal::Processors),
         (plan(33, 1, &[]), Refusal::Processors),
         (plan(1, 0, &[]), Refusal::Resources),
@@ -163,12 +131,7 @@ fn every_refusal_of_a_plan() {
         (kind, Refusal::Kind),
         (one(WRITES, 0, 1), Refusal::Set),
         (one(WRITES, 2, 1), Refusal::Set),
-        (one_mixed(4, 0, 0), Refusal::Set),
         (one(WRITES, 1, 0), Refusal::Length),
-        (one_mixed(1, 0, 0), Refusal::Length),
-        (one_mixed(1, 0, 1), Refusal::ReadOnly),
-        (one_mixed(1, 4, 1), Refusal::ReadOnly),
-        (one_mixed(1, 3, 1), Refusal::ReadOnly),
     ];
     for (bytes, refusal) in cases {
         assert_eq!(Board::new(&bytes), Err(refusal));
@@ -178,7 +141,7 @@ fn every_refusal_of_a_plan() {
 
 #[test]
 fn the_largest_plan() {
-    let bytes = plan(32, 64, &vec![mixed(u64::MAX >> 1, 1 << 63, u16::MAX); 64]);
+    let bytes = plan(32, 64, &vec![entry(WRITES, u64::MAX, u16::MAX); 64]);
     assert_eq!(bytes.len(), MAX_PLAN_BYTES);
     let (mut board, taken) = Board::read(&[&bytes[..], &[9; 20]].concat()).unwrap();
     assert_eq!(taken, MAX_PLAN_BYTES);
@@ -194,14 +157,13 @@ fn the_largest_plan() {
 
 #[test]
 fn numbers_and_words_of_refusals() {
-    for number in 1..=19 {
+    for number in 1..=18 {
         assert_eq!(Refusal::from_number(number).unwrap().number(), number);
     }
-    assert_eq!((Refusal::from_number(0), Refusal::from_number(20)), (None, None));
+    assert_eq!((Refusal::from_number(0), Refusal::from_number(19)), (None, None));
     assert_eq!(Refusal::Room.to_string(), "refused 16: room");
     let error: &dyn core::error::Error = &Refusal::Held;
     assert_eq!(error.to_string(), "refused 17: held");
-    assert_eq!(Refusal::ReadOnly.to_string(), "refused 19: read-only");
 }
 
 #[test]

@@ -1,4 +1,4 @@
-/* The rules on any content of a board, processor by processor, from the specification alone: sections 2, 3, 4, 5 and 7. What
+/* The rules on any content of a board, processor by processor, from the specification alone: sections 3, 4, 5 and 7. What
  * the library answers, and what it leaves, is held against this. A conflict is looked up in the row of the request that is
  * asked about; an entry that has no row conflicts with none.
  */
@@ -235,88 +235,4 @@ static uint64_t model_shared(const struct bittmelon_board *b, uint8_t i, uint8_t
     if (i >= 64 || j >= 64 || (!first && !second))
         return 0;
     return first && second ? b->widened[i] & b->widened[j] : b->names[i] & b->names[j];
-}
-
-struct model_entry {
-    uint8_t kind; /* 0 reads, 1 writes, 2 is mixed */
-    uint64_t names, read_only;
-    uint16_t length;
-};
-
-static uint64_t model_number(const uint8_t *bytes, int size)
-{
-    uint64_t number = 0;
-    while (size-- > 0)
-        number = number << 8 | bytes[size];
-    return number;
-}
-
-/* Clause 2.7: whether a set has no resource, or one that is not counted. */
-static int model_improper(uint64_t set, unsigned resources)
-{
-    return set == 0 || (resources < 64 && set >> resources != 0);
-}
-
-/* Clause 2.9: takes an entry off the bytes between two places. The number due, or 0. */
-static uint32_t model_take_entry(const uint8_t **at, const uint8_t *end, unsigned resources, struct model_entry *e)
-{
-    const uint8_t *bytes = *at;
-    if (end - bytes < 11)
-        return 1;
-    if (bytes[0] > 2)
-        return 6;
-    int mixed = bytes[0] == 2;
-    if (mixed && end - bytes < 19)
-        return 1;
-    *at += mixed ? 19 : 11;
-    *e = (struct model_entry){bytes[0], model_number(bytes + 1, 8), mixed ? model_number(bytes + 11, 8) : 0,
-        (uint16_t)model_number(bytes + 9, 2)};
-    if (model_improper(e->names, resources))
-        return 7;
-    if (e->length == 0)
-        return 8;
-    return mixed && (model_improper(e->read_only, resources) || (e->read_only & e->names)) ? 19 : 0;
-}
-
-/* Clause 3.1; the widened set of a read is its names. */
-static uint64_t model_widened(const struct model_entry *entries, unsigned count, const struct model_entry *e)
-{
-    uint64_t set = e->names | e->read_only;
-    for (unsigned i = 0; i < count && e->kind != 0; i++)
-        if (entries[i].kind == 0 && (entries[i].names & e->names))
-            set |= entries[i].names;
-    return set;
-}
-
-/* Clauses 2.9, 3.3, 4.3 and 11.2: the fresh board of the plan in the bytes, and the number of bytes that it took; or its refusal,
- * and the board stays. Entries past the count have nothing. */
-static struct bittmelon_answer model_fresh(struct bittmelon_board *b, const uint8_t *bytes, size_t size)
-{
-    static const uint8_t largest[3] = {32, 64, 64};
-    struct model_entry entries[64];
-    for (unsigned i = 0; i < 3; i++) {
-        if (size <= i)
-            return (struct bittmelon_answer){1, 0};
-        if (bytes[i] < 1 || bytes[i] > largest[i])
-            return (struct bittmelon_answer){3 + i, 0};
-    }
-    const uint8_t *at = bytes + 3;
-    for (unsigned i = 0; i < bytes[2]; i++) {
-        uint32_t refusal = model_take_entry(&at, bytes + size, bytes[1], &entries[i]);
-        if (refusal != 0)
-            return (struct bittmelon_answer){refusal, 0};
-    }
-    struct bittmelon_board fresh = {.processors = bytes[0], .entries = bytes[2]};
-    memcpy(fresh.unused, b->unused, sizeof fresh.unused);
-    for (unsigned i = 0; i < bytes[2]; i++) {
-        fresh.writes |= (uint64_t)(entries[i].kind != 0) << i;
-        fresh.lengths[i] = entries[i].length;
-        fresh.names[i] = entries[i].names;
-        fresh.widened[i] = model_widened(entries, bytes[2], &entries[i]);
-    }
-    for (uint8_t i = 0; i < bytes[2]; i++)
-        for (uint8_t j = 0; j < bytes[2]; j++)
-            fresh.rows[i] |= (uint64_t)(model_shared(&fresh, i, j) != 0) << j;
-    *b = fresh;
-    return (struct bittmelon_answer){0, (uint64_t)(at - bytes)};
 }

@@ -39,7 +39,7 @@ static void handover(uint8_t processor, uint8_t entry, uint64_t tick)
 }
 
 /* Two writes on one resource, of lengths 30 and 20, and a read of it of length 5. */
-static const struct entry entries[3] = {{1, 1, 30, 0}, {1, 1, 20, 0}, {0, 1, 5, 0}};
+static const struct entry entries[3] = {{1, 1, 30}, {1, 1, 20}, {0, 1, 5}};
 
 /* The fresh board of that plan with four processors. */
 static void start(void)
@@ -198,68 +198,6 @@ static void stray_handovers(void)
     handover(0, 2, 0);
 }
 
-/* Clauses 2.7 and 2.9: what is refused of a mixed entry, in this order: 6, 7, 8, 19. One of 11 to 18 bytes is short, whatever
- * its names and its length are. */
-static void refused_mixed_entries(void)
-{
-    static const struct entry one[] = {{3, 0, 0, 0}, {2, 0, 0, 0}, {2, 4, 0, 4}, {2, 1, 0, 1}, {2, 1, 9, 0}, {2, 1, 9, 4},
-        {2, 1, 9, 6}, {2, 1, 9, 1}, {2, 3, 9, 2}};
-    uint8_t bytes[BITTMELON_MAX_PLAN_BYTES];
-    for (size_t i = 0; i < sizeof one / sizeof *one; i++)
-        print_refusal(fresh_of(&board, 2, 2, 1, &one[i]));
-    plan_bytes(bytes, 2, 2, 1, &one[1]);
-    for (size_t size = 13; size <= 22; size++)
-        printf("%" PRIu32 " ", bittmelon_fresh(&board, bytes, size).refusal);
-    printf("\n");
-}
-
-static void print_board(void)
-{
-    printf("writes %" PRIx64 "\n", board.writes);
-    for (int i = 0; i < board.entries; i++)
-        printf("%" PRIx64 " %" PRIx64 " %" PRIx64 " %u\n", board.names[i], board.widened[i], board.rows[i], board.lengths[i]);
-}
-
-/* Clauses 3.1 and 3.2: a mixed entry writes {0} and only reads {1}. It is widened by the read {0,2}, not by the read {1,3}. A
- * write of {1} waits for it, a read of {1,3} holds beside it, a read of {0,2} does not. */
-static void mixed_entries(void)
-{
-    static const struct entry mixed[] = {{2, 1, 20, 2}, {0, 5, 5, 0}, {0, 10, 5, 0}, {1, 2, 9, 0}, {2, 8, 65535, 16}};
-    fresh_of(&board, 4, 5, 5, mixed);
-    print_board();
-    issue(0, 0, 1);
-    issue(1, 3, 2);
-    issue(2, 2, 3);
-    issue(3, 1, 4);
-    complete(0, 22);
-    handover(3, 0, 22);
-    withdraw(1, 22);
-    complete(2, 22);
-    issue(2, 4, 22);
-    complete(3, 22);
-    complete(2, 22 + 65536);
-}
-
-/* The largest plan, of 1,219 bytes: 64 mixed entries over 64 resources. One with a byte less is short, and bytes behind it are
- * ignored. */
-static void largest_plan(void)
-{
-    static uint8_t bytes[BITTMELON_MAX_PLAN_BYTES + 1];
-    struct entry all[64];
-    for (int i = 0; i < 64; i++)
-        all[i] = (struct entry){2, (uint64_t)1 << i, (uint16_t)(1 + i), (uint64_t)1 << (i + 1) % 64};
-    size_t size = plan_bytes(bytes, 32, 64, 64, all);
-    for (size_t count = size - 1; count <= size + 1; count++) {
-        struct bittmelon_answer made = bittmelon_fresh(&board, bytes, count);
-        printf("%" PRIu32 " %" PRIu64 "\n", made.refusal, made.value);
-    }
-    printf("%" PRIx64 " %" PRIx64 " %" PRIx64 "\n", board.names[63], board.widened[63], board.rows[63]);
-    printf("%" PRIu32 " %" PRIu32 "\n", bittmelon_read_figure(bytes, size), bittmelon_write_figure(bytes, size));
-    issue(31, 63, 0);
-    issue(30, 0, 0);
-    issue(29, 1, 0);
-}
-
 int main(void)
 {
     static const uint8_t processors[] = {0, 1, 16, 17, 32, 33};
@@ -275,8 +213,5 @@ int main(void)
     refused_handovers();
     handovers();
     stray_handovers();
-    refused_mixed_entries();
-    mixed_entries();
-    largest_plan();
     return 0;
 }

@@ -7,17 +7,9 @@
 
 struct entry {
     uint8_t kind;
-    uint64_t names;
+    uint64_t set;
     uint16_t length;
-    uint64_t read_only; /* of a mixed entry */
 };
-
-static inline uint8_t *put_set(uint8_t *at, uint64_t set)
-{
-    for (int byte = 0; byte < 8; byte++)
-        *at++ = (uint8_t)(set >> 8 * byte);
-    return at;
-}
 
 /* The bytes of a plan; how many they are. */
 static inline size_t plan_bytes(uint8_t bytes[BITTMELON_MAX_PLAN_BYTES], uint8_t processors, uint8_t resources, uint8_t count,
@@ -29,11 +21,10 @@ static inline size_t plan_bytes(uint8_t bytes[BITTMELON_MAX_PLAN_BYTES], uint8_t
     *at++ = count;
     for (int i = 0; i < count; i++) {
         *at++ = entries[i].kind;
-        at = put_set(at, entries[i].names);
+        for (int byte = 0; byte < 8; byte++)
+            *at++ = (uint8_t)(entries[i].set >> 8 * byte);
         *at++ = (uint8_t)entries[i].length;
         *at++ = (uint8_t)(entries[i].length >> 8);
-        if (entries[i].kind == 2)
-            at = put_set(at, entries[i].read_only);
     }
     return (size_t)(at - bytes);
 }

@@ -5,7 +5,7 @@ static struct bittmelon_board board;
 static uint8_t bytes[512];
 
 /* Plan F: writes {2}, {1,2}, {0}, reads {0,1}, {2}. */
-static const struct entry entries[5] = {{1, 4, 30, 0}, {1, 6, 20, 0}, {1, 1, 40, 0}, {0, 3, 10, 0}, {0, 4, 5, 0}};
+static const struct entry entries[5] = {{1, 4, 30}, {1, 6, 20}, {1, 1, 40}, {0, 3, 10}, {0, 4, 5}};
 
 /* The first so many bytes, each a 7. */
 static uint8_t *sevens(size_t size)
@@ -120,33 +120,6 @@ static void print_board(uint8_t processors, size_t list, size_t scratch)
     }
 }
 
-/* Clauses 3.4 and 7.10: what each two entries of a plan conflict over, and the refusal of an entry that is not the plan's. */
-static void print_conflicts(void)
-{
-    for (uint8_t i = 0; i <= board.entries; i++)
-        for (uint8_t j = i; j <= board.entries; j++) {
-            struct bittmelon_conflict over = bittmelon_shared(&board, i, j);
-            printf("%u %u: %" PRIu32 " %" PRIu32 " %" PRIu32 " %" PRIu32 "\n", i, j, over.refusal, over.conflict, over.lowest,
-                over.count);
-        }
-}
-
-/* Two mixed entries that write {0} and {1} and read {2} and {2,3}, reads of {2} and {0,4}, a write of {4}. The first holds, the
- * second waits for it, and the read of {2} holds beside it. */
-static void print_mixed(void)
-{
-    static const struct entry mixed[] = {{2, 1, 9, 4}, {2, 2, 9, 12}, {0, 4, 9, 0}, {0, 17, 9, 0}, {1, 16, 9, 0}};
-    fresh_of(&board, 3, 5, 5, mixed);
-    print_conflicts();
-    for (uint8_t p = 0; p < 3; p++)
-        bittmelon_issue(&board, p, p, p);
-    sevens(32);
-    for (uint8_t p = 0; p <= 3; p++)
-        print_all(p);
-    sevens(25);
-    print_list(25);
-}
-
 int main(void)
 {
     four_calls();
@@ -156,6 +129,5 @@ int main(void)
     print_board(16, 129, 32);
     print_board(17, 171, 128);
     print_board(32, 321, 128);
-    print_mixed();
     return 0;
 }

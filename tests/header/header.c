@@ -46,22 +46,6 @@ static void make_board(unsigned processors, unsigned resources, unsigned entries
     expect(made.refusal == BITTMELON_ACCEPTED && made.value == size, "a plan within the largest counts is accepted whole");
 }
 
-/* The largest plan: all its entries are mixed. Each writes resource 0 and only reads resource 1. Gives its bytes. */
-static size_t make_largest(unsigned processors, unsigned resources, unsigned entries)
-{
-    memset(plan, 0, sizeof plan);
-    plan[0] = (uint8_t)processors;
-    plan[1] = (uint8_t)resources;
-    plan[2] = (uint8_t)entries;
-    for (unsigned i = 0; i < entries; i++) {
-        plan[3 + 19 * i] = 2;
-        plan[3 + 19 * i + 1] = 1;
-        plan[3 + 19 * i + 9] = 9;
-        plan[3 + 19 * i + 11] = 2;
-    }
-    return 3 + 19 * (size_t)entries;
-}
-
 /* Plan F of the specification. */
 static void make_plan_f(void)
 {
@@ -99,9 +83,9 @@ static void count_limits(void)
 
 static void room_limits(void)
 {
-    struct bittmelon_answer made = bittmelon_fresh(&board, plan, make_largest(32, 64, 64));
+    struct bittmelon_answer made = bittmelon_fresh(&board, plan, make_plan(32, 64, 64));
     expect(made.refusal == BITTMELON_ACCEPTED && made.value == BITTMELON_MAX_PLAN_BYTES,
-        "a plan of 32 processors, 64 resources and 64 mixed entries takes BITTMELON_MAX_PLAN_BYTES");
+        "a plan of 32 processors, 64 resources and 64 entries takes BITTMELON_MAX_PLAN_BYTES");
     expect(bittmelon_fresh(&board, plan, BITTMELON_MAX_PLAN_BYTES - 1).refusal == BITTMELON_SHORT,
         "with a byte less than BITTMELON_MAX_PLAN_BYTES the largest plan is short");
     make_board(32, 64, 64);
@@ -146,27 +130,6 @@ static uint32_t edited(unsigned at, uint8_t value)
     return bittmelon_plan_refusal(plan, size);
 }
 
-/* A plan of one mixed entry and two resources with one byte changed. */
-static uint32_t edited_mixed(unsigned at, uint8_t value)
-{
-    size_t size = make_largest(1, 2, 1);
-    plan[at] = value;
-    return bittmelon_plan_refusal(plan, size);
-}
-
-/* A mixed entry is a write on the board. Its names are what it writes, and what it only reads is in its widened set alone. */
-static void mixed_entry(void)
-{
-    struct bittmelon_answer made = bittmelon_fresh(&board, plan, make_largest(3, 2, 1));
-    expect(made.refusal == BITTMELON_ACCEPTED && made.value == 22, "a mixed entry takes 19 bytes");
-    expect(board.writes == 1 && board.names[0] == 1 && board.widened[0] == 3 && board.lengths[0] == 9 && board.rows[0] == 1,
-        "the fields of the board have what the mixed entry has");
-    struct bittmelon_conflict over = bittmelon_shared(&board, 0, 0);
-    expect(over.conflict == 1 && over.lowest == 0 && over.count == 2, "it conflicts with itself over both its sets");
-    expect(bittmelon_read_figure(plan, 22) == 9 && bittmelon_write_figure(plan, 22) == 18,
-        "its length counts for the longest write");
-}
-
 /* Each refusal that a function for C returns, provoked. */
 static void provoked(void)
 {
@@ -174,17 +137,10 @@ static void provoked(void)
     expect(edited(0, 0) == BITTMELON_PROCESSORS, "no processors: BITTMELON_PROCESSORS");
     expect(edited(1, 0) == BITTMELON_RESOURCES, "no resources: BITTMELON_RESOURCES");
     expect(edited(2, 0) == BITTMELON_ENTRIES, "no entries: BITTMELON_ENTRIES");
-    expect(edited(3, 3) == BITTMELON_KIND, "a kind of 3: BITTMELON_KIND");
-    expect(edited(3, 2) == BITTMELON_SHORT, "a mixed entry of 11 bytes: BITTMELON_SHORT");
+    expect(edited(3, 2) == BITTMELON_KIND, "a kind of 2: BITTMELON_KIND");
     expect(edited(4, 0) == BITTMELON_SET, "an empty set: BITTMELON_SET");
     expect(edited(4, 2) == BITTMELON_SET, "a resource that is not counted: BITTMELON_SET");
     expect(edited(12, 0) == BITTMELON_LENGTH, "a length of 0: BITTMELON_LENGTH");
-    expect(edited_mixed(14, 2) == BITTMELON_ACCEPTED, "a mixed entry: BITTMELON_ACCEPTED");
-    expect(edited_mixed(14, 0) == BITTMELON_READ_ONLY, "an empty read-only set: BITTMELON_READ_ONLY");
-    expect(edited_mixed(14, 4) == BITTMELON_READ_ONLY, "a read-only resource that is not counted: BITTMELON_READ_ONLY");
-    expect(edited_mixed(14, 1) == BITTMELON_READ_ONLY, "a read-only set that has a name: BITTMELON_READ_ONLY");
-    expect(edited_mixed(4, 0) == BITTMELON_SET, "a mixed entry with no names: BITTMELON_SET");
-    expect(edited_mixed(12, 0) == BITTMELON_LENGTH, "a mixed entry with a length of 0: BITTMELON_LENGTH");
     make_board(3, 1, 1);
     expect(bittmelon_issue(&board, 0, 0, 7).refusal == BITTMELON_ACCEPTED, "an issue: BITTMELON_ACCEPTED");
     expect(bittmelon_issue(&board, 1, 0, 7).refusal == BITTMELON_ACCEPTED, "an issue that waits: BITTMELON_ACCEPTED");
@@ -261,7 +217,6 @@ static void print_names(void)
     REFUSAL(ROOM);
     REFUSAL(HELD);
     REFUSAL(REGISTER);
-    REFUSAL(READ_ONLY);
     FIELD(last, last);
     FIELD(writes, writes);
     FIELD(phases, phases[0]);
@@ -284,7 +239,6 @@ int main(void)
     room_limits();
     tick_limits();
     old_names();
-    mixed_entry();
     provoked();
     states();
     unsigned major, minor, patch;

@@ -9,12 +9,8 @@ ISSUE, COMPLETE, WITHDRAW, HANDOVER = 0, 1, 2, 3
 LAST = 2**40 - 1
 
 
-def resources(numbers):
-    return sum(1 << r for r in numbers).to_bytes(8, "little")
-
-
 def entry(kind, names, length):
-    return bytes([kind]) + resources(names) + length.to_bytes(2, "little")
+    return bytes([kind]) + sum(1 << r for r in names).to_bytes(8, "little") + length.to_bytes(2, "little")
 
 
 def read(names, length):
@@ -25,12 +21,8 @@ def write(names, length):
     return entry(1, names, length)
 
 
-def mixed(names, read_only, length):
-    return entry(2, names, length) + resources(read_only)
-
-
-def plan(processors, count, entries):
-    return bytes([processors, count, len(entries)]) + b"".join(entries)
+def plan(processors, resources, entries):
+    return bytes([processors, resources, len(entries)]) + b"".join(entries)
 
 
 def issue(processor, number, tick):
@@ -76,7 +68,7 @@ def refusals():
     yield "refused_04_sixty_five", plan(1, 65, [read([0], 1)])
     yield "refused_05_none", bytes([1, 1, 0])
     yield "refused_05_sixty_five", bytes([1, 1, 65])
-    yield "refused_06", plan(1, 1, [entry(3, [0], 1)])
+    yield "refused_06", plan(1, 1, [entry(2, [0], 1)])
     yield "refused_07_empty", plan(1, 1, [read([], 1)])
     yield "refused_07_not_counted", plan(1, 1, [read([1], 1)])
     yield "refused_08", plan(1, 1, [read([0], 0)])
@@ -105,25 +97,12 @@ def refusals():
     ])
     # The holder holds on from its grant, and the refused tick counts nowhere.
     yield "refused_handover_changes_nothing", log(PAIR, [issue(0, 0, 1), issue(1, 1, 2), handover(0, 3, 19), handover(1, 2, 19), issue(1, 2, 3), complete(0, 21), complete(1, 26)])
-    yield from refusals_of_mixed_entries()
     yield "order_10_before_11", log(PAIR, [issue(0, 0, 5), issue(9, 9, 4), complete(9, 4)])
     yield "order_11_before_12", log(PAIR, [issue(2, 3, 5)])
     yield "order_12_before_13", log(PAIR, [issue(0, 0, 5), issue(0, 3, 5)])
     yield "order_14_before_15", log(PAIR, [complete(1, 5), issue(0, 0, 5), issue(1, 1, 5), complete(1, 5)])
     yield "order_9_before_10", log(PAIR, [issue(0, 0, 5), bytes([7, 9, 9, 1, 0, 0, 0, 0])])
     yield "order_1_before_9", log(PAIR, [issue(0, 0, 5), bytes([7, 9, 9, 1, 0, 0, 0])], 2)
-
-
-def refusals_of_mixed_entries():
-    """Read-only sets that are refused, and what is looked at before them. A mixed entry has 19 bytes."""
-    yield "refused_01_mixed_of_11_bytes", plan(1, 2, [entry(2, [0], 1)])
-    yield "refused_19_empty", plan(1, 2, [mixed([0], [], 1)])
-    yield "refused_19_not_counted", plan(1, 2, [mixed([0], [1, 2], 1)])
-    yield "refused_19_one_of_its_names", plan(1, 2, [mixed([0, 1], [1], 1)])
-    yield "order_1_before_7", plan(1, 2, [mixed([], [1], 0)])[:-1]
-    yield "order_7_before_19", plan(1, 2, [mixed([2], [2], 1)])
-    yield "order_8_before_19", plan(1, 2, [mixed([0], [], 0)])
-    yield "order_19_before_6_of_the_next", plan(1, 2, [mixed([0], [0], 1), entry(3, [0], 1)])
 
 
 def boards():
@@ -151,7 +130,6 @@ def boards():
     yield from withdrawals()
     yield from handovers()
     yield from wide_boards(entries)
-    yield from mixed_entries()
     rng = random.Random(7)
     for size in (60, 300):
         yield f"busy_board_{size}", log(full, busy(rng, 16, entries, size))
@@ -201,43 +179,6 @@ def handovers():
     entries = [write([i % 5], i + 1) if i % 3 == 0 else read([i % 5, (i + 1) % 5], i + 1) for i in range(12)]
     calls = [call if rng.random() < 0.6 else bytes([HANDOVER, call[1], rng.randrange(13)]) + call[3:] for call in busy(rng, 6, entries, 200)]
     yield "busy_board_handing_over", log(plan(6, 5, entries), calls)
-
-
-def mixed_entries():
-    """Entries that write some resources and only read others."""
-    stitch = plan(2, 2, [mixed([0], [1], 20), write([1], 9), read([1], 5), read([0], 5)])
-    # Another write of what it only reads waits, and a read of that holds beside it. A read of what it writes waits.
-    yield "mixed_keeps_off_a_write_of_what_it_reads", log(stitch, [issue(0, 0, 1), issue(1, 1, 2), complete(0, 3), issue(0, 0, 4), complete(1, 5), complete(0, 6)])
-    yield "mixed_shares_what_it_reads_with_a_read", log(stitch, [issue(0, 0, 1), issue(1, 2, 2), complete(0, 3), issue(0, 0, 4), complete(1, 5), complete(0, 6)])
-    yield "mixed_keeps_off_a_read_of_what_it_writes", log(stitch, [issue(0, 0, 1), issue(1, 3, 2), complete(0, 3), issue(0, 0, 4), complete(1, 5), complete(0, 6)])
-    # Two of them that share only what both read do not hold together.
-    both = plan(2, 3, [mixed([0], [2], 20), mixed([1], [2], 9)])
-    yield "mixed_and_mixed_share_what_both_read", log(both, [issue(0, 0, 1), issue(1, 1, 2), complete(0, 3), complete(1, 4)])
-    # The reads of what it only reads do not widen it, those of what it writes do, and it widens no other entry.
-    line = plan(2, 4, [mixed([0], [1], 20), read([1, 2], 5), read([2, 3], 5), write([3], 9)])
-    yield "mixed_is_not_widened_by_what_it_reads", log(line, [issue(0, 0, 1), issue(1, 3, 2), complete(0, 3), complete(1, 4)])
-    line = plan(2, 4, [mixed([0], [1], 20), read([0, 2], 5), read([2, 3], 5), write([3], 9)])
-    yield "mixed_is_widened_by_what_it_writes", log(line, [issue(0, 0, 1), issue(1, 3, 2), complete(0, 3), complete(1, 4)])
-    line = plan(2, 4, [mixed([0, 1], [3], 20), write([0], 9), write([1], 9)])
-    yield "mixed_widens_no_other", log(line, [issue(0, 1, 1), issue(1, 2, 2), complete(0, 3), issue(0, 0, 4), complete(1, 5), complete(0, 6)])
-    # Its length counts for the longest write, and a hold of it is late after that.
-    yield "mixed_length", log(plan(3, 2, [read([0], 5), write([0], 9), mixed([0], [1], 40)]), [issue(0, 2, 1), complete(0, 41), issue(0, 2, 41), handover(0, 0, 82), complete(0, 87)])
-    # It waits, is entitled, leaves, and is handed over to and from, as a write.
-    queue = plan(4, 3, [mixed([0], [1], 20), read([0], 5), write([1, 2], 9), read([1], 5)])
-    yield "mixed_in_a_queue", log(queue, [
-        issue(0, 1, 1), issue(1, 0, 2), issue(2, 2, 3), issue(3, 3, 4), withdraw(1, 5), issue(1, 0, 6), complete(3, 7), handover(0, 3, 8),
-        complete(2, 9), handover(1, 1, 10), handover(0, 0, 11), complete(1, 12), complete(0, 13),
-    ])
-    # The longest plan: 1,219 bytes.
-    entries = [mixed([i], [(i + 1) % 64, (i + 32) % 64], i + 1) for i in range(64)]
-    calls = [issue(p, p * 4, p) for p in range(16)] + [complete(p, 100 + p) for p in range(16)]
-    calls += [issue(0, 63, 200), issue(1, 31, 201), complete(0, 202), complete(1, 203)]
-    yield "sixty_four_mixed_entries", log(plan(16, 64, entries), calls)
-    rng = random.Random(9)
-    kinds = (lambda a, b, n: read([a, b], n), lambda a, b, n: write([a], n), lambda a, b, n: mixed([a], [b], n))
-    for m, size in ((6, 200), (32, 200)):
-        entries = [kinds[i % 3](i % 7, (i + 1 + i % 4) % 7, i + 1) for i in range(14)]
-        yield f"busy_board_of_mixed_entries_{m}", log(plan(m, 7, entries), busy(rng, m, entries, size))
 
 
 def busy(rng, processors, entries, size):

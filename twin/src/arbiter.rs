@@ -47,7 +47,7 @@ impl Arbiter {
     }
 
     pub fn writes(&self, r: &Request) -> bool {
-        self.plan.entries[r.entry as usize].writes()
+        self.plan.entries[r.entry as usize].write
     }
 
     fn conflict(&self, r: &Request, q: &Request) -> bool {
@@ -120,7 +120,7 @@ impl Arbiter {
                 }
                 self.requests.push(Request { processor, entry, phase: Waiting, issued_at: tick, granted_at: 0 });
                 let at = self.requests.len() - 1;
-                let read = !self.plan.entries[entry as usize].writes();
+                let read = !self.plan.entries[entry as usize].write;
                 if read && !self.any(at, true, Entitled) && !self.any(at, true, Holding) {
                     self.requests[at].phase = Holding;
                 }

@@ -1,30 +1,15 @@
 //! Logs for the comparison: random, saturated, hostile, damaged and cut, with every refusal mixed in.
 use crate::arbiter::{Arbiter, Call, Phase};
-use crate::plan::{Entry, Kind, Plan, Resources};
+use crate::plan::{Entry, Plan};
 use crate::random::Random;
-
-fn set_bytes(set: &Resources) -> [u8; 8] {
-    set.iter().fold(0u64, |bits, r| bits | 1 << r).to_le_bytes()
-}
-
-fn entry_bytes(entry: &Entry) -> Vec<u8> {
-    let kind = match entry.kind {
-        Kind::Read => 0,
-        Kind::Write => 1,
-        Kind::Mixed => 2,
-    };
-    let mut bytes = vec![kind];
-    bytes.extend(set_bytes(&entry.names));
-    bytes.extend((entry.length as u16).to_le_bytes());
-    if entry.kind == Kind::Mixed {
-        bytes.extend(set_bytes(&entry.read_only));
-    }
-    bytes
-}
 
 pub fn plan_bytes(plan: &Plan) -> Vec<u8> {
     let mut bytes = vec![plan.processors, plan.resources, plan.entries.len() as u8];
-    bytes.extend(plan.entries.iter().flat_map(entry_bytes));
+    for e in &plan.entries {
+        bytes.push(e.write as u8);
+        bytes.extend(e.names.iter().fold(0u64, |set, r| set | 1 << r).to_le_bytes());
+        bytes.extend((e.length as u16).to_le_bytes());
+    }
     bytes
 }
 
@@ -44,54 +29,18 @@ pub fn log_bytes(plan: &Plan, calls: &[Call]) -> Vec<u8> {
     bytes
 }
 
-/// Of ten entries of a plan, how many read and how many are mixed. The others write.
-#[derive(Clone, Copy)]
-pub struct Mix {
-    reads: u64,
-    mixed: u64,
-}
-
-/// One in three has mixed entries: nothing else, beside reads or writes, or beside both.
-pub fn mix(r: &mut Random) -> Mix {
-    let (reads, mixed) = if r.once_in(3) {
-        r.pick(&[(0, 10), (0, 5), (5, 5), (3, 4), (7, 2)])
-    } else {
-        (r.pick(&[0, 5, 7, 10]), 0)
-    };
-    Mix { reads, mixed }
-}
-
-/// One to `most` of these resources.
-fn some(r: &mut Random, most: u64, of: &[u8]) -> Resources {
-    (0..r.within(1, most)).map(|_| r.pick(of)).collect()
-}
-
-/// An entry of a plan of two or more resources if it may be mixed. Now and then a mixed one uses all resources.
-fn entry(r: &mut Random, mix: Mix, resources: u8, most: u64, longest: u64) -> Entry {
-    let kind = match r.below(10) {
-        n if n < mix.reads => Kind::Read,
-        n if n < mix.reads + mix.mixed => Kind::Mixed,
-        _ => Kind::Write,
-    };
-    let all: Vec<u8> = (0..resources).collect();
-    let mut names = some(r, most, &all);
-    let mut read_only = Resources::new();
-    if kind == Kind::Mixed {
-        if names.len() == all.len() {
-            names.pop_first();
-        }
-        let others: Vec<u8> = all.into_iter().filter(|other| !names.contains(other)).collect();
-        read_only = if r.once_in(8) { others.into_iter().collect() } else { some(r, most, &others) };
-    }
-    Entry { kind, names, read_only, length: r.within(1, longest) }
-}
-
-/// A plan with m processors. Few resources make much conflict.
-pub fn plan(r: &mut Random, m: u8, mix: Mix) -> Plan {
-    let resources = r.pick(&[1, 2, 3, 5, 8, 20, 64]).max(if mix.mixed > 0 { 2 } else { 1 });
+/// A plan with m processors. Few resources make much conflict. `reads` of ten entries read.
+pub fn plan(r: &mut Random, m: u8, reads: u64) -> Plan {
+    let resources = r.pick(&[1, 2, 3, 5, 8, 20, 64]);
     let most = r.pick(&[1, 2, 3, 6]).min(resources as u64);
     let longest = r.pick(&[1, 4, 30, 65535]);
-    let entries = (0..r.pick(&[1, 2, 5, 12, 64])).map(|_| entry(r, mix, resources, most, longest)).collect();
+    let entries = (0..r.pick(&[1, 2, 5, 12, 64]))
+        .map(|_| Entry {
+            write: r.below(10) >= reads,
+            names: (0..r.within(1, most)).map(|_| r.below(resources as u64) as u8).collect(),
+            length: r.within(1, longest),
+        })
+        .collect();
     Plan { processors: m, resources, entries }
 }
 
@@ -227,56 +176,6 @@ pub fn damaged(r: &mut Random, mut bytes: Vec<u8>) -> Vec<u8> {
     bytes
 }
 
-/// The number of one of the set's bits, if it has any.
-fn one_of(r: &mut Random, set: &Resources) -> Option<u8> {
-    let bits: Vec<u8> = set.iter().copied().collect();
-    if bits.is_empty() { None } else { Some(r.pick(&bits)) }
-}
-
-/// Sets a bit of the set whose bytes begin at a place.
-fn join(bytes: &mut [u8], at: usize, bit: Option<u8>) {
-    if let Some(bit) = bit {
-        bytes[at + bit as usize / 8] |= 1 << (bit % 8);
-    }
-}
-
-/// The log with a fault in a mixed entry of its plan, if it has one: each fault that such an entry can have, in every byte, at
-/// times together with a fault in its names or its length.
-fn with_faulty_entry(r: &mut Random, plan: &Plan, mut bytes: Vec<u8>) -> Vec<u8> {
-    let starts: Vec<usize> = (0..plan.entries.len()).map(|i| 3 + plan.entries[..i].iter().flat_map(entry_bytes).count()).collect();
-    let mixed: Vec<usize> = (0..plan.entries.len()).filter(|&i| plan.entries[i].kind == Kind::Mixed).collect();
-    if mixed.is_empty() {
-        return bytes;
-    }
-    let i = r.pick(&mixed);
-    let (at, names, length, read_only) = (starts[i], starts[i] + 1, starts[i] + 9, starts[i] + 11);
-    let uncounted: Resources = (plan.resources..64).collect();
-    match r.below(9) {
-        0 => bytes[names..length].fill(0),
-        1 => join(&mut bytes, names, one_of(r, &uncounted)),
-        2 => bytes[length..read_only].fill(0),
-        _ => {}
-    }
-    match r.below(9) {
-        0 => bytes[at + r.below(19) as usize] = r.below(256) as u8,
-        1 => bytes[at + r.below(19) as usize] ^= 1 << r.below(8),
-        2 | 3 => bytes.truncate(at + r.below(19) as usize),
-        4 => bytes[read_only..read_only + 8].fill(0),
-        5 => join(&mut bytes, read_only, one_of(r, &uncounted)),
-        6 => join(&mut bytes, read_only, one_of(r, &plan.entries[i].names)),
-        7 => drop(bytes.drain(read_only..read_only + 8)),
-        _ => bytes[at] = r.pick(&[3, 4, 5, 6, 130, 255]),
-    }
-    // An entry of another kind that becomes mixed has too few bytes.
-    if r.once_in(10) {
-        let other = r.pick(&starts);
-        if let Some(kind) = bytes.get_mut(other) {
-            *kind = 2;
-        }
-    }
-    bytes
-}
-
 /// Log number `seed`: one in ten is long.
 pub fn log(seed: u64) -> Vec<u8> {
     if seed % 10 == 3 { long(seed) } else { short(seed) }
@@ -286,8 +185,9 @@ pub fn log(seed: u64) -> Vec<u8> {
 /// the first block: a tail, a record that is short, a bad verb, or a completion or a withdrawal with an entry.
 fn long(seed: u64) -> Vec<u8> {
     let r = &mut Random::new(seed);
-    let (m, mix) = (processors(r), mix(r));
-    let plan = plan(r, m, mix);
+    let m = processors(r);
+    let reads = r.pick(&[0, 5, 7, 10]);
+    let plan = plan(r, m, reads);
     let count = r.within(500, 1500) as usize;
     let also = also(r);
     let calls = if r.once_in(3) { hostile(r, &plan, count, also) } else { mixed(r, &plan, count, also) };
@@ -310,8 +210,9 @@ fn long(seed: u64) -> Vec<u8> {
 /// Log number `seed`, of at most 200 calls.
 pub fn short(seed: u64) -> Vec<u8> {
     let r = &mut Random::new(seed);
-    let (m, mix) = (processors(r), mix(r));
-    let plan = plan(r, m, mix);
+    let m = processors(r);
+    let reads = r.pick(&[0, 5, 7, 10]);
+    let plan = plan(r, m, reads);
     let count = r.pick(&[0, 3, 20, 60, 200]);
     let also = also(r);
     let bytes = match seed % 4 {
@@ -324,7 +225,6 @@ pub fn short(seed: u64) -> Vec<u8> {
             let end = r.below(bytes.len() as u64 + 1) as usize;
             bytes[..end].to_vec()
         }
-        2 | 3 if r.once_in(2) => with_faulty_entry(r, &plan, bytes),
         _ => bytes,
     }
 }

@@ -2,14 +2,12 @@
 //! resources are sets. It shares no code or table with the library.
 //!
 //! twin replay | queries | viewer | conflicts | registers    a log, a plan, or a plan and operations on standard input
-//! twin measure LOG LISTING                  the longest waits of a listing against the plan's figures; holders that share
-//!                                           a resource that one of them writes
+//! twin measure LOG LISTING                  the longest waits of a listing against the plan's figures
 //! twin compare PROGRAM FROM COUNT DIR       seeded logs through a program and the twin, byte for byte
 //! twin compare-queries PROGRAM FROM COUNT DIR
 //! twin compare-conflicts PROGRAM FROM COUNT DIR
 //! twin compare-registers PROGRAM FROM COUNT DIR
 //! twin covered FROM COUNT                   whether these streams of register operations meet every case
-//! twin covered-logs FROM COUNT              whether these logs meet every mix of kinds and every fault of a mixed entry
 //! twin stream SEED COUNT                    writes a stream of so many register operations
 //! twin waits PROGRAM COUNT                  hostile logs through a program: no wait passes its figure, and how near they come
 //! twin log SEED                             writes one of the seeded logs
@@ -19,7 +17,6 @@
 mod arbiter;
 mod compare;
 mod conflicts;
-mod coverage;
 mod listing;
 mod logs;
 mod measure;
@@ -50,10 +47,10 @@ fn print_measured(log: &str, listing: &str) -> bool {
     let listing = fs::read_to_string(listing).expect("the listing");
     match measure::measure(&log, &listing) {
         Ok((plan, m)) => {
-            println!("requests {} overran {} shared {}", m.requests, m.overran, m.shared);
+            println!("requests {} overran {}", m.requests, m.overran);
             println!("longest read wait {} of {}", m.read, plan.read_figure());
             println!("longest write wait {} of {}", m.write, plan.write_figure());
-            !m.shared && (m.overran > 0 || m.read <= plan.read_figure() && m.write <= plan.write_figure())
+            m.overran > 0 || (m.read <= plan.read_figure() && m.write <= plan.write_figure())
         }
         Err(why) => {
             println!("{why}");
@@ -88,11 +85,6 @@ fn main() -> io::Result<()> {
         ["covered", from, count] => {
             let missing = registers::missing(number(from), number(count));
             missing.iter().for_each(|name| println!("no stream has: {name}"));
-            missing.is_empty()
-        }
-        ["covered-logs", from, count] => {
-            let missing = coverage::missing(number(from), number(count));
-            missing.iter().for_each(|name| println!("no log has: {name}"));
             missing.is_empty()
         }
         ["stream", seed, count] => out.write_all(&registers::stream_of(number(seed), number(count) as usize)).is_ok(),

@@ -1,7 +1,7 @@
 //! Whole runs measured, from a log's calls and the answers of a listing alone. Specification, section 6.
 use crate::arbiter::Call;
 use crate::listing::take_call;
-use crate::plan::{take_number, Entry, Plan};
+use crate::plan::{take_number, Plan};
 
 struct Counted {
     processor: u8,
@@ -11,37 +11,20 @@ struct Counted {
     ended: Option<u64>,
 }
 
-/// The longest waits of reads and of writes, how many holders overran their length, and whether two holders ever shared a
-/// resource that one of them writes.
+/// The longest waits of reads and of writes, and how many holders overran their length.
 #[derive(Default, Debug, Clone, Copy)]
 pub struct Measured {
     pub requests: u64,
     pub read: u64,
     pub write: u64,
     pub overran: u64,
-    pub shared: bool,
-}
-
-/// Clause 6.11: the entry writes a resource that the other one reads or writes.
-fn writes_into(entry: &Entry, other: &Entry) -> bool {
-    let apart = entry.names.is_disjoint(&other.names) && entry.names.is_disjoint(&other.read_only);
-    entry.writes() && !apart
-}
-
-/// Whether a request that the call granted and another one that holds share what one of them writes.
-fn sharing(plan: &Plan, requests: &[Counted], granted: u32) -> bool {
-    let entry = |r: &Counted| &plan.entries[r.entry as usize];
-    let holders: Vec<&Counted> = requests.iter().filter(|r| r.granted.is_some() && r.ended.is_none()).collect();
-    let mut new = holders.iter().filter(|r| granted >> r.processor & 1 == 1);
-    let share = |r: &Counted, q: &Counted| writes_into(entry(r), entry(q)) || writes_into(entry(q), entry(r));
-    new.any(|r| holders.iter().any(|q| q.processor != r.processor && share(r, q)))
 }
 
 pub fn measure(mut log: &[u8], listing: &str) -> Result<(Plan, Measured), String> {
     let plan = Plan::take(&mut log).map_err(|n| format!("the plan is refused by {n}"))?;
     let count = take_number(&mut log, 2).map_err(|_| "no call count")?;
     let mut requests: Vec<Counted> = Vec::new();
-    let (mut last, mut shared) = (0, false);
+    let mut last = 0;
     for (_, line) in (0..count).zip(listing.lines().skip(1)) {
         let Ok(call) = take_call(&mut log) else { break };
         let fields: Vec<&str> = line.split(' ').collect();
@@ -65,13 +48,12 @@ pub fn measure(mut log: &[u8], listing: &str) -> Result<(Plan, Measured), String
         for r in requests.iter_mut().filter(|r| r.granted.is_none() && r.ended.is_none() && granted >> r.processor & 1 == 1) {
             r.granted = Some(last);
         }
-        shared |= sharing(&plan, &requests, granted);
     }
-    let mut measured = Measured { requests: requests.len() as u64, shared, ..Measured::default() };
+    let mut measured = Measured { requests: requests.len() as u64, ..Measured::default() };
     for r in &requests {
         let entry = &plan.entries[r.entry as usize];
         let wait = r.granted.or(r.ended).unwrap_or(last) - r.issued;
-        let longest = if entry.writes() { &mut measured.write } else { &mut measured.read };
+        let longest = if entry.write { &mut measured.write } else { &mut measured.read };
         *longest = wait.max(*longest);
         if let Some(granted) = r.granted {
             measured.overran += (r.ended.unwrap_or(last) - granted > entry.length) as u64;

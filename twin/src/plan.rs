@@ -6,27 +6,11 @@ pub type Refusal = u8;
 
 pub type Resources = BTreeSet<u8>;
 
-#[derive(Clone, Copy, PartialEq, Debug)]
-pub enum Kind {
-    Read,
-    Write,
-    Mixed,
-}
-
 #[derive(Clone, PartialEq, Debug)]
 pub struct Entry {
-    pub kind: Kind,
+    pub write: bool,
     pub names: Resources,
-    /// Empty where the entry is not mixed.
-    pub read_only: Resources,
     pub length: u64,
-}
-
-impl Entry {
-    /// Clause 1.3: a mixed entry is a write entry that also reads.
-    pub fn writes(&self) -> bool {
-        self.kind != Kind::Read
-    }
 }
 
 #[derive(Clone, PartialEq, Debug)]
@@ -54,36 +38,24 @@ fn take_count(bytes: &mut &[u8], most: u64, refusal: Refusal) -> Result<u8, Refu
     Ok(count as u8)
 }
 
-fn take_set(bytes: &mut &[u8]) -> Result<Resources, Refusal> {
-    let set = take_number(bytes, 8)?;
-    Ok((0..64).filter(|r| set >> r & 1 == 1).collect())
-}
-
-/// Clause 2.9: the 11 bytes, the kind, the last eight bytes of a mixed entry, and then what they say.
-pub fn take_entry(bytes: &mut &[u8], resources: u8) -> Result<Entry, Refusal> {
+fn take_entry(bytes: &mut &[u8], resources: u8) -> Result<Entry, Refusal> {
     if bytes.len() < 11 {
         return Err(1);
     }
-    let kind = match take_number(bytes, 1)? {
-        0 => Kind::Read,
-        1 => Kind::Write,
-        2 => Kind::Mixed,
-        _ => return Err(6),
-    };
-    let names = take_set(bytes)?;
+    let kind = take_number(bytes, 1)?;
+    let set = take_number(bytes, 8)?;
     let length = take_number(bytes, 2)?;
-    let read_only = if kind == Kind::Mixed { take_set(bytes)? } else { Resources::new() };
-    let improper = |set: &Resources| set.is_empty() || set.iter().any(|&r| r >= resources);
-    if improper(&names) {
+    let names: Resources = (0..64).filter(|r| set >> r & 1 == 1).collect();
+    if kind > 1 {
+        return Err(6);
+    }
+    if names.is_empty() || names.iter().any(|&r| r >= resources) {
         return Err(7);
     }
     if length == 0 {
         return Err(8);
     }
-    if kind == Kind::Mixed && (improper(&read_only) || !read_only.is_disjoint(&names)) {
-        return Err(19);
-    }
-    Ok(Entry { kind, names, read_only, length })
+    Ok(Entry { write: kind == 1, names, length })
 }
 
 impl Plan {
@@ -102,7 +74,7 @@ impl Plan {
     }
 
     fn longest(&self, write: bool) -> u64 {
-        self.entries.iter().filter(|e| e.writes() == write).map(|e| e.length).max().unwrap_or(0)
+        self.entries.iter().filter(|e| e.write == write).map(|e| e.length).max().unwrap_or(0)
     }
 
     pub fn read_figure(&self) -> u64 {
@@ -113,10 +85,10 @@ impl Plan {
         (self.processors as u64 - 1) * self.read_figure()
     }
 
-    /// Clause 3.1: a write's names and what it only reads, joined with the names of each read that shares one of its names.
+    /// Clause 3.1: a write's names, joined with those of each read that shares one of them.
     fn widened_of(&self, write: &Entry) -> Resources {
-        let mut set = &write.names | &write.read_only;
-        for read in self.entries.iter().filter(|e| e.kind == Kind::Read) {
+        let mut set = write.names.clone();
+        for read in self.entries.iter().filter(|e| !e.write) {
             if !read.names.is_disjoint(&write.names) {
                 set.extend(&read.names);
             }
@@ -132,7 +104,7 @@ impl Plan {
     /// Clause 3.2: the resources that stand between two entries, by their places, given the widened sets.
     pub fn shared(&self, widened: &[Resources], e: usize, f: usize) -> Resources {
         let names = |e: usize| &self.entries[e].names;
-        match (self.entries[e].writes(), self.entries[f].writes()) {
+        match (self.entries[e].write, self.entries[f].write) {
             (false, false) => Resources::new(),
             (true, true) => &widened[e] & &widened[f],
             _ => names(e) & names(f),

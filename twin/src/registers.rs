@@ -95,9 +95,9 @@ impl Device {
             Ok(done) => {
                 self.refusal = 0;
                 self.late = done.late;
-                self.granted = done.granted;
-                self.entitled = done.entitled;
-                self.pending.extend((0..32).filter(|p| done.granted >> p & 1 == 1));
+                self.granted = done.granted as u32;
+                self.entitled = done.entitled as u32;
+                self.pending.extend((0..16).filter(|p| done.granted >> p & 1 == 1));
             }
         }
         Ok(())
@@ -191,8 +191,9 @@ fn act(r: &mut Random, device: &Device, tick: &mut u64, stream: &mut Vec<[u8; 3]
 /// Stream number `seed`, of at least so many operations.
 pub fn stream_of(seed: u64, count: usize) -> Vec<u8> {
     let r = &mut Random::new(seed);
-    let (m, mix) = (logs::processors(r), logs::mix(r));
-    let plan = logs::plan(r, m, mix);
+    let m = r.within(1, 16) as u8;
+    let reads = r.pick(&[0, 5, 7, 10]);
+    let plan = logs::plan(r, m, reads);
     let mut device = Device::new(plan.clone());
     let (mut tick, mut stream) = (0, Vec::new());
     while stream.len() < count {

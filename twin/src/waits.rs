@@ -3,29 +3,27 @@ use crate::arbiter::Call;
 use crate::compare::Runner;
 use crate::logs;
 use crate::measure::measure;
-use crate::plan::{Entry, Kind, Plan};
+use crate::plan::{Entry, Plan};
 use crate::random::Random;
 
 /// The nearest that a wait came to its figure, in hundredths: reads, writes where there are no reads, other writes.
 type Nearest = [u64; 3];
 
-/// An entry of resource 0. A mixed one also reads resource 1.
-fn entry(kind: Kind, length: u64) -> Entry {
-    let read_only = if kind == Kind::Mixed { [1].into() } else { [].into() };
-    Entry { kind, names: [0].into(), read_only, length }
+fn entry(write: bool, length: u64) -> Entry {
+    Entry { write, names: [0].into(), length }
 }
 
 /// A read holds, a write is entitled behind it, and a read waits for both: Lr + Lw.
-fn longest_read(m: u8, write: Kind) -> Vec<u8> {
-    let plan = Plan { processors: m, resources: 2, entries: vec![entry(Kind::Read, 30), entry(write, 20)] };
+fn longest_read(m: u8) -> Vec<u8> {
+    let plan = Plan { processors: m, resources: 1, entries: vec![entry(false, 30), entry(true, 20)] };
     let issues = [0, 1, 0].iter().zip(0..).map(|(&entry, processor)| Call::Issue { processor, entry, tick: 0 });
     let ends = [30, 50].iter().zip(0..).map(|(&tick, processor)| Call::Complete { processor, tick });
     logs::log_bytes(&plan, &issues.chain(ends).collect::<Vec<_>>())
 }
 
 /// Every processor writes, and the last in line waits for all the others: (m - 1) * Lw.
-fn longest_write(m: u8, write: Kind) -> Vec<u8> {
-    let plan = Plan { processors: m, resources: 2, entries: vec![entry(write, 20)] };
+fn longest_write(m: u8) -> Vec<u8> {
+    let plan = Plan { processors: m, resources: 1, entries: vec![entry(true, 20)] };
     let issues = (0..m).map(|processor| Call::Issue { processor, entry: 0, tick: 0 });
     let ends = (0..m).map(|processor| Call::Complete { processor, tick: 20 * (processor as u64 + 1) });
     logs::log_bytes(&plan, &issues.chain(ends).collect::<Vec<_>>())
@@ -33,23 +31,23 @@ fn longest_write(m: u8, write: Kind) -> Vec<u8> {
 
 fn hostile(seed: u64) -> Vec<u8> {
     let r = &mut Random::new(seed + 1_000_000);
-    let (m, mix) = (logs::processors(r), logs::mix(r));
-    let plan = logs::plan(r, m, mix);
+    let m = logs::processors(r);
+    let reads = r.pick(&[0, 3, 5, 8]);
+    let plan = logs::plan(r, m, reads);
     let also = logs::Also { leaving: seed % 3 == 0, handing: seed % 2 == 0 };
     logs::log_bytes(&plan, &logs::hostile(r, &plan, 400, also))
 }
 
-/// Replays a log and notes how near its waits come. False where a wait passes its figure, a holder overran, or two holders
-/// share a resource that one of them writes.
+/// Replays a log and notes how near its waits come. False where a wait passes its figure or a holder overran.
 fn within_figures(runner: &mut Runner, name: &str, log: &[u8], nearest: &mut [Nearest; 33]) -> bool {
     let text = String::from_utf8(runner.output_of(log).expect("the program runs")).expect("a listing");
     let (plan, measured) = measure(log, &text).expect("a listing that fits its log");
     let (read, write) = (plan.read_figure(), plan.write_figure());
-    let column = if plan.entries.iter().all(|e| e.writes()) { 1 } else { 2 };
+    let column = if plan.entries.iter().all(|e| e.write) { 1 } else { 2 };
     let row = &mut nearest[plan.processors as usize];
     row[0] = row[0].max((100 * measured.read).checked_div(read).unwrap_or(0));
     row[column] = row[column].max((100 * measured.write).checked_div(write).unwrap_or(0));
-    let fine = measured.overran == 0 && !measured.shared && measured.read <= read && measured.write <= write;
+    let fine = measured.overran == 0 && measured.read <= read && measured.write <= write;
     if !fine {
         println!("{name}: {measured:?} against {read} and {write}");
     }
@@ -66,18 +64,15 @@ pub fn waits(program: &str, count: u64) -> bool {
         note(within_figures(&mut runner, &format!("hostile log {seed}"), &hostile(seed), &mut nearest));
     }
     for m in 2..=32 {
-        for kind in [Kind::Write, Kind::Mixed] {
-            let mut own = [[0; 3]; 33];
-            let name = |what: &str| format!("longest {what} of {m}, {kind:?}");
-            let fine = within_figures(&mut runner, &name("write"), &longest_write(m, kind), &mut own);
-            note(fine && own[m as usize][1] == 100);
-            if m >= 3 {
-                let fine = within_figures(&mut runner, &name("read"), &longest_read(m, kind), &mut own);
-                note(fine && own[m as usize][0] == 100);
-            }
-            let row = &mut nearest[m as usize];
-            (0..3).for_each(|i| row[i] = row[i].max(own[m as usize][i]));
+        let mut own = [[0; 3]; 33];
+        let fine = within_figures(&mut runner, &format!("longest write of {m}"), &longest_write(m), &mut own);
+        note(fine && own[m as usize][1] == 100);
+        if m >= 3 {
+            let fine = within_figures(&mut runner, &format!("longest read of {m}"), &longest_read(m), &mut own);
+            note(fine && own[m as usize][0] == 100);
         }
+        let row = &mut nearest[m as usize];
+        (0..3).for_each(|i| row[i] = row[i].max(own[m as usize][i]));
     }
     println!("The longest waits, in hundredths of their figures");
     println!("processors  reads  writes where there are no reads  other writes");

@@ -10,12 +10,10 @@ pub const FIRST: u8 = 2;
 /// How many processors a state holds.
 pub const SLOTS: usize = 32;
 
-/// What is only read is a set that is 0 where the entry is not mixed.
 #[derive(Clone, Copy)]
 pub struct Entry {
     pub write: bool,
     pub set: u64,
-    pub read_only: u64,
     pub length: u16,
 }
 
@@ -45,7 +43,7 @@ pub struct Done {
 }
 
 fn widened(entries: &[Entry], e: Entry) -> u64 {
-    let mut set = e.set | e.read_only;
+    let mut set = e.set;
     if e.write {
         for r in entries.iter().filter(|r| !r.write && r.set & e.set != 0) {
             set |= r.set;

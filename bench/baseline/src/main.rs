@@ -20,7 +20,6 @@ fn entries() -> Vec<Entry> {
         .map(|i| Entry {
             write: i % 3 == 0,
             set: 1 << (i * 7 % 64) | 1 << (i * 11 % 64) | 1 << (i * 5 % 16),
-            read_only: 0,
             length: (i % 20 + 1) as u16,
         })
         .collect()

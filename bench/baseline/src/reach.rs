@@ -25,7 +25,7 @@ pub fn reach(board: &Board, state: &State, processor: u8, scratch: &mut [u8]) ->
 
 /// All 16 processors wait in one long line, each for the one before it alone; every turn asks for the reach of one.
 pub fn turns(turns: u64) -> u64 {
-    let entries: Vec<Entry> = (0..16).map(|i| Entry { write: true, set: 3 << i, read_only: 0, length: 1 }).collect();
+    let entries: Vec<Entry> = (0..16).map(|i| Entry { write: true, set: 3 << i, length: 1 }).collect();
     let board = board_of(16, &entries);
     let mut state = State::fresh();
     for p in 0..16 {

@@ -11,19 +11,17 @@ fn entry(i: u64) -> Entry
     let b = i * 11 % 64;
     let c = i * 5 % 16;
     Entry {
-        set: (1 << a) | (1 << b) | (1 << c),
-        read_only: 0,
-        length: (i % 20 + 1) as u16,
         kind: if i % 3 == 0 { 1 } else { 0 },
+        set: (1 << a) | (1 << b) | (1 << c),
+        length: (i % 20 + 1) as u16,
     }
 }
 
 pub fn plan(processors: u8) -> Plan {
     let mut entries = [Entry {
-        set: 0,
-        read_only: 0,
-        length: 0,
         kind: 0,
+        set: 0,
+        length: 0,
     }; MAX_ENTRIES];
     let mut i: u64 = 0;
     while i < 64 {

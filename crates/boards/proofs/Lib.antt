@@ -1,2 +1,1 @@
 pub mod PlanEntries
-pub mod Same

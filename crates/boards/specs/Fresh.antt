@@ -1,5 +1,4 @@
--- The fresh arbiter of a plan, and when the plan is refused: with 3 to 8 and 19. Specification,
--- section 4.
+-- The fresh arbiter of a plan, and when the plan is refused: with 3 to 8. Specification, section 4.
 use Rattle.std.specs.Prelude.{ℕ, cond, ◌&&◌, eqb, ltb, replicate}
 use Rattle.masks.specs.Sets.{mask_of}
 use Rattle.plans.specs.declared.Plan.{Plan}

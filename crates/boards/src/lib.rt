@@ -130,7 +130,7 @@ fn fresh_state() -> State
     }
 }
 
-// A fresh arbiter of the plan, or a refusal with 3 to 8 or 19.
+// A fresh arbiter of the plan, or a refusal with 3 to 8.
 pub fn fresh_of(plan: Plan) -> Fresh
     ensures verdict { verdict_number result.verdict ≡ plan_fault plan }
     ensures board { result.board ≡ fresh_board plan }

@@ -7,7 +7,7 @@ use Rattle.boards.specs.Fresh.{fresh_board, fresh_state}
 
 -- Clause 11.5: the version of the archive: 10000 × major + 100 × minor + patch.
 abbrev pub version_number : ℕ
-version_number = 30300
+version_number = 30200
 
 -- Clause 11.2: the board that is left: that of the plan, or the one before if the bytes are refused.
 unfoldable pub board_after : List ℕ → Board → Board

@@ -20,11 +20,11 @@ use state::store_state;
 pub extern "C" fn bittmelon_version_number() -> u32
     ensures { result ≡ version_number }
 {
-    30300
+    30200
 }
 
 // Stores the fresh arbiter of the plan in the bytes; bytes after the plan are ignored. Returns how many bytes the plan
-// took, or its refusal, 1, 3 to 8 or 19, and then writes nothing.
+// took, or its refusal, 1 or 3 to 8, and then writes nothing.
 #[unsafe(no_mangle)]
 pub extern "C" fn bittmelon_fresh_parts(
     plan: &[u8],

@@ -1,40 +1,37 @@
 -- What an accepted plan guarantees for each of its entries: its kind, and a set that is not empty and names only
 -- counted resources. Assumes nothing.
 use Prim.Native.Nat.{ℕ, zero, suc, ◌^◌, ◌<◌}
-use native.Mathlib.Omega.{arith}
 use mathlib.Core.Path.{◌≡◌, refl}
 use mathlib.Core.Bool.{true, not, ◌||◌, false≢true, and-eq-true_iff}
+use mathlib.Core.Logic.{⊎_elim}
 use mathlib.Core.List.{List, [], ◌∷◌}
-use lib.Dec.{eqb, ltb, leb, lit<}
+use lib.Dec.{eqb, ltb, lit<}
 use lib.ListN.{get_or}
 use lib.Pow.{pow_pos}
-use borrow.Author.Tests.{leb-true, ltb-true}
+use borrow.Author.Tests.{eqb-true, ltb-true}
 use Rattle.plans.specs.declared.Entry.{Entry}
 use Rattle.plans.specs.declared.Plan.{Plan}
-use Rattle.plans.specs.Acceptance.{kind_fault, set_fault, counts_fault, parts_fault, entry_fault, entries_fault, plan_fault}
+use Rattle.plans.specs.Acceptance.{kind_fault, set_fault, length_fault, counts_fault, entry_fault, entries_fault, plan_fault}
 use Rattle.plans.specs.Entries.{is_read, is_write, counted_entries, blank_entry, entry_at}
+use Rattle.masks.proofs.Truth.{or_cases}
 use Rattle.refusals.proofs.Numbers.{first_accepted, due_accepted}
 
 -- ---- an entry
 
 module _ (resources : ℕ) (e : Entry) (taken : entry_fault resources e ≡ 0) where
-  kind_taken : leb e.kind 2 ≡ true
+  kind_taken : (is_read e || is_write e) ≡ true
   unfolding entry_fault
-  kind_taken = due_accepted (leb e.kind 2) 6 (lit< tt) (first_accepted (kind_fault e.kind) _ taken).first
+  kind_taken = due_accepted (is_read e || is_write e) 6 (lit< tt) (first_accepted (kind_fault e) _ taken).first
 
   set_taken : (not (eqb e.set 0) ≡ true) × (ltb e.set (2 ^ resources) ≡ true)
-  unfolding entry_fault parts_fault
+  unfolding entry_fault
   set_taken =
       (and-eq-true_iff (not (eqb e.set 0)) (ltb e.set (2 ^ resources))).0
-      (due_accepted _ 7 (lit< tt) (first_accepted (set_fault resources e) _
-      (first_accepted (kind_fault e.kind) _ taken).later).first)
+      (due_accepted _ 7 (lit< tt) (first_accepted (set_fault resources e) (length_fault e)
+      (first_accepted (kind_fault e) _ taken).later).first)
 
--- A kind up to 2 reads or writes, and not both.
-one_kind : (k : ℕ) → leb k 2 ≡ true → eqb k 0 ≡ not (eqb k 1 || eqb k 2)
-one_kind zero h = refl
-one_kind (suc zero) h = refl
-one_kind (suc (suc zero)) h = refl
-one_kind (suc (suc (suc k))) h = absurd (omega (arith, leb-true (suc (suc (suc k))) 2 h))
+one_kind : (k : ℕ) → (eqb k 0 || eqb k 1) ≡ true → eqb k 0 ≡ not (eqb k 1)
+one_kind k h = ⊎_elim (λ e. rw (eqb-true k 0 e)) (λ e. rw (eqb-true k 1 e)) (or_cases (eqb k 0) (eqb k 1) h)
 
 -- ---- the entries
 

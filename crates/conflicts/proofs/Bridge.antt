@@ -3,7 +3,6 @@
 use Prim.Native.Nat.{ℕ, zero, suc, ◌^◌, ◌<◌}
 use native.Mathlib.Omega.{arith}
 use mathlib.Core.Path.{◌≡◌, sym, ap, ap₂, ◌∙◌}
-use mathlib.Core.Logic.{⊎_elim}
 use mathlib.Core.Bool.{true, false, cond, not, ◌&&◌, ◌||◌, true≢false, and_comm, and-false, or-true, and-eq-true_iff}
 use mathlib.Core.List.{List, [], ◌∷◌}
 use lib.Bits as bits
@@ -12,13 +11,12 @@ use lib.ListN.{get_or}
 use lib.Pow.{pow_pos}
 use borrow.Author.Tests.{eqb-true, lt-ltb, ltb-true}
 use Rattle.masks.specs.Sets.{bit, meets}
-use Rattle.masks.proofs.Truth.{or_cases}
 use Rattle.masks.proofs.Places.{bit_zero, bit_or_law}
 use Rattle.masks.proofs.Some.{some_found}
 use Rattle.masks.proofs.Meets.{not_empty, meets_share, share_meets}
 use Rattle.plans.specs.declared.Entry.{Entry}
 use Rattle.plans.specs.declared.Plan.{Plan}
-use Rattle.plans.specs.Entries.{is_read, is_mixed, is_write, read_only_law, counted_entries, blank_entry, entry_at}
+use Rattle.plans.specs.Entries.{is_read, is_write, counted_entries, blank_entry, entry_at}
 use Rattle.plans.specs.Acceptance.{plan_fault}
 use Rattle.conflicts.specs.Widening.{widen, widened_set}
 use Rattle.conflicts.proofs.widening.Names.{brought_to}
@@ -28,12 +26,10 @@ use Rattle.conflicts.proofs.Accepted.{write_not_empty}
 -- ---- kinds and sets
 
 read_no_write : (e : Entry) → is_read e ≡ true → is_write e ≡ false
-read_no_write e h = ap (λ (k : ℕ). eqb k 1 || eqb k 2) (eqb-true e.kind 0 h)
+read_no_write e h = ap (λ (k : ℕ). eqb k 1) (eqb-true e.kind 0 h)
 
 write_no_read : (e : Entry) → is_write e ≡ true → is_read e ≡ false
-write_no_read e h =
-    ⊎_elim (λ one. ap (λ (k : ℕ). eqb k 0) (eqb-true e.kind 1 one))
-    (λ two. ap (λ (k : ℕ). eqb k 0) (eqb-true e.kind 2 two)) (or_cases (eqb e.kind 1) (is_mixed e) h)
+write_no_read e h = ap (λ (k : ℕ). eqb k 0) (eqb-true e.kind 1 h)
 
 -- Every set n fits in some width.
 some_width : (n : ℕ) → n < 2 ^ n
@@ -62,18 +58,6 @@ read_in_widened names (e ∷ later) (suc i) k r m h =
     bit_or_law (widen names later) (brought_to names e) k
     ∙ ap (λ t. t || bit (brought_to names e) k) (read_in_widened names later i k r m h)
 
-module _ (es : List Entry) (e : Entry) (h : is_write e ≡ true) (k : ℕ) where
-  widened_parts : bit (widened_set es e) k ≡ (bit (widen e.set es) k || bit (read_only_law e) k)
-  unfolding widened_set
-  widened_parts = rw h (bit_or_law (widen e.set es) (read_only_law e) k)
-
-  -- The widened set of a write contains its names, widened, and what it only reads.
-  pub widen_in_set : bit (widen e.set es) k ≡ true → bit (widened_set es e) k ≡ true
-  widen_in_set b = widened_parts ∙ ap (λ t. t || bit (read_only_law e) k) b
-
-  pub read_only_in_set : bit (read_only_law e) k ≡ true → bit (widened_set es e) k ≡ true
-  read_only_in_set b = widened_parts ∙ ap (λ t. bit (widen e.set es) k || t) b ∙ or-true (bit (widen e.set es) k)
-
 -- ---- two entries, in a list of entries
 
 module _ (es : List Entry) where
@@ -91,19 +75,19 @@ module _ (es : List Entry) where
   unfolding shared conflict
   reads_apart e f he hf = rw (read_no_write e he, he, hf)
 
-  pub read_and_write : (e f : Entry) → is_read e ≡ true → is_write f ≡ true → conflict es e f ≡ meets e.set f.set
+  read_and_write : (e f : Entry) → is_read e ≡ true → is_write f ≡ true → conflict es e f ≡ meets e.set f.set
   unfolding shared conflict
   read_and_write e f he hf = rw (read_no_write e he, he, write_no_read f hf)
 
-  pub two_writes : (e f : Entry) → is_write e ≡ true → is_write f ≡ true → conflict es e f
-      ≡ meets (widened_set es e) (widened_set es f)
-  unfolding shared conflict
+  two_writes : (e f : Entry) → is_write e ≡ true → is_write f ≡ true → conflict es e f
+      ≡ meets (widen e.set es) (widen f.set es)
+  unfolding shared conflict widened_set
   two_writes e f he hf = rw (he, hf)
 
   write_itself : (e : Entry) → is_write e ≡ true → not (eqb e.set 0) ≡ true → conflict es e e ≡ true
   write_itself e h full =
       let named = some_found e.set (bit e.set) (sym (not_empty e.set e.set (some_width e.set)) ∙ full) in
-      let held = widen_in_set es e h named.0 (names_in_widened e.set es named.0 named.2) in
+      let held = names_in_widened e.set es named.0 named.2 in
       two_writes e e h h ∙ share_meets _ _ named.0 held held
 
   -- Both widened sets contain the whole set of the read at place r.
@@ -116,9 +100,8 @@ module _ (es : List Entry) where
       let mf : meets read.set f.set ≡ true = sym (read_and_write read f hr hf) ∙ cf in
       let named = meets_share read.set read.set e.set (some_width read.set) me in
       two_writes e f he hf
-      ∙ share_meets _ _ named.0
-      (widen_in_set es e he named.0 (read_in_widened e.set es r named.0 hr me named.2))
-      (widen_in_set es f hf named.0 (read_in_widened f.set es r named.0 hr mf named.2))
+      ∙ share_meets _ _ named.0 (read_in_widened e.set es r named.0 hr me named.2)
+      (read_in_widened f.set es r named.0 hr mf named.2)
 
 -- ---- two entries of a plan
 
@@ -141,7 +124,7 @@ module _ (p : Plan) where
       let both = (and-eq-true_iff (ltb i p.count) (ltb j p.count)).0 (parts i j h).0 in
       (ltb-true i p.count both.0, ltb-true j p.count both.1)
 
-  pub counted_conflict : (i j : ℕ) → i < p.count → j < p.count → conflict (counted_entries p) (entry_at p i) (entry_at p j)
+  counted_conflict : (i j : ℕ) → i < p.count → j < p.count → conflict (counted_entries p) (entry_at p i) (entry_at p j)
       ≡ true → in_conflict p i j ≡ true
   unfolding in_conflict
   counted_conflict i j hi hj h = ap₂ ◌&&◌ (ap₂ ◌&&◌ (lt-ltb i p.count hi) (lt-ltb j p.count hj)) h

@@ -4,4 +4,3 @@ pub mod Rows
 pub mod Accepted
 pub mod Bridge
 pub mod Over
-pub mod Resources

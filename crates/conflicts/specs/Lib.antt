@@ -1,4 +1,3 @@
 pub mod Conflict
 pub mod Sharing
 pub mod Widening
-pub mod Resources

@@ -1,12 +1,12 @@
-// The widened set of a write, which is compared with those of other writes: its names, what it only reads, and the names
-// of the reads that share a resource with its names. Specification, clause 3.1.
+// The widened set of a write, which is compared with those of other writes: its names, and the names of the reads that
+// share a resource with it. Specification, clause 3.1.
 ghost use Rattle.std.specs.Prelude.{◌≡◌, cond, ◌&&◌};
 ghost use Rattle.masks.specs.Sets.{meets};
-ghost use Rattle.plans.specs.Entries.{is_read, read_only_law, counted_entries};
+ghost use Rattle.plans.specs.Entries.{is_read, counted_entries};
 ghost use Rattle.conflicts.specs.Widening.{widen, widened_set};
 
 use masks::meet64;
-use plans::{Entry, Plan, counted_of, is_mixed, is_read, is_write};
+use plans::{Entry, Plan, counted_of, is_read, is_write};
 
 // Clause 3.1: what an entry adds to the widened set of these names: its own names, if it is a read that shares a
 // resource with them.
@@ -35,21 +35,12 @@ fn widen_names(plan: Plan, names: u64) -> u64
     out
 }
 
-// Clauses 1.3 and 2.10: the resources that a mixed entry only reads. Any other entry has none.
-fn read_only_of(entry: Entry) -> u64
-    ensures { result ≡ read_only_law entry }
-{
-    if is_mixed(entry) { entry.read_only } else { 0 }
-}
-
 // Clause 3.1: the widened set of an entry of the plan. For a read it is its names, and is not used.
 pub fn widened_set(plan: Plan, entry: Entry) -> u64
     ensures { result ≡ widened_set (counted_entries plan) entry }
 {
     if is_write(entry) {
-        let names = entry.set;
-        let read_only = read_only_of(entry);
-        widen_names(plan, names) | read_only
+        widen_names(plan, entry.set)
     } else {
         entry.set
     }

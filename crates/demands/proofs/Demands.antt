@@ -1,24 +1,15 @@
 -- The three demands, each with the definitions that state it and the theorem or promise that meets it. Theorems of
--- other files are passed on from here: the round trips of demand 2, that the same plans have the same board, what a
--- handover does, demand 3, that two holders share no resource that one of them writes, freedom from deadlock, that a
--- withdrawn request never holds, what the list of the whole board contains for each processor, runs of steps on a
--- register block, and runs from C or Rust. Assumes nothing.
+-- other files are passed on from here: the round trips of demand 2, what a handover does, demand 3, freedom from
+-- deadlock, that a withdrawn request never holds, what the list of the whole board contains for each processor, and runs
+-- of steps on a register block. Assumes nothing.
 pub use Rattle.plans.proofs.RoundTrip.{written_in_buffer, written_back}
-pub use Rattle.boards.proofs.Same.{board_same}
-pub use Rattle.rules.proofs.InPlace.{in_place_is_by_value}
 pub use Rattle.runs.proofs.Handover.{leaves_what_both_leave, grants_of_both, entitlements_of_both}
 pub use Rattle.demands.proofs.Handover.{handover_grants, handover_entitles}
 pub use Rattle.runs.proofs.refinement.WholeRuns.{whole_runs}
-pub use Rattle.runs.proofs.Resources.{never_share_written}
 pub use Rattle.runs.proofs.Freedom.{no_deadlock}
 pub use Rattle.runs.proofs.NeverHolds.{withdrawn_never_holds}
 pub use Rattle.queries.proofs.WholeBoard.{part_is_queries}
-pub use Rattle.queries.proofs.InPlace.{phase_in_place, waits_in_place, reach_in_place, scratch_in_place}
-pub use Rattle.queries.proofs.InPlace.{list_in_place, listed_in_place}
 pub use Rattle.register_runs.proofs.Runs.{pending_are_grants, grant_stays, line_is_right, calls_of_run, register_runs}
-pub use Rattle.register_runs.proofs.Lent.{lent_write_is_write}
-pub use Rattle.c_runs.proofs.Runs.{run_from_c}
-pub use Rattle.c_runs.proofs.Queries.{queries_from_c}
 use Prim.Native.Nat.{ℕ, ◌<◌}
 use mathlib.Core.Path.{◌≡◌, refl, ◌∙◌}
 use mathlib.Core.List.{List}
@@ -38,6 +29,7 @@ use Rattle.rules.specs.Faults.{processor_fault, issue_fault, complete_fault, wit
 use Rattle.rules.specs.Calls.{Answer, phases_of, put_state, taken_state, settled_done, late_mark, ruled, issued, left}
 use Rattle.rules.specs.Calls.{completed, withdrawn, both, handed_over, answered}
 use Rattle.boards.specs.Fresh.{board_of, blank_board, fresh_board}
+use Rattle.rules.specs.InPlace.{board_by, state_by}
 use Rattle.queries.specs.Queries.{reach_fault, reach_bytes, reach_query, reach_scratch}
 use Rattle.board_list.specs.Listing.{list_fault, list_buffer}
 use Rattle.queries.specs.WholeBoard.{board_bytes, board_fault, board_query, board_buffer}
@@ -86,10 +78,6 @@ use Rattle.logs.specs.Records.{fields_in, record_fault, read_record}
 --   logs::read_record         `record_as_numbers` r ≡ read_record bytes
 --   logs::check_tail          verdict_number r ≡ tail_fault bytes
 -- and for the lines of listings and replay: `line_as_numbers` and line_buffer of first_line, call_line and refusal_line.
---
--- Where the parts of a board and a state are lent, the answers are those on the board and the state:
--- in-place-is-by-value for the calls, lent-write-is-write for a write to a register block, phase-in-place and those
--- beside it for the queries, and queries-from-c for the queries from C and Rust, above.
 
 pub refused_reading_gives_number_only : (s : List ℕ) → 0 < read_fault s
     → (read_as_numbers s ≡ record { number = read_fault s; value = 0 }) × (plan_read s ≡ blank_plan)
@@ -152,6 +140,17 @@ module _ (b : Board) (s : State) where
   pub accepted_call_is_carried_out : (c : Call) → call_fault b s c ≡ 0 → answered b s c ≡ carried_out b s c
   accepted_call_is_carried_out c ok = call_is_ruled c ∙ rw ok
 
+  -- A call in place on the lent parts of a board and a state answers what the call by value answers.
+  pub in_place_is_by_value : (c : Call)
+      → answered (board_by b.terms b.rows b.lengths)
+      (state_by (record { last = s.last; phases = s.phases }) s.requested s.since s.earlier) c
+      ≡ answered b s c
+  unfolding put_state taken_state settled_done issued left completed withdrawn both handed_over
+  in_place_is_by_value (Call.Issue p e t) = refl
+  in_place_is_by_value (Call.Complete p t) = refl
+  in_place_is_by_value (Call.Withdraw p t) = refl
+  in_place_is_by_value (Call.Handover p e t) = refl
+
   -- This also covers the state of a processor and its direct waits: each answer is made of the number that is due and
   -- the value.
   pub refused_query_gives_number_only : (p value : ℕ) → 0 < processor_fault b.terms p
@@ -213,4 +212,4 @@ accepted_record_is_read s ok = rw ok
 -- Demand 3, for whole lists of calls: whole-runs, above, is the claim `WholeRuns` of runs/specs/Claim.antt, over the
 -- answers of `answered`, for every accepted plan and every list of calls. In addition to the three demands,
 -- no-deadlock: nobody waits in a circle. The commands of a register block and the calls that do not go through it are
--- such a list: register-runs. So is every list of calls from C or Rust on memory that a plan was stored in: run-from-c.
+-- such a list: register-runs.

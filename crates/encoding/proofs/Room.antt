@@ -3,7 +3,7 @@
 use Prim.Native.Nat.{ℕ, ◌+◌, ◌-◌, ◌≤◌}
 use native.Mathlib.Omega.{arith}
 use mathlib.Core.Path.{◌≡◌, refl, sym, ◌∙◌}
-use mathlib.Core.Bool.{Bool, true, false}
+use mathlib.Core.Bool.{true, false}
 use mathlib.Core.List.{List}
 use lib.Dec.{leb, lit<}
 use lib.ListN.{length}
@@ -30,10 +30,6 @@ there_is_room needed size at test =
     let reached : at ≤ size = leb-true _ _ (and_left (leb at size) (leb needed (size - at)) test) in
     let enough : needed ≤ size - at = leb-true _ _ (and_right (leb at size) (leb needed (size - at)) test) in
     omega arith
-
--- The same from the answer of the test.
-pub tested_room : (room : Bool) (needed size at : ℕ) → room ≡ has_room needed size at → room ≡ true → at + needed ≤ size
-tested_room room needed size at e t = there_is_room needed size at (sym e ∙ t)
 
 pub room_fits : (needed size at : ℕ) → room_fault needed size at ≡ 0 → at + needed ≤ size
 room_fits needed size at e = there_is_room needed size at (due_accepted (has_room needed size at) 16 (lit< tt) e)

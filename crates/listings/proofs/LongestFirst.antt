@@ -13,8 +13,7 @@ use Rattle.refusals.proofs.Numbers.{first_accepted}
 use Rattle.plans.specs.declared.Entry.{Entry}
 use Rattle.plans.specs.declared.Plan.{Plan}
 use Rattle.plans.specs.Entries.{max_processors, max_resources, max_entries, is_read, is_write, counted_entries, blank_entry}
-use Rattle.plans.specs.Acceptance.{processors_fault, resources_fault, counts_fault, parts_fault, entry_fault, entries_fault}
-use Rattle.plans.specs.Acceptance.{plan_fault}
+use Rattle.plans.specs.Acceptance.{processors_fault, resources_fault, counts_fault, entry_fault, entries_fault, plan_fault}
 use Rattle.plans.specs.Figures.{longest, read_figure, write_figure}
 use Rattle.plans.proofs.Fits.{Fits_plan, Fit_entries}
 use Rattle.plans.proofs.Faults.{within_most}
@@ -129,9 +128,6 @@ longest_accepted p f e =
       most_digits 6 _ write,
     )
 
-abbrev long_entry : ℕ → Entry
-long_entry kind = record { set = 1; read_only = 0; length = 65535; kind = kind }
-
 -- Sixteen processors, ten resources, ten entries, and lengths of 65,535.
 abbrev long_plan : Plan
 long_plan =
@@ -139,9 +135,10 @@ long_plan =
       processors = 16;
       resources = 10;
       count = 10;
-      entries = long_entry 0 ∷ replicate 63 (long_entry 1);
+      entries = record { kind = 0; set = 1; length = 65535 }
+          ∷ replicate 63 (record { kind = 1; set = 1; length = 65535 });
     }
 
 pub longest_accepted_reached : (plan_fault long_plan ≡ 0) × (length (first_line long_plan) ≡ 64)
-unfolding plan_fault counts_fault entries_fault entry_fault parts_fault first_line further_fields digits longest
+unfolding plan_fault counts_fault entries_fault entry_fault first_line further_fields digits longest
 longest_accepted_reached = (refl, refl)

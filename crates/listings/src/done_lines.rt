@@ -45,6 +45,5 @@ pub fn done_line(
     let second = at + led;
     let third = second + put_masks(pairs, processors, granted, entitled, buffer, second);
     put_line_end(b" ", late as u64, buffer, third);
-    let size = led + more;
-    Outcome::Bytes(size)
+    Outcome::Bytes(led + more)
 }

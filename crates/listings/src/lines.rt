@@ -30,8 +30,7 @@ pub fn refused_line(
         return Outcome::Refused(Refusal::Room);
     }
     put_line_end(b" refused ", number as u64, buffer, at + led);
-    let size = led + more;
-    Outcome::Bytes(size)
+    Outcome::Bytes(led + more)
 }
 
 // Clause 9.8: the line of a fault in the bytes, given its number.

@@ -19,8 +19,7 @@ pub fn read_count(bytes: &[u8]) -> CountAnswer
         return CountAnswer::Refused(Refusal::Short);
     }
     let count = read_number(&bytes[..CALL_COUNT_BYTES]);
-    let calls = count as u16;
-    CountAnswer::Calls(calls)
+    CountAnswer::Calls(count as u16)
 }
 
 // Clause 9.5: checks the bytes after the last call. If there are any, the log is refused with 2.

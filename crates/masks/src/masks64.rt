@@ -1,6 +1,6 @@
 // Sets of numbers below 64 as the bits of a u64: sets of resources or of entries. A place of 64 or more is in no set,
 // and adding it changes nothing.
-ghost use Rattle.std.specs.Prelude.{◌≡◌, cond, ◌-◌, ◌^◌, min, ltb};
+ghost use Rattle.std.specs.Prelude.{◌≡◌, cond, ◌^◌, ltb};
 ghost use Rattle.masks.specs.Sets.{bit, added, meets};
 
 // Whether place k is in the set.
@@ -24,16 +24,9 @@ pub fn meet64(row: u64, set: u64) -> bool
     row & set != 0
 }
 
-// The places from the count on, up to 64. A loop that compares many sets with one count computes them once.
-fn past64(count: u32) -> u64
-    ensures { result ≡ 2 ^ 64 - 2 ^ min count 64 }
-{
-    if count < 64 { !((1 << count) - 1) } else { 0 }
-}
-
 // Whether every place of the set is below the count. If the count is 64 or more, this is true for every set.
 pub fn below64(set: u64, count: u32) -> bool
     ensures { result ≡ ltb set (2 ^ count) }
 {
-    set & past64(count) == 0
+    if count < 64 { set >> count == 0 } else { true }
 }

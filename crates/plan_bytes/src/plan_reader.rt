@@ -6,21 +6,18 @@ ghost use Rattle.plans.specs.Entries.{plan_size};
 ghost use Rattle.plans.specs.Reading.{blank_plan, plan_in, read_as_numbers, plan_read};
 ghost use Rattle.plan_bytes.specs.inner.Body.{body_fault, CountsThere, whole_read};
 
-use crate::entry_reader::{first_of_entry, whole_entry};
+use crate::entry_reader::entry_of;
 use crate::plan_head::check_head;
 use encoding::Outcome;
-use plan_checks::{check_kind, check_length, check_read_only, check_set};
-use plans::{
-    ENTRY_BYTES, Entry, MAX_ENTRIES, MAX_ENTRY_BYTES, PLAN_COUNTS_BYTES, Plan, Read, size_by,
-};
+use plan_checks::{check_kind, check_length, check_set};
+use plans::{ENTRY_BYTES, Entry, MAX_ENTRIES, PLAN_COUNTS_BYTES, Plan, Read, entry_size};
 use refusals::{Refusal, Verdict};
 
 // Fills the places past the count, and the plan that is returned with a refusal.
 const BLANK: Entry = Entry {
-    set: 0,
-    read_only: 0,
-    length: 0,
     kind: 0,
+    set: 0,
+    length: 0,
 };
 
 // Clause 2.9: a refusal returns the blank plan.
@@ -72,29 +69,21 @@ fn read_entries(bytes: &[u8]) -> Read
         if bytes.len() - at < ENTRY_BYTES {
             break Verdict::Refused(Refusal::Short);
         }
-        let kind = check_kind(bytes[at]);
+        let entry = entry_of(&bytes[at..]);
+        let kind = check_kind(entry);
         if let Verdict::Refused(refusal) = kind {
             break Verdict::Refused(refusal);
         }
-        if (bytes[at] == 2) & (bytes.len() - at < MAX_ENTRY_BYTES) {
-            break Verdict::Refused(Refusal::Short);
-        }
-        let first = first_of_entry(&bytes[at..]);
-        let set = check_set(first, bytes[1]);
+        let set = check_set(entry, bytes[1]);
         if let Verdict::Refused(refusal) = set {
             break Verdict::Refused(refusal);
         }
-        let length = check_length(first);
+        let length = check_length(entry);
         if let Verdict::Refused(refusal) = length {
             break Verdict::Refused(refusal);
         }
-        let entry = whole_entry(first, &bytes[at..]);
-        let read_only = check_read_only(entry, bytes[1]);
-        if let Verdict::Refused(refusal) = read_only {
-            break Verdict::Refused(refusal);
-        }
         entries[i] = entry;
-        at += size_by(entry.kind);
+        at += entry_size(entry);
         i += 1;
     };
     match verdict {

@@ -10,7 +10,7 @@ use encoding::check_room;
 use plans::Plan;
 use refusals::{Verdict, first_of};
 
-// Clause 8.2: refuses first with 3 to 8 and 19 for the plan, then with 16 if the buffer has no room for the bytes needed.
+// Clause 8.2: refuses first with 3 to 8 for the plan, then with 16 if the buffer has no room for the bytes needed.
 pub fn check_writing(plan: Plan, needed: usize, size: usize, at: usize) -> Verdict
     ensures { verdict_number result ≡ first_of (plan_fault plan) (room_fault needed size at) }
 {

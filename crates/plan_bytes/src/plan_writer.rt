@@ -8,7 +8,7 @@ ghost use Rattle.plans.specs.Writing.{section_bytes, plan_bytes, write_as_number
 use crate::entry_writer::write_entry;
 use crate::plan_room::check_writing;
 use encoding::Outcome;
-use plans::{Entry, MAX_ENTRIES, PLAN_COUNTS_BYTES, Plan, plan_size, size_by};
+use plans::{Entry, MAX_ENTRIES, PLAN_COUNTS_BYTES, Plan, entry_size, plan_size};
 use refusals::Verdict;
 
 // Stores the first `count` entries from the start of the section.
@@ -21,7 +21,7 @@ fn write_section(entries: [Entry; MAX_ENTRIES], count: usize, section: &mut [u8]
     while i < count {
         let entry = entries[i];
         write_entry(entry, section, at);
-        at += size_by(entry.kind);
+        at += entry_size(entry);
         i += 1;
     }
 }
@@ -42,7 +42,7 @@ fn write_plan(plan: Plan, buffer: &mut [u8], at: usize)
 }
 
 // Clause 2.12: writes the plan's bytes into the buffer from position `at`. Other bytes stay.
-// Refuses with 3 to 8 and 19 a plan value that the reader would refuse, then with 16. A refusal writes nothing.
+// Refuses with 3 to 8 a plan value that the reader would refuse, then with 16. A refusal writes nothing.
 pub fn write(plan: Plan, buffer: &mut [u8], at: usize) -> Outcome
     ensures outcome { outcome_as_numbers result ≡ write_as_numbers plan buffer.old at }
     ensures bytes { buffer.new ≡ written_buffer plan buffer.old at }

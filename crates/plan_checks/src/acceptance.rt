@@ -1,5 +1,4 @@
-// Which plan values are accepted, and which number the others are refused with: 3 to 8 and 19. Specification,
-// section 2.
+// Which plan values are accepted, and which number the others are refused with: 3 to 8. Specification, section 2.
 ghost use Rattle.std.specs.Prelude.{◌≡◌, ◌≤◌, take};
 ghost use Rattle.refusals.specs.Number.{verdict_number};
 ghost use Rattle.plans.specs.Entries.{max_entries};

@@ -6,4 +6,4 @@ mod plan_entries;
 
 pub use acceptance::check;
 pub use plan_counts::{check_entry_count, check_processors, check_resources};
-pub use plan_entries::{check_kind, check_length, check_read_only, check_set};
+pub use plan_entries::{check_kind, check_length, check_set};

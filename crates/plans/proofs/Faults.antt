@@ -1,6 +1,6 @@
 -- The first fault of a plan's bytes is that of the plan value in them. Assumes nothing.
 use Prim.Native.Nat.{ℕ, zero, suc, ◌≤◌}
-use mathlib.Core.Path.{◌≡◌, refl, sym, ◌∙◌}
+use mathlib.Core.Path.{◌≡◌, refl}
 use mathlib.Core.List.{List}
 use native.Mathlib.Omega.{arith}
 use lib.Dec.{leb}
@@ -8,14 +8,14 @@ use lib.ListN.{length, get_or, drop, length-drop}
 use borrow.Author.Tests.{leb-true}
 use Rattle.masks.proofs.Truth.{and_right}
 use Rattle.refusals.specs.Due.{due, first_of}
-use Rattle.refusals.proofs.Numbers.{first_accepted, first_assoc, first_of_four, due_accepted}
+use Rattle.refusals.proofs.Numbers.{first_accepted, first_of_four, due_accepted}
 use Rattle.encoding.specs.Buffers.{short_fault}
 use Rattle.encoding.proofs.Room.{enough_at, enough_length}
-use Rattle.plans.specs.Entries.{max_entries, counts_size, entry_size, size_by, entry_size_of, section_size}
-use Rattle.plans.specs.Acceptance.{within, processors_fault, resources_fault, count_fault, counts_fault, kind_fault}
-use Rattle.plans.specs.Acceptance.{parts_fault, entry_fault, entries_fault}
+use Rattle.plans.specs.Entries.{max_entries, counts_size, entry_size, entry_size_of, section_size}
+use Rattle.plans.specs.Acceptance.{within, processors_fault, resources_fault, count_fault, counts_fault, entry_fault}
+use Rattle.plans.specs.Acceptance.{entries_fault}
 use Rattle.plans.specs.Reading.{entry_in, entries_in, section_fault, read_fault}
-use Rattle.plans.proofs.Sizes.{size_least}
+use Rattle.plans.proofs.Sizes.{entry_size_least, entry_size_due}
 use Rattle.plans.proofs.EntryBytes.{first_there, later_there}
 
 -- ---- the counts
@@ -34,26 +34,28 @@ counts_at_most m n k e =
 
 pub section_fault_law : (r n : ℕ) (s : List ℕ) → section_size (entries_in n s) ≤ length s
     → section_fault r n s ≡ entries_fault r (entries_in n s)
-unfolding section_fault entries_fault entry_fault entries_in entry_in
+unfolding section_fault entries_fault entries_in
 section_fault_law r zero s l = refl
 section_fault_law r (suc n) s l =
-    let there : size_by (get_or s 0 0) ≤ length s = first_there n s l in
     rw (
-      enough_at entry_size s (omega (arith, size_least (get_or s 0 0))),
-      enough_at (size_by (get_or s 0 0)) s there,
+      enough_at entry_size s (omega (arith, first_there n s l, entry_size_least (entry_in s))),
       section_fault_law r n (drop (entry_size_of (entry_in s)) s) (later_there n s l),
     )
-    (sym (first_assoc (kind_fault (get_or s 0 0)) (parts_fault r (entry_in s)) _))
 
 pub section_length : (r n : ℕ) (s : List ℕ) → section_fault r n s ≡ 0 → section_size (entries_in n s) ≤ length s
-unfolding section_fault entries_in entry_in section_size
+unfolding section_fault entries_in section_size
 section_length r zero s e = omega arith
 section_length r (suc n) s e =
-    let k = size_by (get_or s 0 0) in
-    let kind = (first_accepted (short_fault entry_size s) _ e).later in
-    let both = first_accepted (short_fault k s) _ (first_accepted (kind_fault (get_or s 0 0)) _ kind).later in
-    let later = (first_accepted (parts_fault r (entry_in s)) _ both.later).later in
-    omega (arith, enough_length k s both.first, section_length r n (drop k s) later, length-drop k s)
+    let k = entry_size_of (entry_in s) in
+    let both = first_accepted (short_fault entry_size s) _ e in
+    let later = (first_accepted (entry_fault r (entry_in s)) _ both.later).later in
+    omega (
+      arith,
+      enough_length entry_size s both.first,
+      entry_size_due (entry_in s),
+      section_length r n (drop k s) later,
+      length-drop k s,
+    )
 
 -- ---- a whole plan
 

@@ -10,7 +10,6 @@ use Rattle.plans.specs.declared.Plan.{Plan}
 pub record Fits_entry (e : Entry) : Type 0 where
   pub kind : e.kind < 2 ^ 8
   pub set : e.set < 2 ^ 64
-  pub read_only : e.read_only < 2 ^ 64
   pub length : e.length < 2 ^ 16
 
 abbrev pub Fit_entries : List Entry → Type 0

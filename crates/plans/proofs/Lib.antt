@@ -3,7 +3,6 @@ pub mod Counted
 pub mod Fits
 pub mod Sizes
 pub mod EntryBytes
-pub mod Meant
 pub mod Faults
 pub mod PlanBytes
 pub mod Accepted

@@ -1,8 +1,8 @@
 -- A plan with at most 64 entries and its bytes: how many bytes there are, and that each gives the other. Assumes
 -- nothing.
-use Prim.Native.Nat.{ℕ, ◌+◌, ◌-◌, ◌≤◌, ◌<◌}
+use Prim.Native.Nat.{ℕ, ◌-◌, ◌≤◌, ◌<◌}
 use mathlib.Core.Path.{◌≡◌, refl, sym, ap, ◌∙◌}
-use mathlib.Core.List.{List, [], ◌∷◌, ◌++◌, map}
+use mathlib.Core.List.{List, [], ◌∷◌, ◌++◌}
 use native.Mathlib.Omega.{arith}
 use lib.ListN.{length, get_or, take, drop, replicate, length-append, length-take, length-drop, length-replicate}
 use lib.ListN.{get_or-append}
@@ -10,14 +10,12 @@ use lib.Seq.{get_or-take, length-take-le, take_at, take-add}
 use Rattle.plans.specs.declared.Entry.{Entry}
 use Rattle.plans.specs.declared.Plan.{Plan}
 use Rattle.encoding.proofs.Bytes.{AreBytes, bytes_cons, bytes_drop}
-use Rattle.plans.specs.Entries.{max_entries, counts_size, section_size, plan_size, counted_entries, blank_entry, meant}
-use Rattle.plans.specs.Entries.{Same}
+use Rattle.plans.specs.Entries.{max_entries, section_size, plan_size, counted_entries, blank_entry, Same}
 use Rattle.plans.specs.Reading.{entries_in, plan_in}
 use Rattle.plans.specs.Writing.{section_bytes, plan_bytes}
 use Rattle.plans.proofs.Fits.{Fits_entry, Fit_entries, Fits_plan}
 use Rattle.plans.proofs.EntryBytes.{length_section_bytes, bytes_section_bytes, length_entries_in}
 use Rattle.plans.proofs.EntryBytes.{entries_in_section_bytes, section_bytes_entries_in, fit_entries_in}
-use Rattle.plans.proofs.Meant.{section_size_meant, entries_meant_read}
 
 -- ---- a plan value, written
 
@@ -45,7 +43,7 @@ bytes_plan_bytes p f =
 
 -- The counted entries follow the three counts, whatever bytes come after them.
 pub entries_written : (p : Plan) → Fits_plan p → p.count ≤ max_entries → (rest : List ℕ)
-    → entries_in p.count (section_bytes (counted_entries p) ++ rest) ≡ map meant (counted_entries p)
+    → entries_in p.count (section_bytes (counted_entries p) ++ rest) ≡ counted_entries p
 entries_written p f h rest =
     rw (length_counted p f.size h) at (entries_in_section_bytes (counted_entries p) (fit_counted p f) rest)
 
@@ -65,20 +63,8 @@ same_plan_in p f h rest =
       processors = refl;
       resources = refl;
       count = refl;
-      entries =
-          sym
-          (ap (map meant) (counted_plan_in (plan_bytes p ++ rest))
-          ∙ entries_meant_read p.count (section_bytes (counted_entries p) ++ rest)
-          ∙ entries_written p f h rest);
+      entries = sym (counted_plan_in (plan_bytes p ++ rest) ∙ entries_written p f h rest);
     }
-
--- The plan read takes as many bytes as the plan written.
-pub size_same : (p : Plan) → Fits_plan p → p.count ≤ max_entries → (rest : List ℕ)
-    → plan_size (plan_in (plan_bytes p ++ rest)) ≡ plan_size p
-unfolding plan_bytes plan_in
-size_same p f h rest =
-    ap (λ es. counts_size + section_size es) (counted_plan_in (plan_bytes p ++ rest) ∙ entries_written p f h rest)
-    ∙ ap (λ n. counts_size + n) (section_size_meant (counted_entries p))
 
 pub plan_bytes_plan_in : (s : List ℕ) → AreBytes s → plan_size (plan_in s) ≤ length s
     → plan_bytes (plan_in s) ≡ take (plan_size (plan_in s)) s

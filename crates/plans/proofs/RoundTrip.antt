@@ -18,8 +18,7 @@ use Rattle.plans.proofs.Fits.{Fits_plan}
 use Rattle.plans.proofs.EntryBytes.{length_section_bytes}
 use Rattle.plans.proofs.Faults.{counts_at_most, section_fault_law, read_fault_law}
 use Rattle.plans.proofs.PlanBytes.{length_plan_bytes, entries_written, counted_plan_in}
-use Rattle.plans.proofs.PlanBytes.{same_plan_in, size_same, plan_bytes_plan_in, size_plan_in, fits_plan_in}
-use Rattle.plans.proofs.Meant.{section_size_meant, entries_fault_meant}
+use Rattle.plans.proofs.PlanBytes.{same_plan_in, plan_bytes_plan_in, size_plan_in, fits_plan_in}
 use Rattle.plans.proofs.Accepted.{accepted_count, accepted_read, accepted_room, accepted_fits, accepted_says}
 use Rattle.plans.proofs.Accepted.{accepted_buffer, accepted_from, taken}
 
@@ -49,12 +48,10 @@ same_fault p f rest =
           length-append (section_bytes (counted_entries p)) rest,
           length_section_bytes (counted_entries p),
           ap section_size (entries_written p f few rest),
-          section_size_meant (counted_entries p),
         )
         in
         section_fault_law p.resources p.count section long
         ∙ ap (λ es. entries_fault p.resources es) (entries_written p f few rest)
-        ∙ entries_fault_meant p.resources (counted_entries p)
 
 pub same_fault_alone : (p : Plan) → Fits_plan p → read_fault (plan_bytes p) ≡ plan_fault p
 same_fault_alone p f = ap read_fault (sym (append-nil (plan_bytes p))) ∙ same_fault p f []
@@ -83,10 +80,8 @@ pub written_then_read : (p : Plan) (rest : List ℕ) → Fits_plan p → plan_fa
 unfolding plan_bytes
 written_then_read p rest f e =
     let accepted = same_fault p f rest ∙ e in
-    let same = same_plan_in p f (accepted_count p e) rest in (
-      rw (accepted, size_same p f (accepted_count p e) rest),
-      rw (accepted_read (plan_bytes p ++ rest) accepted) same,
-    )
+    let same = same_plan_in p f (accepted_count p e) rest in
+    (rw (accepted, ← same.entries), rw (accepted_read (plan_bytes p ++ rest) accepted) same)
 
 -- Clause 2.13: what the writer wrote is read from the position as the same plan, and the reader returns the same number
 -- of bytes as the writer.

@@ -2,47 +2,40 @@
 -- nothing.
 use Prim.Native.Nat.{ℕ, ◌+◌, ◌*◌, ◌≤◌, ◌<◌}
 use mathlib.Core.Path.{◌≡◌, ap}
-use mathlib.Core.Bool.{Bool, true, false, cond}
 use mathlib.Core.List.{List, [], ◌∷◌, ◌++◌}
+use native.Mathlib.Nat.{le_refl}
 use native.Mathlib.Omega.{arith}
-use lib.Dec.{eqb}
 use lib.ListN.{length, take, drop, get_or, length-take}
 use Rattle.plans.specs.declared.Entry.{Entry}
 use Rattle.plans.specs.declared.Plan.{Plan}
-use Rattle.plans.specs.Entries.{max_entries, entry_size, entry_size_of, size_by, largest_entry, section_size}
+use Rattle.plans.specs.Entries.{max_entries, entry_size, entry_size_of, largest_entry, section_size}
 use Rattle.plans.specs.Entries.{counted_entries, plan_size, max_plan_size}
 use Rattle.plans.proofs.Counted.{none_left, next_left}
 
 -- ---- one entry
 
-pub size_least : (kind : ℕ) → entry_size ≤ size_by kind
-unfolding size_by
-size_least kind = go (eqb kind 2)
-  where
-    go : (t : Bool) → entry_size ≤ cond t largest_entry entry_size
-    go true = omega arith
-    go false = omega arith
-
-pub size_most : (kind : ℕ) → size_by kind ≤ largest_entry
-unfolding size_by
-size_most kind = go (eqb kind 2)
-  where
-    go : (t : Bool) → cond t largest_entry entry_size ≤ largest_entry
-    go true = omega arith
-    go false = omega arith
-
 pub entry_size_least : (e : Entry) → entry_size ≤ entry_size_of e
-entry_size_least e = size_least e.kind
+unfolding entry_size_of
+entry_size_least e = le_refl entry_size
 
 pub entry_size_most : (e : Entry) → entry_size_of e ≤ largest_entry
-entry_size_most e = size_most e.kind
+unfolding entry_size_of
+entry_size_most e = le_refl largest_entry
 
--- The same for a number that is known to be the size.
-pub sized_least : (kind k : ℕ) → k ≡ size_by kind → entry_size ≤ k
-sized_least kind k is = omega (arith, size_least kind)
+-- The same for a number that is known to be its size.
+pub sized_least : (e : Entry) (k : ℕ) → k ≡ entry_size_of e → entry_size ≤ k
+sized_least e k is = omega (arith, entry_size_least e)
 
-pub sized_most : (kind k : ℕ) → k ≡ size_by kind → k ≤ largest_entry
-sized_most kind k is = omega (arith, size_most kind)
+pub sized_most : (e : Entry) (k : ℕ) → k ≡ entry_size_of e → k ≤ largest_entry
+sized_most e k is = omega (arith, entry_size_most e)
+
+-- An entry ends with its length, so bytes that contain its kind, names and length contain all of it.
+pub entry_size_due : (e : Entry) → entry_size_of e ≤ entry_size
+unfolding entry_size_of
+entry_size_due e = le_refl entry_size
+
+pub sized_due : (e : Entry) (k : ℕ) → k ≡ entry_size_of e → k ≤ entry_size
+sized_due e k is = omega (arith, entry_size_due e)
 
 -- ---- the entries of a section
 

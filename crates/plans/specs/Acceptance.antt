@@ -1,9 +1,7 @@
--- Which plan values are accepted, and which number the others are refused with: 3 to 8 and 19. Specification, section
--- 2.
+-- Which plan values are accepted, and which number the others are refused with: 3 to 8. Specification, section 2.
 use Rattle.std.specs.Prelude.{ℕ, ◌^◌, Bool, not, ◌&&◌, ◌||◌, List, [], ◌∷◌, eqb, leb, ltb}
-use Rattle.masks.specs.Sets.{meets}
 use Rattle.refusals.specs.Due.{due, first_of}
-use Rattle.plans.specs.Entries.{max_processors, max_resources, max_entries, is_mixed, counted_entries}
+use Rattle.plans.specs.Entries.{max_processors, max_resources, max_entries, is_read, is_write, counted_entries}
 use Rattle.plans.specs.declared.Entry.{Entry}
 use Rattle.plans.specs.declared.Plan.{Plan}
 
@@ -28,37 +26,22 @@ unfoldable pub counts_fault : ℕ → ℕ → ℕ → ℕ
 counts_fault processors resources count =
     first_of (processors_fault processors) (first_of (resources_fault resources) (count_fault count))
 
--- Clause 2.6: 6 for a kind above 2.
-abbrev pub kind_fault : ℕ → ℕ
-kind_fault kind = due (leb kind 2) 6
+-- Clause 2.6: 6 for an entry that neither reads nor writes.
+abbrev pub kind_fault : Entry → ℕ
+kind_fault e = due (is_read e || is_write e) 6
 
--- Clause 2.7: the set is not empty and contains only counted resources. All of them are below n if the set as a number
--- is below 2 ^ n.
-abbrev pub counted : ℕ → ℕ → Bool
-counted resources set = not (eqb set 0) && ltb set (2 ^ resources)
-
--- Clause 2.7: 7 for no names, or for a name that is not counted.
+-- Clause 2.7: 7 for no names, or for a name that is not counted. All names are below n if the set as a number is below
+-- 2 ^ n.
 abbrev pub set_fault : ℕ → Entry → ℕ
-set_fault resources e = due (counted resources e.set) 7
+set_fault resources e = due (not (eqb e.set 0) && ltb e.set (2 ^ resources)) 7
 
 -- Clause 2.7: 8 for a length of 0.
 abbrev pub length_fault : Entry → ℕ
 length_fault e = due (ltb 0 e.length) 8
 
--- Clause 2.7: 19 for a mixed entry whose read-only set is empty, has a resource that is not counted, or shares one with
--- its names.
-abbrev pub read_only_fault : ℕ → Entry → ℕ
-read_only_fault resources e =
-    due (not (is_mixed e) || (counted resources e.read_only && not (meets e.read_only e.set))) 19
-
--- Clause 2.9: what is checked after an entry's kind: its names, its length, its read-only set.
-unfoldable pub parts_fault : ℕ → Entry → ℕ
-parts_fault resources e =
-    first_of (set_fault resources e) (first_of (length_fault e) (read_only_fault resources e))
-
--- Clauses 2.9 and 8.2: an entry's kind, and then the rest.
+-- Clause 2.9: an entry's kind, then its names, then its length.
 unfoldable pub entry_fault : ℕ → Entry → ℕ
-entry_fault resources e = first_of (kind_fault e.kind) (parts_fault resources e)
+entry_fault resources e = first_of (kind_fault e) (first_of (set_fault resources e) (length_fault e))
 
 -- Clause 2.9: the first fault of the entries in their order.
 unfoldable pub entries_fault : ℕ → List Entry → ℕ

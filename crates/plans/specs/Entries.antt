@@ -1,5 +1,5 @@
 -- The shape of a plan and of its entries. Specification, sections 1 and 2.
-use Rattle.std.specs.Prelude.{ℕ, ◌+◌, ◌*◌, ◌≡◌, Bool, cond, ◌||◌, List, [], ◌∷◌, map, eqb, leb, take, get_or}
+use Rattle.std.specs.Prelude.{ℕ, ◌+◌, ◌*◌, ◌≡◌, Bool, cond, List, [], ◌∷◌, eqb, leb, take, get_or}
 use Rattle.plans.specs.declared.Entry.{Entry}
 use Rattle.plans.specs.declared.Plan.{Plan}
 
@@ -20,20 +20,12 @@ max_resources = 64
 abbrev pub max_entries : ℕ
 max_entries = 64
 
--- Clauses 1.3 and 2.6: an entry of kind 0 reads, one of kind 1 writes, and one of kind 2 is mixed. A mixed entry is a
--- write entry too.
+-- Clauses 1.3 and 2.6: an entry of kind 0 reads, and one of kind 1 writes.
 abbrev pub is_read : Entry → Bool
 is_read e = eqb e.kind 0
 
-abbrev pub is_mixed : Entry → Bool
-is_mixed e = eqb e.kind 2
-
 abbrev pub is_write : Entry → Bool
-is_write e = eqb e.kind 1 || is_mixed e
-
--- Clauses 1.3 and 2.10: the resources that a mixed entry only reads. In any other entry that set is ignored.
-abbrev pub read_only_law : Entry → ℕ
-read_only_law e = cond (is_mixed e) e.read_only 0
+is_write e = eqb e.kind 1
 
 -- Clause 2.2: the bytes of the three counts.
 abbrev pub counts_size : ℕ
@@ -43,16 +35,12 @@ counts_size = 3
 abbrev pub entry_size : ℕ
 entry_size = 11
 
--- Clause 2.6: the bytes of a mixed entry, the most that an entry takes.
+-- Clause 2.6: the bytes of an entry, and the most that one takes.
+unfoldable pub entry_size_of : Entry → ℕ
+entry_size_of e = entry_size
+
 abbrev pub largest_entry : ℕ
-largest_entry = 19
-
--- Clause 2.6: the bytes of an entry of this kind.
-unfoldable pub size_by : ℕ → ℕ
-size_by kind = cond (eqb kind 2) largest_entry entry_size
-
-abbrev pub entry_size_of : Entry → ℕ
-entry_size_of e = size_by e.kind
+largest_entry = entry_size
 
 -- The bytes of entries one after the other.
 unfoldable pub section_size : List Entry → ℕ
@@ -72,19 +60,15 @@ max_plan_size = counts_size + largest_entry * max_entries
 
 -- The blank entry fills the places past the count.
 abbrev pub blank_entry : Entry
-blank_entry = record { set = 0; read_only = 0; length = 0; kind = 0 }
+blank_entry = record { kind = 0; set = 0; length = 0 }
 
 -- Entry i of the plan. Past the count it is the blank one.
 abbrev pub entry_at : Plan → ℕ → Entry
 entry_at p i = get_or (counted_entries p) i blank_entry
-
--- Clauses 2.10 and 2.11: the entry as it counts: with nothing in a read-only set that is ignored.
-unfoldable pub meant : Entry → Entry
-meant e = record { set = e.set; read_only = read_only_law e; length = e.length; kind = e.kind }
 
 -- Clause 2.11: the two plans are the same.
 pub record Same (p q : Plan) : Type 0 where
   pub processors : p.processors ≡ q.processors
   pub resources : p.resources ≡ q.resources
   pub count : p.count ≡ q.count
-  pub entries : map meant (counted_entries p) ≡ map meant (counted_entries q)
+  pub entries : counted_entries p ≡ counted_entries q

@@ -1,43 +1,29 @@
--- What reading a plan means, and when it is refused: 1, 3 to 8 and 19. Specification, section 2.
+-- What reading a plan means, and when it is refused: 1 and 3 to 8. Specification, section 2.
 use Rattle.std.specs.Prelude.{ℕ, zero, suc, ◌-◌, cond, List, [], ◌∷◌, ◌++◌, eqb, get_or, drop, replicate}
 use Rattle.std.proofs.Math.Seq.{slice}
 use Rattle.refusals.specs.Due.{AsNumbers, first_of, as_numbers}
 use Rattle.encoding.specs.Numbers.{number}
 use Rattle.encoding.specs.Buffers.{short_fault}
-use Rattle.plans.specs.Entries.{max_entries, counts_size, entry_size, largest_entry, size_by, entry_size_of}
-use Rattle.plans.specs.Entries.{plan_size, blank_entry}
-use Rattle.plans.specs.Acceptance.{processors_fault, resources_fault, count_fault, kind_fault, parts_fault}
+use Rattle.plans.specs.Entries.{max_entries, counts_size, entry_size, entry_size_of, plan_size, blank_entry}
+use Rattle.plans.specs.Acceptance.{processors_fault, resources_fault, count_fault, entry_fault}
 use Rattle.plans.specs.declared.Entry.{Entry}
 use Rattle.plans.specs.declared.Plan.{Plan}
 
--- Clauses 2.6 and 2.10: the read-only set in the last eight bytes of a mixed entry. Any other entry gets the empty set.
-unfoldable pub read_only_in : List ℕ → ℕ
-read_only_in s = cond (eqb (get_or s 0 0) 2) (number (slice entry_size largest_entry s)) 0
-
 -- Clause 2.6: the entry at the start of the bytes s.
 unfoldable pub entry_in : List ℕ → Entry
-entry_in s =
-    record {
-      set = number (slice 1 9 s);
-      read_only = read_only_in s;
-      length = number (slice 9 entry_size s);
-      kind = get_or s 0 0;
-    }
+entry_in s = record { kind = get_or s 0 0; set = number (slice 1 9 s); length = number (slice 9 entry_size s) }
 
 -- The first n entries of the bytes s.
 unfoldable pub entries_in : ℕ → List ℕ → List Entry
 entries_in zero s = []
 entries_in (suc n) s = entry_in s ∷ entries_in n (drop (entry_size_of (entry_in s)) s)
 
--- Clauses 2.9 and 8.2: the first fault of n entries in the bytes s. The first 11 bytes of each are due (1) before its
--- kind is checked, and all its bytes (1) before the rest is.
+-- Clauses 2.9 and 8.2: the first fault of n entries in the bytes s. Each entry is due (1) before it is checked.
 unfoldable pub section_fault : ℕ → ℕ → List ℕ → ℕ
 section_fault resources zero s = 0
 section_fault resources (suc n) s =
     first_of (short_fault entry_size s)
-    (first_of (kind_fault (get_or s 0 0))
-    (first_of (short_fault (size_by (get_or s 0 0)) s)
-    (first_of (parts_fault resources (entry_in s)) (section_fault resources n (drop (entry_size_of (entry_in s)) s)))))
+    (first_of (entry_fault resources (entry_in s)) (section_fault resources n (drop (entry_size_of (entry_in s)) s)))
 
 -- Clauses 2.9 and 8.2: the first fault of the bytes s. Each count is due (1) before it is checked, then the entries.
 unfoldable pub read_fault : List ℕ → ℕ

@@ -1,20 +1,16 @@
--- What writing a plan means, and when it is refused: 3 to 8, 16 and 19. Specification, section 2.
-use Rattle.std.specs.Prelude.{ℕ, cond, List, [], ◌∷◌, ◌++◌, length}
+-- What writing a plan means, and when it is refused: 3 to 8 and 16. Specification, section 2.
+use Rattle.std.specs.Prelude.{ℕ, List, [], ◌∷◌, ◌++◌, length}
 use Rattle.refusals.specs.Due.{AsNumbers, first_of, as_numbers}
 use Rattle.encoding.specs.Numbers.{bytes_of}
 use Rattle.encoding.specs.Buffers.{room_fault, buffer_after}
-use Rattle.plans.specs.Entries.{is_mixed, plan_size, counted_entries}
+use Rattle.plans.specs.Entries.{plan_size, counted_entries}
 use Rattle.plans.specs.Acceptance.{plan_fault}
 use Rattle.plans.specs.declared.Entry.{Entry}
 use Rattle.plans.specs.declared.Plan.{Plan}
 
--- Clause 2.6: the read-only set in bytes: eight for a mixed entry, none for any other.
-unfoldable pub read_only_bytes : Entry → List ℕ
-read_only_bytes e = cond (is_mixed e) (bytes_of 8 e.read_only) []
-
--- Clause 2.6: an entry in bytes: its kind in one byte, its names in eight, its length in two, and its read-only set.
+-- Clause 2.6: an entry in bytes: its kind in one byte, its names in eight and its length in two.
 unfoldable pub entry_bytes : Entry → List ℕ
-entry_bytes e = e.kind ∷ bytes_of 8 e.set ++ bytes_of 2 e.length ++ read_only_bytes e
+entry_bytes e = e.kind ∷ bytes_of 8 e.set ++ bytes_of 2 e.length
 
 -- The entries one after the other.
 unfoldable pub section_bytes : List Entry → List ℕ
@@ -25,7 +21,7 @@ section_bytes (e ∷ later) = entry_bytes e ++ section_bytes later
 unfoldable pub plan_bytes : Plan → List ℕ
 plan_bytes p = p.processors ∷ p.resources ∷ p.count ∷ section_bytes (counted_entries p)
 
--- Clauses 2.12 and 8.2: first 3 to 8 and 19 for the plan, then 16 for the room. The buffer is `size` bytes long and the plan
+-- Clauses 2.12 and 8.2: first 3 to 8 for the plan, then 16 for the room. The buffer is `size` bytes long and the plan
 -- is written from position `at`.
 unfoldable pub write_fault : Plan → ℕ → ℕ → ℕ
 write_fault p size at = first_of (plan_fault p) (room_fault (plan_size p) size at)

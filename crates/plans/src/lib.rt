@@ -5,8 +5,8 @@ mod entry_kinds;
 mod plan_sizes;
 
 use encoding::Outcome;
-pub use entry_kinds::{counted_of, is_mixed, is_read, is_write};
-pub use plan_sizes::{mask_size, plan_size, size_by};
+pub use entry_kinds::{counted_of, is_read, is_write};
+pub use plan_sizes::{entry_size, mask_size, plan_size};
 
 // The most processors of a plan, and so the most requests of a state.
 pub const MAX_PROCESSORS: usize = 32;
@@ -23,20 +23,18 @@ pub const PLAN_COUNTS_BYTES: usize = 3;
 // The bytes of an entry's kind, names and length.
 pub const ENTRY_BYTES: usize = 11;
 
-// The most bytes of an entry: those of a mixed one, which end with its read-only set.
-pub const MAX_ENTRY_BYTES: usize = 19;
+// The most bytes of an entry.
+pub const MAX_ENTRY_BYTES: usize = ENTRY_BYTES;
 
 // The most bytes of a plan.
 pub const MAX_PLAN_BYTES: usize = PLAN_COUNTS_BYTES + MAX_ENTRY_BYTES * MAX_ENTRIES;
 
-// What a request asks for. Kind 0 reads, kind 1 writes, and kind 2 is mixed: it writes its set and only reads the
-// resources of `read_only`, which is ignored for the other kinds. Bit r of a set is resource r; length is in ticks.
+// What a request asks for: kind 0 reads and kind 1 writes, bit r of the set names resource r, length is in ticks.
 #[derive(Drop)]
 pub struct Entry {
-    pub set: u64,
-    pub read_only: u64,
-    pub length: u16,
     pub kind: u8,
+    pub set: u64,
+    pub length: u16,
 }
 
 // Entries from the count on are ignored.

@@ -1,19 +1,14 @@
 // How many bytes an entry, a plan and a mask take. Specification, clauses 2.6, 7.4, 7.7 and 9.9.
 ghost use Rattle.std.specs.Prelude.{◌≡◌};
-ghost use Rattle.plans.specs.Entries.{size_by, mask_size_for, plan_size};
+ghost use Rattle.plans.specs.Entries.{entry_size_of, mask_size_for, plan_size};
 
 use crate::entry_kinds::counted_of;
-use crate::{ENTRY_BYTES, MAX_ENTRY_BYTES, PLAN_COUNTS_BYTES, Plan};
+use crate::{ENTRY_BYTES, Entry, PLAN_COUNTS_BYTES, Plan};
 
-// The bytes of an entry of this kind: a mixed one takes eight more.
-pub fn size_by(kind: u8) -> usize
-    ensures { result ≡ size_by kind }
+pub fn entry_size(entry: Entry) -> usize
+    ensures { result ≡ entry_size_of entry }
 {
-    if kind == 2 {
-        MAX_ENTRY_BYTES
-    } else {
-        ENTRY_BYTES
-    }
+    ENTRY_BYTES
 }
 
 // The bytes of a plan: its counts and its counted entries.
@@ -25,8 +20,7 @@ pub fn plan_size(plan: Plan) -> usize
     let mut size: usize = PLAN_COUNTS_BYTES;
     let mut i: usize = 0;
     while i < count {
-        let entry = entries[i];
-        size += size_by(entry.kind);
+        size += entry_size(entries[i]);
         i += 1;
     }
     size

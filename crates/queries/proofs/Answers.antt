@@ -23,7 +23,7 @@ use Rattle.rules.specs.declared.states.State.{State}
 use Rattle.rules.specs.CountedRequests.{has_processor}
 use Rattle.rules.specs.Faults.{processor_fault}
 use Rattle.rules.specs.Calls.{facts_of, phases_of}
-use Rattle.settling.specs.Waits.{waits_in, waits_of}
+use Rattle.waits.specs.Waits.{waits_in, waits_of}
 use Rattle.queries.specs.Queries.{waits_for, scratch_size}
 use Rattle.queries.specs.inner.Rows.{direct_rows}
 

@@ -18,7 +18,7 @@ use Rattle.rules.specs.declared.states.Board.{Board}
 use Rattle.rules.specs.declared.states.State.{State}
 use Rattle.rules.specs.CountedRequests.{has_processor, in_plan, is_holding, is_entitled, is_waiting, cleaned}
 use Rattle.rules.specs.Calls.{facts_of, phases_of}
-use Rattle.settling.specs.Waits.{waits_in}
+use Rattle.waits.specs.Waits.{waits_in}
 use Rattle.queries.specs.Queries.{waits_for}
 
 -- Clause 7.2: why p waits for q.

@@ -10,7 +10,7 @@ use Rattle.rules.specs.Faults.{processor_fault}
 use Rattle.rules.specs.Calls.{facts_of, phases_of}
 use Rattle.board_list.specs.Fields.{state_in}
 use Rattle.queries.specs.Words.{word_count, words_of, words_size}
-use Rattle.settling.specs.Waits.{waits_in}
+use Rattle.waits.specs.Waits.{waits_in}
 
 -- Clauses 7.1 and 4.10: the state of processor p is the state of its request, if that counts; otherwise p is idle.
 unfoldable pub state_number : Board → State → ℕ → ℕ

@@ -8,7 +8,8 @@ ghost use Rattle.queries.specs.WholeBoard.{board_query, board_buffer};
 use encoding::Outcome;
 use plans::{MAX_ENTRIES, MAX_PROCESSORS};
 use rules::{Board, Moment, State, Terms};
-use settling::{clean, waits_of_all};
+use settling::clean;
+use waits::waits_of_all;
 
 // Fills the buffer with the list and returns how many bytes it took; bytes after it stay. The parts of a board and a
 // state are lent, as in a call in place. A buffer that is too short is refused with 16, and then nothing is written.

@@ -10,7 +10,8 @@ use crate::query_checks::check_processor;
 use plans::{MAX_ENTRIES, MAX_PROCESSORS};
 use refusals::Verdict;
 use rules::{Board, Phases, State, Terms};
-use settling::{clean, waits_of, waits_of_all};
+use settling::clean;
+use waits::{waits_of, waits_of_all};
 
 // The direct waits of every processor.
 pub fn direct_rows(

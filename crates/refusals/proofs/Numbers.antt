@@ -9,7 +9,7 @@ use borrow.Author.Tests.{ne_eqb}
 use Rattle.refusals.specs.declared.Refusal.{Refusal}
 use Rattle.refusals.specs.declared.Refusal.TheVariants.{Short, Tail, Processors, Resources, Entries, Kind, Set}
 use Rattle.refusals.specs.declared.Refusal.TheVariants.{Length, Verb, Tick, Processor, Entry, Busy, Idle, Unheld}
-use Rattle.refusals.specs.declared.Refusal.TheVariants.{Room, Held, Register, ReadOnly}
+use Rattle.refusals.specs.declared.Refusal.TheVariants.{Room, Held, Register}
 use Rattle.refusals.specs.declared.Verdict.{Verdict}
 use Rattle.refusals.specs.Number.{number_of, verdict_number}
 use Rattle.refusals.specs.Due.{due, first_of, as_numbers}
@@ -35,7 +35,6 @@ number_positive Unheld = lit< tt
 number_positive Room = lit< tt
 number_positive Held = lit< tt
 number_positive Register = lit< tt
-number_positive ReadOnly = lit< tt
 
 pub positive_not_zero : (n : ℕ) → 0 < n → eqb n 0 ≡ false
 positive_not_zero n h = ne_eqb n 0 (λ e. omega arith)

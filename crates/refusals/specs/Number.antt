@@ -3,7 +3,7 @@ use Rattle.std.specs.Prelude.{ℕ}
 use Rattle.refusals.specs.declared.Refusal.{Refusal}
 use Rattle.refusals.specs.declared.Refusal.TheVariants.{Short, Tail, Processors, Resources, Entries, Kind, Set}
 use Rattle.refusals.specs.declared.Refusal.TheVariants.{Length, Verb, Tick, Processor, Entry, Busy, Idle, Unheld}
-use Rattle.refusals.specs.declared.Refusal.TheVariants.{Room, Held, Register, ReadOnly}
+use Rattle.refusals.specs.declared.Refusal.TheVariants.{Room, Held, Register}
 use Rattle.refusals.specs.declared.Verdict.{Verdict}
 
 -- Clause 8.1: one number for each word of the table.
@@ -26,7 +26,6 @@ number_of Unheld = 15
 number_of Room = 16
 number_of Held = 17
 number_of Register = 18
-number_of ReadOnly = 19
 
 -- A verdict as a number: 0 if accepted, else the refusal's number.
 abbrev pub verdict_number : Verdict → ℕ

@@ -16,7 +16,7 @@ pub enum Refusal {
     Resources,
     // A count of entries that is not 1 to 64.
     Entries,
-    // A kind above 2.
+    // A kind that is neither 0 nor 1.
     Kind,
     // An entry without names, or with one that is not counted.
     Set,
@@ -43,8 +43,6 @@ pub enum Refusal {
     Held,
     // An offset that is not listed, one that may not be written, or a command above 4.
     Register,
-    // A read-only set of a mixed entry that is empty, has a resource that is not counted, or shares one with its names.
-    ReadOnly,
 }
 
 // Whether something is accepted: a plan, an entry, a record, a call.
@@ -77,7 +75,6 @@ pub fn number(refusal: Refusal) -> u8
         Refusal::Room => 16,
         Refusal::Held => 17,
         Refusal::Register => 18,
-        Refusal::ReadOnly => 19,
     }
 }
 

@@ -20,7 +20,7 @@ use Rattle.registers.specs.declared.Block.{Block}
 use Rattle.registers.specs.declared.Register.{Register}
 use Rattle.registers.specs.declared.Register.TheVariants.{Pending}
 use Rattle.registers.specs.Registers.{register_at, refusal_in, late_in, granted_in, entitled_in, pending_in, raised, line_of}
-use Rattle.registers.specs.Registers.{register_number_at, with_line}
+use Rattle.registers.specs.Registers.{with_line}
 use Rattle.registers.specs.Stores.{cleared, new_byte, stored}
 use Rattle.register_block.specs.Registers.{with_mask, joined, accepted_block, refused_block, replied_block}
 use Rattle.register_runs.specs.Steps.{reply_in}
@@ -76,7 +76,7 @@ line_whole l h =
 
 -- The four pending offsets.
 pub pending_place : (k : ℕ) → k < 4 → register_at (20 + k) ≡ Pending
-unfolding register_at register_number_at
+unfolding register_at
 pending_place zero l = refl
 pending_place (suc zero) l = refl
 pending_place (suc (suc zero)) l = refl

@@ -12,8 +12,7 @@ use Rattle.rules.specs.Calls.{answered}
 use Rattle.registers.specs.declared.Block.{Block}
 use Rattle.registers.specs.declared.Register.{Register}
 use Rattle.registers.specs.declared.Register.TheVariants.{Command, Argument, Answer, Pending, Enabled, Line, Unlisted}
-use Rattle.registers.specs.Registers.{register_number_at, register_at}
-use Rattle.registers.proofs.Numbers.{register_by_offset}
+use Rattle.registers.specs.Registers.{register_at}
 use Rattle.registers.specs.Stores.{stored}
 use Rattle.register_block.specs.Calls.{command_call}
 use Rattle.register_block.specs.Commands.{unmoved, carried_out, commanded, written_to, register_write}
@@ -35,7 +34,7 @@ pub data Wrote (b : Board) (s : State) (block : Block) (o v : ℕ) : Type 0 wher
 -- ---- by register
 
 at_zero : register_at 0 ≡ Command
-unfolding register_at register_number_at
+unfolding register_at
 at_zero = refl
 
 not_command : (o v : ℕ) → (register_at o ≡ Command → ⊥) → carries o v ≡ false
@@ -55,7 +54,8 @@ none_is_command false false false false true p = let z : ◌≡◌ {A = ℕ} 0 1
 none_is_command false false false false false p = let z : ◌≡◌ {A = ℕ} 0 1 = cc in omega arith
 
 command_at_zero : (o : ℕ) → register_at o ≡ Command → o ≡ 0
-command_at_zero o e = go (eqb o 0) refl (sym (register_by_offset o) ∙ e)
+unfolding register_at
+command_at_zero o e = go (eqb o 0) refl e
   where
     argument : Bool
     argument = (leb 1 o && leb o 2) || (leb 4 o && leb o 8)

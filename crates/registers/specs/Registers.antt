@@ -14,37 +14,15 @@ use Rattle.registers.specs.declared.ReadAnswer.{ReadAnswer}
 abbrev between : ℕ → ℕ → ℕ → Bool
 between first last offset = leb first offset && leb offset last
 
--- Clause 10.2: the registers as numbers.
-abbrev pub register_number : Register → ℕ
-register_number Command = 0
-register_number Argument = 1
-register_number Answer = 2
-register_number Pending = 3
-register_number Enabled = 4
-register_number Line = 5
-register_number Unlisted = 6
-
 -- Clause 10.2: 0 is the command; 1 the processor, 2 the entry and 4 to 8 the tick are its arguments; 3 the last
 -- refusal, 9 late, 12 to 15 granted and 16 to 19 entitled are its answer; 20 to 23 are pending, 24 to 27 enabled, 28
 -- the interrupt line. No other offset is listed.
-unfoldable pub register_number_at : ℕ → ℕ
-register_number_at offset =
-    cond (eqb offset 0) 0
-    (cond (between 1 2 offset || between 4 8 offset) 1
-    (cond (eqb offset 3 || (eqb offset 9 || between 12 19 offset)) 2
-    (cond (between 20 23 offset) 3 (cond (between 24 27 offset) 4 (cond (eqb offset 28) 5 6)))))
-
--- The register with this number.
-abbrev pub register_of : ℕ → Register
-register_of number =
-    cond (eqb number 0) Command
-    (cond (eqb number 1) Argument
-    (cond (eqb number 2) Answer
-    (cond (eqb number 3) Pending (cond (eqb number 4) Enabled (cond (eqb number 5) Line Unlisted)))))
-
--- Clause 10.2: the register at an offset.
 unfoldable pub register_at : ℕ → Register
-register_at offset = register_of (register_number_at offset)
+register_at offset =
+    cond (eqb offset 0) Command
+    (cond (between 1 2 offset || between 4 8 offset) Argument
+    (cond (eqb offset 3 || (eqb offset 9 || between 12 19 offset)) Answer
+    (cond (between 20 23 offset) Pending (cond (between 24 27 offset) Enabled (cond (eqb offset 28) Line Unlisted)))))
 
 -- Clause 10.2: the numbers in the registers, low byte first, from the bytes of a block.
 abbrev pub processor_in : List ℕ → ℕ

@@ -1,7 +1,6 @@
 // Which register is at an offset of a block, and what a read of it returns. Specification, clauses 10.2 and 10.4.
 ghost use Rattle.std.specs.Prelude.{◌≡◌};
-ghost use Rattle.registers.specs.Registers.{register_number, register_number_at, register_read};
-ghost use Rattle.registers.specs.Registers.{register_as_numbers};
+ghost use Rattle.registers.specs.Registers.{register_at, register_read, register_as_numbers};
 
 use crate::{Block, ReadAnswer, Register, line_of};
 use encoding::byte_at;
@@ -9,7 +8,7 @@ use refusals::Refusal;
 
 // The register at an offset.
 pub fn register_at(offset: u8) -> Register
-    ensures { register_number result ≡ register_number_at offset }
+    ensures { result ≡ register_at offset }
 {
     if offset == 0 {
         return Register::Command;

@@ -53,14 +53,6 @@ pub fn put_last(earlier: &mut [u32; MAX_PROCESSORS], phases: Phases, processor: 
     }
 }
 
-// Who is earlier than the processor's request.
-pub fn earlier_at(earlier: &[u32], processor: u8) -> u32
-    ensures { result ≡ get_or earlier.now processor 0 }
-{
-    let i = processor as usize;
-    if i < earlier.len() { earlier[i] } else { 0 }
-}
-
 // Stores this tick for the processors in the mask.
 pub fn stamp(since: &mut [u64; MAX_PROCESSORS], among: u32, tick: u64)
     ensures { since.new

@@ -8,7 +8,6 @@ ghost use Rattle.rules.specs.Calls.{done};
 ghost use Rattle.rules.specs.InPlace.{state_by};
 ghost use Rattle.requests.specs.Effect.{effect_as_numbers};
 
-use crate::ages::earlier_at;
 use crate::effects::Effect;
 use crate::grants::accept;
 use crate::placing::{settle_left, settle_new, take_out};
@@ -36,10 +35,9 @@ pub fn enter(
         (facts_by rows.now writes (set requested.old processor entry) earlier.now)
         (put_in phases processor)) 0 }
 {
-    let before = earlier_at(earlier, processor);
     store_entry(requested, processor, entry);
     store_tick(since, processor, tick);
-    let after = settle_new(rows, writes, requested, earlier, phases, processor, before);
+    let after = settle_new(rows, writes, requested, earlier, phases, processor);
     accept(tick, phases, after, since, 0)
 }
 

@@ -1,6 +1,6 @@
 // The phases after a request enters or leaves, and after all requests are settled. A processor that a state has no
 // place for changes nothing. Specification, clauses 4.4 and 5.2.
-ghost use Rattle.std.specs.Prelude.{◌≡◌, get_or};
+ghost use Rattle.std.specs.Prelude.{◌≡◌};
 ghost use Rattle.rules.specs.Requests.{facts_by};
 ghost use Rattle.rules.specs.Settling.{settled};
 ghost use Rattle.rules.specs.Acts.{put_in, taken_out};
@@ -22,8 +22,8 @@ fn put_in(phases: Phases, processor: u8) -> Phases
     }
 }
 
-// The phases after the processor's new request enters and all are settled. The caller gives who is earlier than it. If
-// nobody else is active and nobody is earlier, it holds, read or write, and no row is read.
+// The phases after the processor's new request enters and all are settled. If nobody else is active and nobody is
+// earlier, it holds, read or write, and no row is read.
 pub fn settle_new(
     rows: &[u64; MAX_ENTRIES],
     writes: u64,
@@ -31,22 +31,21 @@ pub fn settle_new(
     earlier: &[u32; MAX_PROCESSORS],
     phases: Phases,
     processor: u8,
-    before: u32,
 ) -> Phases
-    requires { before ≡ get_or earlier.now processor 0 }
     ensures { result ≡ settled
         (facts_by rows.now writes requested.now earlier.now)
         (put_in phases processor) }
 {
     if ((processor as usize) < MAX_PROCESSORS)
         & (phases.waiting | phases.entitled | phases.holding == 0)
-        & (before == 0)
     {
-        return Phases {
-            waiting: 0,
-            entitled: 0,
-            holding: add32(0, processor as u32),
-        };
+        if earlier[processor as usize] == 0 {
+            return Phases {
+                waiting: 0,
+                entitled: 0,
+                holding: add32(0, processor as u32),
+            };
+        }
     }
     settle(rows, writes, requested, earlier, put_in(phases, processor))
 }

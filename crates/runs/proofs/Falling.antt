@@ -16,7 +16,7 @@ use Rattle.runs.proofs.columns.Phases.{is_active_law}
 use Rattle.runs.proofs.columns.Rank.{rank, Ahead, ahead_has_lower_rank}
 use Rattle.runs.proofs.refinement.State.{requests_of, active_not_idle, held_phase, entitled_phase, waiting_phase}
 use Rattle.runs.proofs.refinement.Clean.{phase_in, clean_phases}
-use Rattle.settling.specs.Waits.{waits_in}
+use Rattle.waits.specs.Waits.{waits_in}
 use Rattle.queries.specs.Queries.{waits_for, Chain, direct, through}
 use Rattle.masks.proofs.Truth.{and_left}
 use Rattle.queries.proofs.Waits.{Reason, entitled_read_law, waiting_read_law, entitled_write_law, waiting_write_law, waits_reason}

@@ -10,4 +10,3 @@ pub mod Falling
 pub mod Holders
 pub mod Freedom
 pub mod NeverHolds
-pub mod Resources

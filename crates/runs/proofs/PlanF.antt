@@ -21,10 +21,10 @@ use Rattle.boards.specs.Fresh.{board_of, fresh_state}
 use Rattle.runs.specs.Events.{Event, events}
 
 unfoldable pub read : ℕ → ℕ → Entry
-read names ticks = record { set = names; read_only = 0; length = ticks; kind = 0 }
+read names ticks = record { kind = 0; set = names; length = ticks }
 
 unfoldable pub write : ℕ → ℕ → Entry
-write names ticks = record { set = names; read_only = 0; length = ticks; kind = 1 }
+write names ticks = record { kind = 1; set = names; length = ticks }
 
 -- Plan F: 4 processors, 3 resources, five entries.
 unfoldable pub plan_f : Plan

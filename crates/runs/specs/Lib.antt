@@ -2,5 +2,4 @@ pub mod Events
 pub mod History
 pub mod Claim
 pub mod Freedom
-pub mod Resources
 pub mod Withdrawals

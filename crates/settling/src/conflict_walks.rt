@@ -1,6 +1,6 @@
 // Whose requests conflict, using masks of processors and 64-bit sets of entries. A row contains the entries that an
-// entry conflicts with (specification, clause 5.7). Every walk goes through the processors of a mask one by one. The
-// masks contain known processors: there is a row, and a place in a set, for the entry of each.
+// entry conflicts with (specification, clause 5.7). Every walk goes through the processors of a mask one by one. Except
+// in `those_in`, the masks contain known processors: there is a row, and a place in a set, for the entry of each.
 ghost use Rattle.std.specs.Prelude.{◌≡◌, cond, not, ◌&&◌, [], ℕ, ◌<◌, get_or};
 ghost use Rattle.masks.specs.Sets.{bit, added, some, meets, mask_of};
 ghost use Rattle.plans.specs.Entries.{max_processors, max_entries};
@@ -31,7 +31,7 @@ fn entry_at(requested: &[u8; MAX_PROCESSORS], p: u32) -> u8
 }
 
 // The entries that a processor's request conflicts with.
-pub fn row_at(rows: &[u64; MAX_ENTRIES], requested: &[u8; MAX_PROCESSORS], p: u32) -> u64
+fn row_at(rows: &[u64; MAX_ENTRIES], requested: &[u8; MAX_PROCESSORS], p: u32) -> u64
     requires { (p < max_processors) × (get_or requested.now p 0 < max_entries) }
     ensures { result ≡ get_or rows.now (get_or requested.now p 0) 0 }
 {
@@ -50,6 +50,32 @@ pub fn known_among(requested: &[u8; MAX_PROCESSORS], set: u64, among: u32) -> u3
     while left != 0 {
         let p = u32::trailing_zeros(left);
         out = add_if_in(out, p, set, entry_at(requested, p));
+        left = left & (left - 1);
+    }
+    out
+}
+
+// Adds the place to the set if the row contains the entry. A row contains no entry past its 64 places.
+fn add_if_there(set: u32, place: u32, row: u64, entry: u8) -> u32
+    requires { place < 32 }
+    ensures { result ≡ cond (bit row entry) (added set place) set }
+{
+    if entry < MAX_ENTRIES as u8 {
+        add_if_in(set, place, row, entry)
+    } else {
+        set
+    }
+}
+
+// The processors of any mask whose entries are in the set.
+pub fn those_in(requested: &[u8; MAX_PROCESSORS], set: u64, among: u32) -> u32
+    ensures { result ≡ mask_of max_processors (λ p. bit among p && bit set (get_or requested.now p 0)) }
+{
+    let mut out: u32 = 0;
+    let mut left = among;
+    while left != 0 {
+        let p = u32::trailing_zeros(left);
+        out = add_if_there(out, p, set, entry_at(requested, p));
         left = left & (left - 1);
     }
     out

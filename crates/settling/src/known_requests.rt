@@ -1,10 +1,9 @@
 // Known requests: those whose entries are below a count, as masks of processors. With the number of a plan's entries as
 // the count, they are the requests that count (specification, clause 4.10). With the number of rows, they are those
 // that can conflict at all (clause 5.7).
-ghost use Rattle.std.specs.Prelude.{◌≡◌, cond, ◌&&◌, ℕ, ◌<◌, ◌≤◌, ltb, length, get_or};
+ghost use Rattle.std.specs.Prelude.{◌≡◌, cond, ◌&&◌, ℕ, ◌<◌, ◌≤◌, ltb, get_or};
 ghost use Rattle.masks.specs.Sets.{bit, added, mask_of};
-ghost use Rattle.plans.specs.Entries.{max_processors, max_entries};
-ghost use Rattle.rules.specs.inner.Moves.{Table, known_in};
+ghost use Rattle.plans.specs.Entries.{max_processors};
 
 use plans::MAX_PROCESSORS;
 
@@ -66,7 +65,7 @@ pub fn entries_below(among: u32, count: u8, requested: &[u8; MAX_PROCESSORS]) ->
 
 // All processors whose requests' entries are below the count. It compares the largest first: if all are below, the
 // compiled code calls nothing.
-fn all_below(count: u8, requested: &[u8; MAX_PROCESSORS]) -> u32
+pub fn all_below(count: u8, requested: &[u8; MAX_PROCESSORS]) -> u32
     ensures { result ≡ mask_of max_processors (λ p. ltb (get_or requested.now p 0) count) }
 {
     let most = largest(requested);
@@ -74,12 +73,4 @@ fn all_below(count: u8, requested: &[u8; MAX_PROCESSORS]) -> u32
         return ALL;
     }
     entries_below(ALL, count, requested)
-}
-
-// The processors whose requests' entries have a row. Every entry below 64 has one.
-pub fn known_in(rows: &[u64], requested: &[u8; MAX_PROCESSORS]) -> u32
-    requires { length rows.now ≡ max_entries }
-    ensures { (result ≡ known_in requested.now) × Table rows.now }
-{
-    all_below(rows.len() as u8, requested)
 }

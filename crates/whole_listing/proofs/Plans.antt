@@ -1,6 +1,6 @@
 -- A plan that is not short is decided: bytes after it change nothing, and a full buffer is never short. Assumes
 -- nothing.
-use Prim.Native.Nat.{ℕ, zero, suc, ◌*◌, ◌≤◌, ◌<◌}
+use Prim.Native.Nat.{ℕ, zero, suc, ◌*◌, ◌^◌, ◌≤◌, ◌<◌}
 use mathlib.Core.Path.{◌≡◌, refl, ap, sym, ◌∙◌}
 use mathlib.Core.Bool.{Bool, true, false, cond, not, ◌&&◌, ◌||◌}
 use mathlib.Core.List.{List, ◌++◌}
@@ -9,20 +9,17 @@ use borrow.Author.Tests.{leb-true, le-leb, eqb-true, eqb-false, eq-eqb, ne_eqb}
 use lib.Dec.{leb, eqb, ltb, eqb-suc-zero}
 use lib.ListN.{length, get_or, take, drop, length-append, length-drop, get_or-append}
 use lib.Seq.{slice, take-append-le, drop-append-le}
-use Rattle.masks.specs.Sets.{meets}
 use Rattle.refusals.specs.Due.{AsNumbers, due, first_of}
-use Rattle.encoding.specs.Numbers.{number}
 use Rattle.encoding.specs.Buffers.{short_fault}
 use Rattle.encoding.proofs.Room.{enough_at}
 use Rattle.plans.specs.declared.Entry.{Entry}
 use Rattle.plans.specs.declared.Plan.{Plan}
-use Rattle.plans.specs.Entries.{max_processors, max_resources, max_entries, is_mixed, counts_size, entry_size, largest_entry}
-use Rattle.plans.specs.Entries.{size_by, entry_size_of, section_size, counted_entries}
+use Rattle.plans.specs.Entries.{max_processors, max_resources, max_entries, is_read, is_write}
+use Rattle.plans.specs.Entries.{counts_size, entry_size, entry_size_of, largest_entry, section_size, counted_entries}
 use Rattle.plans.specs.Acceptance.{within, processors_fault, resources_fault, count_fault, counts_fault, kind_fault}
-use Rattle.plans.specs.Acceptance.{counted, set_fault, length_fault, parts_fault}
-use Rattle.plans.specs.Reading.{read_only_in, entry_in, entries_in, section_fault, read_fault, blank_plan, plan_in}
-use Rattle.plans.specs.Reading.{read_as_numbers, plan_read}
-use Rattle.plans.proofs.Sizes.{size_least, size_most}
+use Rattle.plans.specs.Acceptance.{set_fault, length_fault, entry_fault}
+use Rattle.plans.specs.Reading.{entry_in, entries_in, section_fault, read_fault, blank_plan, plan_in, read_as_numbers, plan_read}
+use Rattle.plans.proofs.Sizes.{entry_size_least, entry_size_most, entry_size_due}
 use Rattle.plans.proofs.EntryBytes.{first_there, later_there}
 use Rattle.plans.proofs.PlanBytes.{counted_plan_in}
 use Rattle.plans.proofs.Faults.{counts_at_most, read_fault_law, read_length}
@@ -65,31 +62,14 @@ due_same k s t b c h decided = go (leb k (length s)) refl decided
 -- ---- entries
 
 -- An entry that is whole in s is read from s, whatever follows.
-read_only_in_front : (s t : List ℕ) → size_by (get_or s 0 0) ≤ length s → read_only_in (s ++ t) ≡ read_only_in s
-unfolding read_only_in size_by
-read_only_in_front s t h = rw (get_or-append s t 0 0 there) (go (eqb (get_or s 0 0) 2) h)
-  where
-    there : 0 < length s
-    there = omega (arith, size_least (get_or s 0 0))
-
-    go : (b : Bool) → cond b largest_entry entry_size ≤ length s
-        → cond b (number (slice entry_size largest_entry (s ++ t))) 0 ≡ cond b (number (slice entry_size largest_entry s)) 0
-    go true whole = ap (λ l. number (drop entry_size l)) (take-append-le largest_entry s t whole)
-    go false whole = refl
-
-size_read : (s : List ℕ) → entry_size_of (entry_in s) ≡ size_by (get_or s 0 0)
-unfolding entry_in
-size_read s = refl
-
-entry_in_front : (s t : List ℕ) → entry_size_of (entry_in s) ≤ length s → entry_in (s ++ t) ≡ entry_in s
+entry_in_front : (s t : List ℕ) → entry_size ≤ length s → entry_in (s ++ t) ≡ entry_in s
 unfolding entry_in
 entry_in_front s t h =
-    let there : entry_size ≤ length s = omega (arith, size_least (get_or s 0 0)) in
     let h0 : 0 < length s = omega arith in
     let nine : 9 ≤ length s = omega arith in
     let set : slice 1 9 (s ++ t) ≡ slice 1 9 s = ap (drop 1) (take-append-le 9 s t nine) in
-    let len : slice 9 entry_size (s ++ t) ≡ slice 9 entry_size s = ap (drop 9) (take-append-le entry_size s t there) in
-    rw (get_or-append s t 0 0 h0, set, len, read_only_in_front s t h)
+    let len : slice 9 entry_size (s ++ t) ≡ slice 9 entry_size s = ap (drop 9) (take-append-le entry_size s t h) in
+    rw (get_or-append s t 0 0 h0, set, len)
 
 -- The same for the entries of a section.
 entries_in_front : (n : ℕ) (s t : List ℕ) → section_size (entries_in n s) ≤ length s
@@ -99,7 +79,8 @@ entries_in_front zero s t h = refl
 entries_in_front (suc n) s t h =
     let k = entry_size_of (entry_in s) in
     let whole : k ≤ length s = first_there n s h in
-    rw (entry_in_front s t whole, drop-append-le k s t whole, entries_in_front n (drop k s) t (later_there n s h))
+    let one : entry_size ≤ length s = omega (arith, entry_size_least (entry_in s)) in
+    rw (entry_in_front s t one, drop-append-le k s t whole, entries_in_front n (drop k s) t (later_there n s h))
 
 -- The same for their first fault, unless it is that they are short.
 section_decided : (r n : ℕ) (s t : List ℕ) → NotShort (section_fault r n s) → section_fault r n s
@@ -108,39 +89,30 @@ unfolding section_fault
 section_decided r zero s t decided = refl
 section_decided r (suc n) s t decided =
     due_same entry_size s t _ _
-    (λ first rest. rw (get_or-append s t 0 0 (omega arith))
-    (look_same (kind_fault (get_or s 0 0)) _ _
-    (λ e. due_same (size_by (get_or s 0 0)) s t _ _
-    (λ there parts.
+    (λ one rest.
     let k = entry_size_of (entry_in s) in
-    let whole : k ≤ length s = rw (size_read s) there in
-    rw (entry_in_front s t whole, drop-append-le k s t whole)
-    (look_same (parts_fault r (entry_in s)) _ _ (λ z later. section_decided r n (drop k s) t later) parts)))
-    rest))
+    let whole : k ≤ length s = omega (arith, entry_size_due (entry_in s)) in
+    rw (entry_in_front s t one, drop-append-le k s t whole)
+    (look_same (entry_fault r (entry_in s)) _ _ (λ e later. section_decided r n (drop k s) t later) rest))
     decided
 
-kind_not_short : (kind : ℕ) → NotShort (kind_fault kind)
-kind_not_short kind = due_not_short (leb kind 2) 6 (omega arith)
-
-parts_not_short : (r : ℕ) (e : Entry) → NotShort (parts_fault r e)
-unfolding parts_fault
-parts_not_short r e =
-    first_not_short (set_fault r e) _ (due_not_short (counted r e.set) 7 (omega arith))
-    (λ z. first_not_short (length_fault e) _ (due_not_short (ltb 0 e.length) 8 (omega arith))
-    (λ z'. due_not_short
-    (not (is_mixed e) || (counted r e.read_only && not (meets e.read_only e.set))) 19 (omega arith)))
+entry_not_short : (r : ℕ) (e : Entry) → NotShort (entry_fault r e)
+unfolding entry_fault
+entry_not_short r e =
+    first_not_short (kind_fault e) _ (due_not_short (is_read e || is_write e) 6 (omega arith))
+    (λ z. first_not_short (set_fault r e) _ (due_not_short (not (eqb e.set 0) && ltb e.set (2 ^ r)) 7
+    (omega arith))
+    (λ z'. due_not_short (ltb 0 e.length) 8 (omega arith)))
 
 section_not_short : (r n : ℕ) (s : List ℕ) → largest_entry * n ≤ length s → NotShort (section_fault r n s)
 unfolding section_fault
 section_not_short r zero s h = λ e. omega arith
 section_not_short r (suc n) s h =
-    let most : size_by (get_or s 0 0) ≤ largest_entry = size_most (get_or s 0 0) in
     let k = entry_size_of (entry_in s) in
-    let later : largest_entry * n ≤ length (drop k s) = simp length-drop (omega (arith, size_read s)) in
-    rw (enough_at entry_size s (omega arith), enough_at (size_by (get_or s 0 0)) s (omega arith))
-    (first_not_short (kind_fault (get_or s 0 0)) _ (kind_not_short (get_or s 0 0))
-    (λ z. first_not_short (parts_fault r (entry_in s)) _ (parts_not_short r (entry_in s))
-    (λ z'. section_not_short r n (drop k s) later)))
+    let later : largest_entry * n ≤ length (drop k s) = simp length-drop (omega (arith, entry_size_most (entry_in s))) in
+    rw (enough_at entry_size s (omega arith))
+    (first_not_short (entry_fault r (entry_in s)) _ (entry_not_short r (entry_in s))
+    (λ z. section_not_short r n (drop k s) later))
 
 -- ---- a whole plan
 

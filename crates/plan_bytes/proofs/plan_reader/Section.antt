@@ -1,33 +1,32 @@
 -- One turn of the loop over the entries of a plan: what was read so far, and what each branch makes of it. Assumes
 -- nothing.
 use Prim.Native.Nat.{ℕ, zero, suc, ◌+◌, ◌-◌, ◌≤◌, ◌<◌}
-use native.Mathlib.Nat.{le_refl, add-zero}
+use native.Mathlib.Nat.{le_refl}
 use native.Mathlib.Numerals.{add-one}
 use native.Mathlib.Omega.{arith}
 use mathlib.Core.Path.{◌≡◌, refl, sym, ap, ◌∙◌}
-use mathlib.Core.Bool.{Bool, true, false, cond, ◌&&◌, and-eq-true_iff}
+use mathlib.Core.Bool.{cond}
 use mathlib.Core.List.{List, [], ◌∷◌, ◌++◌, append_assoc}
-use borrow.Author.Tests.{lt-leb, ltb-true, ltb-false}
-use lib.Dec.{eqb, ltb}
+use borrow.Author.Tests.{lt-leb}
+use lib.Dec.{eqb}
 use lib.ListN.{length, get_or, take, drop, set, replicate, length-drop}
-use lib.Seq.{drop-drop, set_at, take_all, get_or-drop}
+use lib.Seq.{drop-drop, set_at, take_all}
 use Rattle.refusals.specs.declared.Refusal.{Refusal}
 use Rattle.refusals.specs.declared.Verdict.{Verdict}
 use Rattle.refusals.specs.Number.{number_of, verdict_number}
 use Rattle.refusals.specs.Due.{first_of, as_numbers}
 use Rattle.refusals.proofs.Numbers.{first_of_four, first_accepts_verdict, first_refuses_verdict}
-use Rattle.encoding.specs.Buffers.{short_fault, outcome_as_numbers}
+use Rattle.encoding.specs.Buffers.{outcome_as_numbers}
 use Rattle.encoding.proofs.Room.{enough_at}
 use Rattle.plans.specs.declared.Entry.{Entry}
 use Rattle.plans.specs.declared.Read.{Read}
-use Rattle.plans.specs.Entries.{max_entries, counts_size, entry_size, largest_entry, size_by, entry_size_of, section_size}
-use Rattle.plans.specs.Entries.{plan_size, blank_entry}
-use Rattle.plans.specs.Acceptance.{kind_fault, set_fault, length_fault, read_only_fault, parts_fault}
+use Rattle.plans.specs.Entries.{max_entries, counts_size, entry_size, entry_size_of, section_size, plan_size, blank_entry}
+use Rattle.plans.specs.Acceptance.{kind_fault, set_fault, length_fault, entry_fault}
 use Rattle.plans.specs.Reading.{entry_in, entries_in, section_fault, blank_plan, plan_in}
-use Rattle.plans.proofs.Sizes.{section_size_append, section_size_one}
+use Rattle.plans.proofs.Sizes.{entry_size_due, section_size_append, section_size_one}
 use Rattle.plans.proofs.EntryBytes.{length_entries_in}
 use Rattle.plans.proofs.PlanBytes.{counted_plan_in}
-use Rattle.plan_bytes.specs.inner.Body.{body_fault, first_in, whole_read}
+use Rattle.plan_bytes.specs.inner.Body.{body_fault, whole_read}
 
 -- The first i of n entries are read and have no fault. The next one begins at byte `at`.
 pub record SoFar (resources n : ℕ) (bytes : List ℕ) (entries : List Entry) (at i : ℕ) : Type 0 where
@@ -100,152 +99,73 @@ module _
         let short : length (drop at bytes) < entry_size = rw length-drop few in
         h.fault ∙ rw (e, lt-leb entry_size (length (drop at bytes)) short)
 
-    -- They do not: its first 11 bytes are there, and its kind is checked.
+    -- They do not. The entry is read from them. Its kind is checked, then its names, then its length.
     module _
-        (more : i < n) (there : entry_size ≤ length bytes - at)
-        (kind : Verdict) (k : verdict_number kind ≡ kind_fault (get_or bytes at 0))
+        (more : i < n) (there : entry_size ≤ length bytes - at) (e : Entry)
+        (read : e ≡ entry_in (take (length bytes - at) (drop at bytes)))
+        (kind : Verdict) (k : verdict_number kind ≡ kind_fault e)
       where
-        -- The entry, and what is checked after it.
-        abbrev here : Entry
-        here = entry_in (drop at bytes)
+        entry_read : e ≡ entry_in (drop at bytes)
+        entry_read = rw (take_all (length bytes - at) (drop at bytes) (rw length-drop (le_refl _))) at read
 
+        -- What is checked after the entry.
         abbrev later : ℕ
-        later = section_fault resources (n - suc i) (drop (at + entry_size_of here) bytes)
+        later = section_fault resources (n - suc i) (drop (at + entry_size_of e) bytes)
 
-        kind_at : get_or (drop at bytes) 0 0 ≡ get_or bytes at 0
-        kind_at = get_or-drop at bytes 0 0 ∙ ap (λ j. get_or bytes j 0) (add-zero at)
-
-        kind_first : section_fault resources n (drop counts_size bytes)
-            ≡ first_of (verdict_number kind)
-            (first_of (short_fault (size_by (get_or bytes at 0)) (drop at bytes)) (first_of (parts_fault resources here) later))
-        unfolding section_fault
-        kind_first =
+        entry_first : section_fault resources n (drop counts_size bytes)
+            ≡ first_of (verdict_number kind) (first_of (set_fault resources e) (first_of (length_fault e) later))
+        unfolding section_fault entry_fault
+        entry_first =
             let turn : n - i ≡ suc (n - suc i) = omega arith in
             let due : entry_size ≤ length (drop at bytes) = rw length-drop there in
             h.fault
-            ∙ rw (turn, enough_at entry_size (drop at bytes) due, kind_at, drop-drop (entry_size_of here) at bytes, k)
+            ∙ rw (turn, enough_at entry_size (drop at bytes) due, ← entry_read, drop-drop (entry_size_of e) at bytes, k)
+            (sym (first_of_four (kind_fault e) (set_fault resources e) (length_fault e) later))
 
         pub kind_refused : (r : Refusal) → kind ≡ Verdict.Refused r
             → section_fault resources n (drop counts_size bytes) ≡ number_of r
-        kind_refused r f = kind_first ∙ first_refuses_verdict kind _ r f
+        kind_refused r f = entry_first ∙ first_refuses_verdict kind _ r f
 
-        module _ (kind-passes : kind ≡ Verdict.Accepted) where
-          -- The test that the code makes: a mixed entry whose last eight bytes are not all there.
-          abbrev cut : Bool
-          cut = eqb (get_or bytes at 0) 2 && ltb (length bytes - at) largest_entry
+        module _
+            (kind-passes : kind ≡ Verdict.Accepted) (names : Verdict) (s : verdict_number names ≡ set_fault resources e)
+          where
+            names_first : section_fault resources n (drop counts_size bytes)
+                ≡ first_of (verdict_number names) (first_of (length_fault e) later)
+            names_first = entry_first ∙ first_accepts_verdict kind _ kind-passes ∙ rw s
 
-          pub cut_off : cut ≡ true → section_fault resources n (drop counts_size bytes) ≡ 1
-          unfolding size_by
-          cut_off c =
-              let both = (and-eq-true_iff (eqb (get_or bytes at 0) 2) (ltb (length bytes - at) largest_entry)).0 c in
-              let few : length (drop at bytes) < largest_entry =
-              rw length-drop (ltb-true (length bytes - at) largest_entry both.1) in
-              kind_first
-              ∙ first_accepts_verdict kind _ kind-passes
-              ∙ rw (both.0, lt-leb largest_entry (length (drop at bytes)) few)
+            pub names_refused : (r : Refusal) → names ≡ Verdict.Refused r
+                → section_fault resources n (drop counts_size bytes) ≡ number_of r
+            names_refused r f = names_first ∙ first_refuses_verdict names _ r f
 
-          pub all_there : cut ≡ false → size_by (get_or bytes at 0) ≤ length bytes - at
-          unfolding size_by
-          all_there c = go (eqb (get_or bytes at 0) 2) c
-            where
-              go : (t : Bool) → (t && ltb (length bytes - at) largest_entry) ≡ false
-                  → cond t largest_entry entry_size ≤ length bytes - at
-              go true c = ltb-false (length bytes - at) largest_entry c
-              go false c = there
+            module _
+                (names-pass : names ≡ Verdict.Accepted) (ticks : Verdict) (l : verdict_number ticks ≡ length_fault e)
+              where
+                ticks_first : section_fault resources n (drop counts_size bytes) ≡ first_of (verdict_number ticks) later
+                ticks_first = names_first ∙ first_accepts_verdict names _ names-pass ∙ rw l
 
-          -- All its bytes are there. Its names are checked, then its length.
-          module _
-              (whole : cut ≡ false) (first : Entry) (read : first ≡ first_in (take (length bytes - at) (drop at bytes)))
-            where
-              first_read : first ≡ first_in (drop at bytes)
-              first_read = rw (take_all (length bytes - at) (drop at bytes) (rw length-drop (le_refl _))) at read
-
-              pub first_inside : size_by first.kind ≤ length bytes - at
-              unfolding first_in
-              first_inside = rw (ap (λ f. size_by f.kind) first_read ∙ ap size_by kind_at) (all_there whole)
-
-              same_names : set_fault resources first ≡ set_fault resources here
-              unfolding first_in entry_in
-              same_names = ap (set_fault resources) first_read
-
-              same_length : length_fault first ≡ length_fault here
-              unfolding first_in entry_in
-              same_length = ap length_fault first_read
-
-              module _ (names : Verdict) (s : verdict_number names ≡ set_fault resources first) where
-                names_first : section_fault resources n (drop counts_size bytes)
-                    ≡ first_of (verdict_number names)
-                    (first_of (length_fault here) (first_of (read_only_fault resources here) later))
-                unfolding parts_fault
-                names_first =
-                    kind_first
-                    ∙ first_accepts_verdict kind _ kind-passes
-                    ∙ rw (enough_at (size_by (get_or bytes at 0)) (drop at bytes) (rw length-drop (all_there whole)), s, same_names)
-                    (sym (first_of_four (set_fault resources here) (length_fault here) (read_only_fault resources here) later))
-
-                pub names_refused : (r : Refusal) → names ≡ Verdict.Refused r
+                pub ticks_refused : (r : Refusal) → ticks ≡ Verdict.Refused r
                     → section_fault resources n (drop counts_size bytes) ≡ number_of r
-                names_refused r f = names_first ∙ first_refuses_verdict names _ r f
+                ticks_refused r f = ticks_first ∙ first_refuses_verdict ticks _ r f
 
-                module _
-                    (names-pass : names ≡ Verdict.Accepted)
-                    (ticks : Verdict) (l : verdict_number ticks ≡ length_fault first)
-                  where
-                    ticks_first : section_fault resources n (drop counts_size bytes)
-                        ≡ first_of (verdict_number ticks) (first_of (read_only_fault resources here) later)
-                    ticks_first =
-                        names_first
-                        ∙ first_accepts_verdict names _ names-pass
-                        ∙ ap (λ v. first_of v (first_of (read_only_fault resources here) later)) (sym (l ∙ same_length))
-
-                    pub ticks_refused : (r : Refusal) → ticks ≡ Verdict.Refused r
-                        → section_fault resources n (drop counts_size bytes) ≡ number_of r
-                    ticks_refused r f = ticks_first ∙ first_refuses_verdict ticks _ r f
-
-                    -- The whole entry is read, and its read-only set is checked.
-                    module _
-                        (ticks-pass : ticks ≡ Verdict.Accepted) (e : Entry)
-                        (made : e ≡ entry_in (take (length bytes - at) (drop at bytes)))
-                      where
-                        entry_read : e ≡ here
-                        entry_read = rw (take_all (length bytes - at) (drop at bytes) (rw length-drop (le_refl _))) at made
-
-                        -- The bytes that the entry takes are there.
-                        pub entry_inside : (size : ℕ) → size ≡ size_by e.kind → size ≤ length bytes - at
-                        unfolding entry_in
-                        entry_inside size sized =
-                            rw (sized ∙ ap (λ f. size_by f.kind) entry_read ∙ ap size_by kind_at) (all_there whole)
-
-                        module _ (only : Verdict) (o : verdict_number only ≡ read_only_fault resources e) where
-                          only_first : section_fault resources n (drop counts_size bytes)
-                              ≡ first_of (verdict_number only) later
-                          only_first =
-                              ticks_first
-                              ∙ first_accepts_verdict ticks _ ticks-pass
-                              ∙ ap (λ v. first_of v later) (sym (o ∙ ap (read_only_fault resources) entry_read))
-
-                          pub only_refused : (r : Refusal) → only ≡ Verdict.Refused r
-                              → section_fault resources n (drop counts_size bytes) ≡ number_of r
-                          only_refused r f = only_first ∙ first_refuses_verdict only _ r f
-
-                          -- The entry has no fault and is stored.
-                          pub entry_passes : only ≡ Verdict.Accepted → n ≤ max_entries → (size : ℕ)
-                              → size ≡ size_by e.kind → SoFar resources n bytes (set entries i e) (at + size) (i + 1)
-                          entry_passes a most size sized =
-                              let small : i < max_entries = omega arith in
-                              let reached : at ≤ length bytes = h.inside in
-                              let before = section_size (entries_in i (drop counts_size bytes)) in
-                              let held : e ≡ entry_after i (drop counts_size bytes) =
-                              entry_read ∙ rw (h.place, ← drop-drop before counts_size bytes) in
-                              record {
-                                place =
-                                    rw add-one
-                                    (omega (arith, h.place, one_size_more i (drop counts_size bytes), ap entry_size_of held));
-                                inside = omega (arith, entry_inside size sized);
-                                counted = omega arith;
-                                fault = only_first ∙ first_accepts_verdict only _ a ∙ rw (sized, add-one, entry_read);
-                                filled = rw (h.filled, held, add-one) (store_next i (drop counts_size bytes) small);
-                              }
+                -- The entry has no fault and is stored.
+                pub entry_passes : ticks ≡ Verdict.Accepted → n ≤ max_entries → (size : ℕ) → size ≡ entry_size_of e
+                    → SoFar resources n bytes (set entries i e) (at + size) (i + 1)
+                entry_passes a most size sized =
+                    let small : i < max_entries = omega arith in
+                    let reached : at ≤ length bytes = h.inside in
+                    let held : e ≡ entry_after i (drop counts_size bytes) =
+                    entry_read
+                    ∙ rw (h.place, ← drop-drop (section_size (entries_in i (drop counts_size bytes))) counts_size bytes)
+                    in
+                    record {
+                      place =
+                          rw add-one
+                          (omega (arith, h.place, one_size_more i (drop counts_size bytes), ap entry_size_of held));
+                      inside = omega (arith, entry_size_due e);
+                      counted = omega arith;
+                      fault = ticks_first ∙ first_accepts_verdict ticks _ a ∙ rw (sized, add-one);
+                      filled = rw (h.filled, held, add-one) (store_next i (drop counts_size bytes) small);
+                    }
 
 -- All entries are read: the number returned, and the plan.
 module _

@@ -1,21 +1,14 @@
 -- The entries of a plan in its bytes, after the three counts.
 use Rattle.std.specs.Prelude.{ℕ, ◌≤◌, List, length, get_or, drop}
-use Rattle.std.proofs.Math.Seq.{slice}
-use Rattle.encoding.specs.Numbers.{number}
 use Rattle.encoding.specs.declared.Outcome.{Outcome}
 use Rattle.plans.specs.declared.Entry.{Entry}
 use Rattle.plans.specs.declared.Read.{Read}
-use Rattle.plans.specs.Entries.{max_entries, counts_size, entry_size}
+use Rattle.plans.specs.Entries.{max_entries, counts_size}
 use Rattle.plans.specs.Reading.{section_fault}
 
 -- The first fault of the counted entries.
 abbrev pub body_fault : List ℕ → ℕ
 body_fault s = section_fault (get_or s 1 0) (get_or s 2 0) (drop counts_size s)
-
--- Clause 2.6: what is in the first 11 bytes of the entry at the start of the bytes s.
-unfoldable pub first_in : List ℕ → Entry
-first_in s =
-    record { set = number (slice 1 9 s); read_only = 0; length = number (slice 9 entry_size s); kind = get_or s 0 0 }
 
 -- The bytes of the counts are there, and an array has room for the entries.
 pub record CountsThere (s : List ℕ) : Type 0 where

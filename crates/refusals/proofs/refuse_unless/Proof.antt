@@ -4,10 +4,10 @@ use Rattle.refusals.proofs.refuse_unless.Statement.{statement}
 use Rattle.refusals.proofs.refuse_unless.Tie as tie
 
 returns : tie.Need-returns
-returns c = rw c.if1.true
+returns c = search rules
 
 returns-2 : tie.Need-returns-2
-returns-2 c = rw c.if1.false
+returns-2 c = search rules
 
 pub refuse_unless_spec : {M : Type 1} → statement M
 refuse_unless_spec = tie.close (tie.spec returns returns-2)

@@ -13,8 +13,7 @@ use Rattle.arbiter.specs.declared.answering_by_value.Answered.{Answered}
 use Rattle.arbiter.specs.Answers.{answer_of}
 use Rattle.registers.specs.declared.Block.{Block}
 use Rattle.registers.specs.declared.Register.{Register}
-use Rattle.registers.specs.Registers.{register_number, register_number_at}
-use Rattle.registers.proofs.Numbers.{same_register}
+use Rattle.registers.specs.Registers.{register_at}
 use Rattle.register_block.specs.Calls.{command_call}
 use Rattle.register_block.specs.Registers.{replied_block}
 use Rattle.register_block.specs.declared.commands.Change.{Change}
@@ -58,9 +57,8 @@ kept_store change block kept state e b = ap change_as_numbers e ∙ ap (λ x. un
 
 pub written_at : (board : Board) (state : State) (block : Block) (offset value : ℕ) (register known : Register)
     (says : WriteAnswer)
-    → register_number register ≡ register_number_at offset → register ≡ known
-    → says ≡ written_to known board state block offset value
+    → register ≡ register_at offset → register ≡ known → says ≡ written_to known board state block offset value
     → says ≡ register_write board state block offset value
 unfolding register_write
 written_at board state block offset value register known says e k s =
-    s ∙ ap (λ r. written_to r board state block offset value) (sym k ∙ same_register register offset e)
+    s ∙ ap (λ r. written_to r board state block offset value) (sym k ∙ e)

@@ -1,51 +1,33 @@
 -- `put_decimal` meets its contract: the digits are stored if they fit with the bytes after them. Assumes nothing.
 use native.Mathlib.Omega.{arith}
-use Prim.Native.Nat.{ℕ, ◌+◌, ◌≤◌}
-use mathlib.Core.Path.{◌≡◌, refl, ap}
-use mathlib.Core.Bool.{Bool, true, false}
-use mathlib.Core.List.{List}
-use lib.ListN.{length}
-use lib.Seq.{sets}
-use Rattle.encoding.specs.Buffers.{has_room}
-use Rattle.encoding.proofs.Room.{tested_room}
-use Rattle.digits.specs.Placed.{placed_size, placed_buffer}
+use Prim.Native.Nat.{◌+◌}
+use mathlib.Core.Path.{refl, ap}
 use Rattle.digits.specs.Digits.{decimal}
 use Rattle.digits.proofs.Placed.{placed, not_placed}
 use borrow.Author.Rules.{rules}
 use Rattle.digits.proofs.decimals.put_decimal.Statement.{statement}
 use Rattle.digits.proofs.decimals.put_decimal.Tie as tie
 
--- What the answer of the test for room decides about the digits.
-module _ (n more at size : ℕ) (l : List ℕ) (room : Bool) (counted : size ≡ length (decimal n))
-    (test : room ≡ has_room (size + more) (length l) at) where
-  fits : room ≡ true → at + size ≤ length l
-  fits t = omega (arith, tested_room room (size + more) (length l) at test t)
-
-  counts : room ≡ true → size ≡ placed_size (length (decimal n) + more) (decimal n) (length l) at
-  counts t =
-      (placed (decimal n) l at _ (omega arith) _ (ap (λ x. x + more) counted) room test size t counted
-      (record { place = refl; stores = refl })).0
-
-  stored : (after : List ℕ) → room ≡ true → after ≡ sets l at (decimal n)
-      → after ≡ placed_buffer (length (decimal n) + more) (decimal n) l at
-  stored after t h =
-      (placed (decimal n) l at _ (omega arith) _ (ap (λ x. x + more) counted) room test size t counted
-      (record { place = refl; stores = h })).1
-
-  none : room ≡ false → ◌≡◌ {A = ℕ} 0 (placed_size (length (decimal n) + more) (decimal n) (length l) at)
-  none t = (not_placed (decimal n) l at _ (omega arith) _ (ap (λ x. x + more) counted) room test t).0
-
-  not-stored : room ≡ false → l ≡ placed_buffer (length (decimal n) + more) (decimal n) l at
-  not-stored t = (not_placed (decimal n) l at _ (omega arith) _ (ap (λ x. x + more) counted) room test t).1
-
 write-digits-requires : tie.Need-write-digits-requires
-write-digits-requires c κs = (search rules, search (rules, fits))
+write-digits-requires c κs =
+    let asked = c.before.before in
+    (asked.before.digit-count.ensures.0, omega (arith, asked.has_room.ensures.1 c.before.if1.true))
 
 returns : tie.Need-returns
-returns c = (search (rules, counts), search (rules, stored))
+returns c =
+    let asked = c.before.before.before.before.before in
+    let a = asked.before.before.before.args in
+    let counted = asked.before.digit-count.ensures.0 in
+    placed (decimal a.n) _ _ _ (omega arith) _ (ap (λ x. x + a.more) counted) _ asked.has_room.ensures.0 _
+    c.before.before.before.before.if1.true counted
+    (record { place = refl; stores = c.before.before.write-digits.ensures })
 
 returns-2 : tie.Need-returns-2
-returns-2 c = (search (rules, none), search (rules, not-stored))
+returns-2 c =
+    let asked = c.before in
+    let a = asked.before.before.before.args in
+    not_placed (decimal a.n) _ _ _ (omega arith) _ (ap (λ x. x + a.more) asked.before.digit-count.ensures.0) _
+    asked.has_room.ensures.0 c.if1.false
 
 pub put_decimal_spec : {M : Type 1} → statement M
 put_decimal_spec =

@@ -1,6 +1,5 @@
 -- `store_number` meets its contract. The invariant: storing the rest of the number from here on gives the whole.
 -- Assumes nothing.
-use borrow.Author.Rules.{rules}
 use Prim.Native.Nat.{◌+◌, ◌-◌, ◌≤◌}
 use mathlib.Core.Path.{◌≡◌, refl, sym, ◌∙◌}
 use native.Mathlib.Numerals.{unary_clauses}
@@ -39,10 +38,17 @@ loop-less : tie.Need-loop-smaller invariant-loop decreases-loop
 loop-less c = omega arith
 
 loop-again : tie.Need-loop-preserved invariant-loop decreases-loop
-loop-again c = search (rules, length-set, number_turn)
+loop-again c = (
+  omega arith,
+  (
+    simp length-set c.before.loop.invariant.1.0,
+    number_turn _ _ _ _ _ c.loop-test.true
+        ∙ c.before.loop.invariant.1.1,
+  ),
+)
 
 same_length : tie.Need-same-length invariant-loop decreases-loop
-same_length c = search rules
+same_length c = c.before.loop.invariant.1.0
 
 returns : tie.Need-returns invariant-loop decreases-loop
 returns c = sym (number_end _ _ _ _ _ c.loop-test.false) ∙ c.before.loop.invariant.1.1

@@ -5,7 +5,11 @@ use Rattle.line_fields.proofs.mask_fields.write_half.Statement.{statement}
 use Rattle.line_fields.proofs.mask_fields.write_half.Tie as tie
 
 returns : tie.Need-returns
-returns c = search (rules, half_stored)
+returns c =
+    let low = c.before.before in
+    let high = low.before.before.before.before in
+    let a = high.before.before.before.before.args in
+    half_stored a.pairs.now _ _ _ _ a.mask high.write_byte.ensures low.write-byte2.ensures
 
 pub write_half_spec : {M : Type 1} → statement M
 write_half_spec =

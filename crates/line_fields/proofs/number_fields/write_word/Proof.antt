@@ -6,7 +6,6 @@ use native.Mathlib.Omega.{arith}
 use mathlib.Core.Path.{◌≡◌, refl, sym, ◌∙◌}
 use lib.ListN.{length, drop, length-set}
 use lib.Seq.{sets}
-use borrow.Author.Rules.{rules}
 use Rattle.line_fields.proofs.number_fields.Words.{word_turn, word_end}
 use Rattle.line_fields.proofs.number_fields.write_word.Statement.{statement}
 use Rattle.line_fields.proofs.number_fields.write_word.Tie as tie
@@ -22,10 +21,12 @@ loop-holds : tie.Need-loop-init invariant-loop decreases-loop
 loop-holds c = (omega arith, (refl, simp unary_clauses))
 
 loop-again : tie.Need-loop-preserved invariant-loop decreases-loop
-loop-again c = search (rules, length-set, word_turn)
+loop-again c =
+    let inv = c.before.before.loop.invariant in
+    (omega arith, (simp length-set inv.1.0, word_turn _ _ _ _ c.before.loop-test.true ∙ inv.1.1))
 
 same_length : tie.Need-same-length invariant-loop decreases-loop
-same_length c = search rules
+same_length c = c.before.loop.invariant.1.0
 
 returns : tie.Need-returns invariant-loop decreases-loop
 returns c =

@@ -95,8 +95,8 @@ add-third c =
       led.before.before.before.mask_Size.ensures,
     )
 
-add-size : tie.Need-overflow-add-size
-add-size c =
+add-t16 : tie.Need-overflow-add-t16
+add-t16 c =
     let led = c.before.before.before.before.before.before.before.before.before.before.before.before in
     let a = led.before.before.before.before.before.before.args in
     omega (
@@ -164,6 +164,6 @@ done_line_spec =
     add-third
     (λ c. search rules)
     (λ c κs. search rules)
-    add-size
+    add-t16
     (λ c. search rules)
     returns-2)

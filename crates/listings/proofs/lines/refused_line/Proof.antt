@@ -30,8 +30,8 @@ add-put-line-end c =
           c.before.before.if1.false _ led.put-lead.ensures.1,
     )
 
-add-size : tie.Need-overflow-add-size
-add-size c =
+add-t10 : tie.Need-overflow-add-t10
+add-t10 c =
     let led = c.before.before.before.before.before.before.before.before in
     let a = led.before.before.before.before.args in
     omega (
@@ -73,6 +73,6 @@ refused_line_spec =
     (λ c. search rules)
     add-put-line-end
     (λ c κs. search rules)
-    add-size
+    add-t10
     (λ c. search rules)
     returns-2)

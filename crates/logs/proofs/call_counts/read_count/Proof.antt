@@ -15,8 +15,8 @@ slice-aggregate-read-number : tie.Need-slice-aggregate-read-number
 slice-aggregate-read-number c = sym (length-take-le 2 c.before.before.before.args.bytes.now
     c.before.if1.false)
 
-cast-calls : tie.Need-overflow-cast-calls
-cast-calls c = record {
+cast-t8 : tie.Need-overflow-cast-t8
+cast-t8 c = record {
   fits = part_below 2 c.before.before.before.before.args.bytes.now _
       c.read_number.ensures.1;
 }
@@ -27,4 +27,4 @@ returns-2 c = count_read c.before.before.before.before.args.bytes.now _ c.before
 
 pub read_count_spec : {M : Type 1} → statement M
 read_count_spec =
-    tie.close (tie.spec returns slice-aggregate-read-number (λ c κs. search rules) cast-calls returns-2)
+    tie.close (tie.spec returns slice-aggregate-read-number (λ c κs. search rules) cast-t8 returns-2)

@@ -31,7 +31,7 @@ add_at : tie.Need-overflow-add-at invariant-loop decreases-loop
 add_at c =
     let inv = c.before.before.before.before.before.before.before.loop.invariant in
     let turn = c.before.before.before.before.before.before.loop-test.true in
-    omega (arith, inv.1.1.0, turn, sized_most _ _ c.size-by.ensures)
+    omega (arith, inv.1.1.0, turn, sized_most _ _ c.entry-size.ensures)
 
 loop-again : tie.Need-loop-preserved invariant-loop decreases-loop
 loop-again c =
@@ -43,8 +43,8 @@ loop-again c =
       (
         written.write-entry.auto.1.0 ∙ inv.1.0,
         (
-          size_added _ _ _ _ _ _ _ c.size-by.ensures (omega arith) turn.loop-test.true inv.1.1.0,
-          section_turn _ _ _ _ _ _ _ _ turn.loop-test.true (omega arith) c.size-by.ensures
+          size_added _ _ _ _ _ _ _ c.entry-size.ensures (omega arith) turn.loop-test.true inv.1.1.0,
+          section_turn _ _ _ _ _ _ _ _ turn.loop-test.true (omega arith) c.entry-size.ensures
               (omega (arith, inv.1.1.0))
               written.write-entry.ensures
               ∙ inv.1.1.1,

@@ -24,7 +24,7 @@ loop-holds : tie.Need-loop-init invariant-loop decreases-loop
 loop-holds c = (omega arith, (omega arith, refl))
 
 add-size : tie.Need-overflow-add-size invariant-loop decreases-loop
-add-size c = omega (arith, sized_most _ _ c.size-by.ensures)
+add-size c = omega (arith, sized_most _ _ c.entry-size.ensures)
 
 loop-again : tie.Need-loop-preserved invariant-loop decreases-loop
 loop-again c =
@@ -34,8 +34,8 @@ loop-again c =
     simp length-map at start.well-formed.0.1.1.1.1.1.0.1.0.1 in (
       omega arith,
       (
-        omega (arith, sized_most _ _ c.size-by.ensures),
-        size_added _ _ _ _ _ _ _ c.size-by.ensures (omega arith) c.before.before.loop-test.true
+        omega (arith, sized_most _ _ c.entry-size.ensures),
+        size_added _ _ _ _ _ _ _ c.entry-size.ensures (omega arith) c.before.before.loop-test.true
             looped.loop.invariant.1.1,
       ),
     )

@@ -1,23 +1,23 @@
 -- `register_at` meets its contract: one test after the other. Assumes nothing.
 use borrow.Author.Tests.{eq-eqb, ne_eqb}
-use Rattle.registers.specs.Registers.{register_number_at}
+use Rattle.registers.specs.Registers.{register_at}
 use Rattle.registers.proofs.register_reads.register_at.Statement.{statement}
 use Rattle.registers.proofs.register_reads.register_at.Tie as tie
 
 returns : tie.Need-returns
-unfolding register_number_at
+unfolding register_at
 returns c = rw (eq-eqb _ _ c.if1.true)
 
 returns-2 : tie.Need-returns-2
-unfolding register_number_at
+unfolding register_at
 returns-2 c = rw (ne_eqb _ _ c.before.if1.false, c.if2.true)
 
 returns-3 : tie.Need-returns-3
-unfolding register_number_at
+unfolding register_at
 returns-3 c = rw (ne_eqb _ _ c.before.before.if1.false, c.before.if2.false, c.if3.true)
 
 returns-4 : tie.Need-returns-4
-unfolding register_number_at
+unfolding register_at
 returns-4 c = rw (
   ne_eqb _ _ c.before.before.before.if1.false,
   c.before.before.if2.false,
@@ -26,7 +26,7 @@ returns-4 c = rw (
 )
 
 returns-5 : tie.Need-returns-5
-unfolding register_number_at
+unfolding register_at
 returns-5 c =
     rw (
       ne_eqb _ _ c.before.before.before.before.if1.false,
@@ -37,7 +37,7 @@ returns-5 c =
     )
 
 returns-6 : tie.Need-returns-6
-unfolding register_number_at
+unfolding register_at
 returns-6 c =
     rw (
       ne_eqb _ _ c.before.before.before.before.before.if1.false,
@@ -50,7 +50,7 @@ returns-6 c =
     )
 
 returns-7 : tie.Need-returns-7
-unfolding register_number_at
+unfolding register_at
 returns-7 c =
     rw (
       ne_eqb _ _ c.before.before.before.before.before.if1.false,

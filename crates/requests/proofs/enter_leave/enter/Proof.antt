@@ -10,7 +10,7 @@ returns c =
     let put = c.before.before in
     let ticks = put.before.before in
     let stored = ticks.before.before in
-    let a = stored.before.before.before.before.args in
+    let a = stored.before.before.args in
     entered_done a.rows.now a.writes a.tick a.processor a.phases a.earlier.now
     (set a.requested.now a.processor a.entry) (set a.since.now a.processor a.tick)
     stored.store_entry.ensures ticks.store-tick.ensures put.settle-new.ensures (c.accept.ensures _ _)
@@ -18,5 +18,4 @@ returns c =
 pub enter_spec : {M : Type 1} → statement M
 enter_spec =
     tie.close
-    (tie.spec (λ c κs. search rules) (λ c κs. search rules) (λ c κs. search rules)
-    (λ c κs. c.before.before.before.before.before.earlier-at.ensures) (λ c κs. search rules) returns)
+    (tie.spec (λ c κs. search rules) (λ c κs. search rules) (λ c κs. search rules) (λ c κs. search rules) returns)

@@ -1,9 +1,7 @@
 -- `settle_new` meets its contract: on an idle board using the law of a request alone, and otherwise using its parts.
 -- Assumes nothing.
-use mathlib.Core.Path.{sym, ap, ◌∙◌}
-use mathlib.Core.Bool.{◌&&◌}
-use lib.Bits.{bit_or}
-use lib.Dec.{eqb, ltb}
+use mathlib.Core.Path.{ap, ◌∙◌}
+use lib.Dec.{ltb}
 use borrow.Author.Rules.{rules}
 use borrow.Author.Tests.{ltb-true, eqb-true}
 use Rattle.masks.proofs.Truth.{and_left, and_right}
@@ -14,19 +12,19 @@ use Rattle.requests.proofs.placing.PutIn.{idle_holds}
 use Rattle.requests.proofs.placing.settle_new.Statement.{statement}
 use Rattle.requests.proofs.placing.settle_new.Tie as tie
 
+-- The processor has a place, and nobody is active.
+element-copy-out-if2 : tie.Need-element-copy-out-if2
+element-copy-out-if2 c = ltb-true _ _ (and_left (ltb c.before.before.before.args.processor max_processors) _
+    c.if1.true)
+
 returns : tie.Need-returns
 returns c =
-    let test = c.before in
-    let start = test.before.before.before in
-    let a = start.args in
-    let here = ltb a.processor max_processors in
-    let idle = eqb (bit_or (bit_or a.phases.waiting a.phases.entitled) a.phases.holding) 0 in
-    let both = and_left (here && idle) (eqb a.before 0) test.if1.true in
-    idle_holds a.phases _ (ltb-true _ _ (and_left here idle both)) (search rules) (search rules) (search rules)
+    let test = c.before.before.before in
+    let a = test.before.before.before.args in
+    idle_holds a.phases _ (element-copy-out-if2 test) (search rules) (search rules) (search rules)
     (facts_by a.rows.now a.writes a.requested.now a.earlier.now) _
-    (eqb-true _ _ (and_right here idle both))
-    (sym start.requires ∙ eqb-true _ _ (and_right (here && idle) (eqb a.before 0) test.if1.true))
-    c.add32.ensures
+    (eqb-true _ _ (and_right (ltb a.processor max_processors) _ test.if1.true))
+    c.before.if2.true c.add32.ensures
 
 returns-2 : tie.Need-returns-2
 returns-2 c =
@@ -38,4 +36,5 @@ returns-2 c =
 pub settle_new_spec : {M : Type 1} → statement M
 settle_new_spec =
     tie.close
-    (tie.spec (λ c κs. search rules) returns (λ c κs. search rules) (λ c κs. search rules) returns-2)
+    (tie.spec (λ c. search rules) element-copy-out-if2 (λ c κs. search rules) returns (λ c κs. search rules)
+    (λ c κs. search rules) returns-2)
