@@ -10,7 +10,7 @@ use plans::MAX_ENTRIES;
 use rules::{Board, Call, Moment, Reply, State, Terms};
 
 // After a refusal, `state` is the state that was given.
-#[derive(Drop)]
+#[derive(Clone, Copy)]
 pub struct Answered {
     pub reply: Reply,
     pub state: State,

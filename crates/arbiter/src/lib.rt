@@ -2,6 +2,8 @@
 // makes the board and the first state. `answer` takes any call, and `issue`, `complete`, `withdraw` and `handover` take
 // one kind each. `register_block` and `bench_library` use it; the same calls on lent arrays, without copies, are in
 // `calls_in_place`.
+#![tactic(auto)]
+
 mod answering_by_value;
 
 ghost use Rattle.std.specs.Prelude.{◌≡◌};

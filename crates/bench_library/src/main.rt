@@ -2,6 +2,8 @@
 //   bench_library [BUSY [TURNS]]    makes calls with so many busy processors; by default 16 processors and five million
 //                                   turns, which are ten million calls
 //   bench_library plans TURNS       reads a plan of 64 entries so many times
+#![tactic(auto)]
+
 mod board;
 mod reads;
 mod turns;

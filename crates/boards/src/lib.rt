@@ -1,6 +1,8 @@
 // The fresh arbiter of a plan: its board, computed once for all calls, and the state in which nobody is active.
 // `replay`, `c_fresh`, `conflict_listing`, `register_listing` and `bench_library` use it. Specification, clauses 3.3
 // and 4.3.
+#![tactic(auto)]
+
 ghost use Rattle.std.specs.Prelude.{◌≡◌, cond, ◌&&◌, ltb};
 ghost use Rattle.refusals.specs.Number.{verdict_number};
 ghost use Rattle.plans.specs.Entries.{max_entries, is_write};
@@ -15,7 +17,7 @@ use refusals::Verdict;
 use rules::{Board, Phases, State, Terms};
 
 // A fresh arbiter of a plan, or the refusal of the plan.
-#[derive(Drop)]
+#[derive(Clone, Copy)]
 pub struct Fresh {
     pub verdict: Verdict,
     pub board: Board,

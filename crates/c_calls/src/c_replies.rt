@@ -13,7 +13,7 @@ use rules::{Changed, Reply};
 // A reply in numbers: the number of the refusal, 0 if the call is accepted; the granted and the entitled mask; late.
 // With a refusal the other three are 0.
 #[repr(C)]
-#[derive(Drop)]
+#[derive(Clone, Copy)]
 pub struct CReply {
     pub refusal: u32,
     pub granted: u32,

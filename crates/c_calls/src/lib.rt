@@ -1,6 +1,8 @@
 // Exported to C and Rust: the four calls of the arbiter on memory that the caller owns. Its parts are lent as pointers,
 // and only the counts and the phases are copied. include/bittmelon.h declares what is exported. Specification, sections
 // 4 and 11.
+#![tactic(auto)]
+
 mod c_handing_over;
 mod c_replies;
 mod complete;

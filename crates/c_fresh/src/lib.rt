@@ -1,5 +1,7 @@
 // Exported to C and Rust: a fresh arbiter, made from the bytes of a plan and stored in memory that the caller owns; and
 // the version of the archive. include/bittmelon.h declares what is exported. Specification, sections 4 and 11.
+#![tactic(auto)]
+
 mod board;
 mod state;
 

@@ -14,7 +14,7 @@ use rules::Terms;
 // The number of the refusal, 0 if there is none; 1 for a conflict, with the lowest shared resource and how many are
 // shared.
 #[repr(C)]
-#[derive(Drop)]
+#[derive(Clone, Copy)]
 pub struct CConflict {
     pub refusal: u32,
     pub conflict: u32,

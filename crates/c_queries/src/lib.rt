@@ -1,5 +1,7 @@
 // Exported to C and Rust: the queries on memory that the caller owns. Its parts are lent as pointers, and only a lent
 // scratch or buffer is changed. include/bittmelon.h declares these functions. Specification, sections 7 and 11.
+#![tactic(auto)]
+
 mod c_contention;
 
 ghost use Rattle.std.specs.Prelude.{◌≡◌, []};

@@ -1,5 +1,7 @@
 // When a call is refused, and with which number. `calls_in_place` checks every call with it. Specification, clauses 4.5
 // and 8.2.
+#![tactic(auto)]
+
 mod conditions;
 mod handover_checks;
 mod issue_checks;

@@ -1,6 +1,8 @@
 // The four calls on arrays that the caller lends: each call is checked, and then carried out in place or refused with
 // nothing changed. `arbiter`, `c_calls`, `replay` and `bench_library` make their calls with it. Specification, section
 // 4.
+#![tactic(auto)]
+
 mod answers;
 mod any_call;
 mod completing;

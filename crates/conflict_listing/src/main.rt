@@ -1,5 +1,7 @@
 // Test program: reads a plan from standard input, and prints for each pair of its entries what they conflict over: the
 // lowest-numbered resource that they share, and how many they share. Its output is compared with another program's.
+#![tactic(auto)]
+
 use conflicts::Conflict;
 use encoding::Outcome;
 use libc::{STDIN_FILENO, STDOUT_FILENO};

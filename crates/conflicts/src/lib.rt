@@ -1,5 +1,7 @@
 // What the entries of a plan conflict over, and for each entry the row of entries that it conflicts with. `boards`
 // computes the rows once for all calls, and `queries` asks for the conflict of two entries.
+#![tactic(auto)]
+
 mod sharing;
 mod widening;
 
@@ -17,7 +19,7 @@ use widening::widened_set;
 
 // The names of each entry; the widened set of each write, and the names of each read; and the rows: bit j of row i is
 // set if entries i and j conflict.
-#[derive(Drop)]
+#[derive(Clone, Copy)]
 pub struct Conflicts {
     pub names: [u64; MAX_ENTRIES],
     pub widened: [u64; MAX_ENTRIES],

@@ -9,7 +9,7 @@ ghost use Rattle.conflicts.specs.Sharing.{shared_by, conflict_as_numbers, over};
 use plans::{Entry, is_read, is_write};
 
 // No conflict, or a conflict over shared resources: the lowest-numbered of them, and how many there are.
-#[derive(Drop)]
+#[derive(Clone, Copy)]
 pub enum Conflict {
     None,
     Over { lowest: u8, count: u8 },

@@ -1,5 +1,7 @@
 // Numbers as ASCII digits: decimal numbers stored in a lent buffer, the table of the hexadecimal digits of every byte,
 // and how many digits a number has. `line_fields`, `listings` and `replay` use it to write listing lines.
+#![tactic(auto)]
+
 mod decimals;
 mod tables;
 

@@ -1,5 +1,7 @@
 // The two figures of a plan: the longest time that a read waits, and the longest that a write waits. `listings` writes
 // them in the first line of a listing, and `viewer` gives them to C.
+#![tactic(auto)]
+
 ghost use Rattle.std.specs.Prelude.{◌≡◌, cond, ◌-◌, ◌<◌, ◌≤◌, max, take};
 ghost use Rattle.plans.specs.Entries.{max_entries, is_read, is_write};
 ghost use Rattle.plans.specs.Figures.{longest, figures_of};

@@ -1,5 +1,7 @@
 // The fields of a listing line, stored in a lent buffer if they fit: a word and a number; the tick, letter and
 // processor of a call; masks. `listings` makes its lines of them. Specification, section 9.
+#![tactic(auto)]
+
 mod call_leads;
 mod mask_fields;
 mod number_fields;

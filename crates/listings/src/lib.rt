@@ -1,5 +1,7 @@
 // The lines of a listing as bytes in a lent buffer: the first line of a plan, the line of a call and its reply, and the
 // line of a refusal. `replay`, `lockreplay` and `query_listing` use it. Specification, section 9.
+#![tactic(auto)]
+
 mod call_lines;
 mod done_lines;
 mod first_lines;

@@ -2,6 +2,8 @@
 // `log_input` and `replay`: no contract can state what is read or written, so the work is done there, on slices.
 // `whole_listing/specs/Arrivals.antt` defines the same turns over the same buffers, and they are proved to give the
 // listing.
+#![tactic(auto)]
+
 ghost use Rattle.std.specs.Prelude.{◌≤◌, length};
 ghost use Rattle.encoding.specs.Buffers.{outcome_as_numbers};
 
@@ -15,7 +17,7 @@ use rules::{Board, State};
 use whole_listing::{BLOCK_ROOM, LINES_ROOM, PLAN_ROOM};
 
 // What was read before the calls: how many of them there are, and whether the replay goes on.
-#[derive(Drop)]
+#[derive(Clone, Copy)]
 struct Counted {
     calls: u16,
     more: bool,

@@ -5,14 +5,14 @@ ghost use Rattle.log_input.specs.Reads.{at_hand, EnoughIsLeft, FailsShort, Fails
 use crate::needed_input::is_short;
 
 // How many bytes a buffer contains after some reads, and whether the last read failed.
-#[derive(Drop)]
+#[derive(Clone, Copy)]
 pub struct Fed {
     pub have: usize,
     pub failed: bool,
 }
 
 // How many bytes one read stored, and whether it failed. No bytes without a failure mean the end of the input.
-#[derive(Drop)]
+#[derive(Clone, Copy)]
 struct Got {
     bytes: usize,
     failed: bool,

@@ -1,6 +1,8 @@
 // The parts of a log after its plan: the call count, the records of the calls, and the end (specification, section 9).
 // `replay`, `lockreplay`, `log_input` and `query_listing` use it. They read a log record by record, so each function
 // looks only at the bytes from its place on.
+#![tactic(auto)]
+
 mod call_counts;
 mod record_calls;
 
@@ -20,7 +22,7 @@ pub const RECORD_BYTES: usize = 8;
 const TICK_PLACE: usize = 3;
 
 // How many calls follow, or the refusal.
-#[derive(Drop)]
+#[derive(Clone, Copy)]
 pub enum CountAnswer {
     Calls(u16),
     Refused(Refusal),

@@ -6,7 +6,7 @@ use refusals::Refusal;
 use rules::Call;
 
 // A call, or the refusal of its record.
-#[derive(Drop)]
+#[derive(Clone, Copy)]
 pub enum RecordAnswer {
     Is(Call),
     Refused(Refusal),

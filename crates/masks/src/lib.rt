@@ -1,6 +1,8 @@
 // Sets of small numbers as the bits of an integer: u32 for processors, u64 for resources and entries. The definitions
 // are in specs/, and their laws for any width are in proofs/. The crates that check plans, find conflicts, settle
 // requests and answer queries use it.
+#![tactic(auto)]
+
 mod masks32;
 mod masks64;
 mod tabulation;

@@ -1,5 +1,7 @@
 // Reads plans from bytes and writes them to bytes. `log_input`, `replay`, `viewer` and `c_fresh` use it.
 // Specification, section 2.
+#![tactic(auto)]
+
 mod entry_reader;
 mod entry_writer;
 mod plan_head;

@@ -1,6 +1,8 @@
 // The plan value, three counts and up to 64 entries, with its sizes and the definitions of acceptance, figures and
 // bytes. Any caller can build any plan value. `plan_checks` decides which values are accepted, `figures` computes the
 // two figures, and `plan_bytes` reads and writes plans.
+#![tactic(auto)]
+
 mod entry_kinds;
 mod plan_sizes;
 
@@ -30,7 +32,7 @@ pub const MAX_ENTRY_BYTES: usize = ENTRY_BYTES;
 pub const MAX_PLAN_BYTES: usize = PLAN_COUNTS_BYTES + MAX_ENTRY_BYTES * MAX_ENTRIES;
 
 // What a request asks for: kind 0 reads and kind 1 writes, bit r of the set names resource r, length is in ticks.
-#[derive(Drop)]
+#[derive(Clone, Copy)]
 pub struct Entry {
     pub kind: u8,
     pub set: u64,
@@ -38,7 +40,7 @@ pub struct Entry {
 }
 
 // Entries from the count on are ignored.
-#[derive(Drop)]
+#[derive(Clone, Copy)]
 pub struct Plan {
     pub processors: u8,
     pub resources: u8,
@@ -47,14 +49,14 @@ pub struct Plan {
 }
 
 // A plan that was read. If the outcome is a refusal, the plan is blank.
-#[derive(Drop)]
+#[derive(Clone, Copy)]
 pub struct Read {
     pub outcome: Outcome,
     pub plan: Plan,
 }
 
 // The longest lengths, Lr and Lw, and the two figures: the longest time that a read and a write wait.
-#[derive(Drop)]
+#[derive(Clone, Copy)]
 pub struct Figures {
     pub longest_read: u32,
     pub longest_write: u32,

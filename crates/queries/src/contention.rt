@@ -11,7 +11,7 @@ use refusals::Refusal;
 use rules::{Board, Terms};
 
 // What the two entries conflict over, or the refusal.
-#[derive(Drop)]
+#[derive(Clone, Copy)]
 pub enum SharedAnswer {
     Is(Conflict),
     Refused(Refusal),

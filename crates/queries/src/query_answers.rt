@@ -4,7 +4,7 @@ ghost use Rattle.queries.specs.Answers.{phase_number};
 
 use refusals::Refusal;
 
-#[derive(Drop)]
+#[derive(Clone, Copy)]
 pub enum Phase {
     Idle,
     Waiting,
@@ -13,14 +13,14 @@ pub enum Phase {
 }
 
 // The state of a processor, or the refusal.
-#[derive(Drop)]
+#[derive(Clone, Copy)]
 pub enum PhaseAnswer {
     Is(Phase),
     Refused(Refusal),
 }
 
 // A set of processors, bit p for processor p, or the refusal.
-#[derive(Drop)]
+#[derive(Clone, Copy)]
 pub enum MaskAnswer {
     Mask(u32),
     Refused(Refusal),

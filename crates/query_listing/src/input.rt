@@ -8,7 +8,7 @@ pub const INPUT_ROOM: usize = 4096;
 
 // The bytes that were read and not yet used come first. A failed read ends the replay, and so does the refusal of a
 // call; nothing is printed then.
-#[derive(Drop)]
+#[derive(Clone, Copy)]
 pub struct Input {
     pub bytes: [u8; INPUT_ROOM],
     pub have: usize,

@@ -1,6 +1,8 @@
 // Test program: replays a log from standard input, and after each call prints what the queries answer for every
 // processor and one past the last: its number, state, direct waits and reach; then the bytes of the whole board's list,
 // and those of a scratch after a reach. Its output is compared with another program's.
+#![tactic(auto)]
+
 mod board_line;
 mod input;
 mod query_line;
@@ -24,7 +26,7 @@ use text::{PAGE_ROOM, Page, front, print, put, put_line};
 const ASKED: u8 = MAX_PROCESSORS as u8 + 1;
 
 // The state before a call, and the input from its record on.
-#[derive(Drop)]
+#[derive(Clone, Copy)]
 struct Turn {
     state: State,
     input: Input,

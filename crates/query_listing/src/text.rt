@@ -8,13 +8,13 @@ const LINE_ROOM: usize = 32;
 // All lines of a call take less than 2000 bytes.
 pub const PAGE_ROOM: usize = 2048;
 
-#[derive(Drop)]
+#[derive(Clone, Copy)]
 pub struct Line {
     bytes: [u8; LINE_ROOM],
     size: usize,
 }
 
-#[derive(Drop)]
+#[derive(Clone, Copy)]
 pub struct Page {
     pub bytes: [u8; PAGE_ROOM],
     pub size: usize,

@@ -1,10 +1,12 @@
 // Why a plan, a log record, a query, a call or a register access is refused: a variant and a number for each word of
 // clause 8.1. Every crate that refuses something uses it.
+#![tactic(auto)]
+
 ghost use Rattle.std.specs.Prelude.{◌≡◌};
 ghost use Rattle.refusals.specs.Number.{number_of, verdict_number};
 ghost use Rattle.refusals.specs.Due.{due, first_of};
 
-#[derive(Drop)]
+#[derive(Clone, Copy)]
 pub enum Refusal {
     // The bytes end before a count, an entry or a call that is due.
     Short,
@@ -46,7 +48,7 @@ pub enum Refusal {
 }
 
 // Whether something is accepted: a plan, an entry, a record, a call.
-#[derive(Drop)]
+#[derive(Clone, Copy)]
 pub enum Verdict {
     Accepted,
     Refused(Refusal),

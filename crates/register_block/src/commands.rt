@@ -12,14 +12,14 @@ use registers::Block;
 use rules::{State, Terms};
 
 // Whether a write is accepted, and the state after it.
-#[derive(Drop)]
+#[derive(Clone, Copy)]
 pub struct Written {
     pub verdict: Verdict,
     pub state: State,
 }
 
 // The block after a write, and what the write returns.
-#[derive(Drop)]
+#[derive(Clone, Copy)]
 pub struct Change {
     pub block: Block,
     pub written: Written,

@@ -1,6 +1,8 @@
 // The register block as a driver uses it: the driver lends the block to each read and write, and passes the arbiter's
 // state by value (specification, section 10). `registers` defines the block. `register_listing` uses this crate, and
 // `register_runs` proves what holds after every run.
+#![tactic(auto)]
+
 mod command_calls;
 mod command_registers;
 mod commands;

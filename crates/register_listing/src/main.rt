@@ -2,6 +2,8 @@
 // to write, the offset, and the value, which is 0 for a read. Prints a line for each: `r OFFSET VALUE` or `w OFFSET
 // VALUE`, with `refused 18` if it is refused, and the bytes of the block after it. It ends at the end of the input, or
 // at bytes that are not an operation. Its output is compared with another program's.
+#![tactic(auto)]
+
 mod driver;
 mod text;
 
@@ -24,7 +26,7 @@ const OPERATION: usize = 3;
 const COUNTS: usize = INPUT_ROOM + 1;
 
 // What a driver keeps.
-#[derive(Drop)]
+#[derive(Clone, Copy)]
 struct Kept {
     board: Board,
     state: State,
@@ -32,7 +34,7 @@ struct Kept {
 }
 
 // The bytes of the input that were read and not yet used come first.
-#[derive(Drop)]
+#[derive(Clone, Copy)]
 struct Input {
     bytes: [u8; INPUT_ROOM],
     have: usize,

@@ -6,7 +6,7 @@ use registers::BLOCK;
 const LINE_ROOM: usize = 96;
 
 // The bytes of a line so far, and how many they are.
-#[derive(Drop)]
+#[derive(Clone, Copy)]
 pub struct Line {
     bytes: [u8; LINE_ROOM],
     size: usize,

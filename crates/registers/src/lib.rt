@@ -1,5 +1,7 @@
 // The register block without the arbiter: the layout of its 32 bytes, what a read returns, and what a write that is not
 // a command stores. `register_block`, which adds the commands, and `register_listing` use it.
+#![tactic(auto)]
+
 mod register_reads;
 mod register_stores;
 
@@ -16,13 +18,13 @@ pub use register_stores::store;
 pub const BLOCK: usize = 32;
 
 // Any 32 bytes are a block. The byte at offset 0 comes first.
-#[derive(Drop)]
+#[derive(Clone, Copy)]
 pub struct Block {
     pub bytes: [u8; BLOCK],
 }
 
 // The register at an offset. Clause 10.2.
-#[derive(Drop)]
+#[derive(Clone, Copy)]
 pub enum Register {
     // 0: writing it carries out a command.
     Command,
@@ -41,7 +43,7 @@ pub enum Register {
 }
 
 // The value of a register, or the refusal.
-#[derive(Drop)]
+#[derive(Clone, Copy)]
 pub enum ReadAnswer {
     Value(u8),
     Refused(Refusal),

@@ -12,7 +12,7 @@ use rules::{Call, Moment, Terms};
 
 // What one record did, apart from the arrays of the state: the moment after it, how many bytes its line took, and
 // whether it ended the replay.
-#[derive(Drop)]
+#[derive(Clone, Copy)]
 pub struct Replayed {
     pub moment: Moment,
     pub written: usize,

@@ -1,6 +1,8 @@
 // Replays a log: its bytes come in blocks of any size, each call is carried out, and the lines of a block are written
 // into a lent buffer (specification, section 9). `lockreplay` and `query_listing` call it between reading and writing.
 // `whole_listing` proves that all blocks together give the listing of the log.
+#![tactic(auto)]
+
 mod budgets;
 mod carrying_out;
 mod log_ends;
@@ -27,7 +29,7 @@ use rules::{Board, Moment, State, Terms};
 
 // What some records did, apart from the arrays of the state: the moment after them, how many calls were carried out,
 // how many bytes their lines took, and whether a refusal ended the replay.
-#[derive(Drop)]
+#[derive(Clone, Copy)]
 struct Progress {
     moment: Moment,
     calls: u16,
@@ -37,7 +39,7 @@ struct Progress {
 
 // What a block of bytes did: the state after it, how many calls were carried out, how many bytes their lines took, and
 // whether a refusal ended the replay.
-#[derive(Drop)]
+#[derive(Clone, Copy)]
 pub struct RanBlock {
     pub state: State,
     pub calls: u16,

@@ -13,7 +13,7 @@ use logs::{CountAnswer, RecordAnswer, check_tail, read_count, read_record};
 use refusals::Verdict;
 
 // How many calls follow, or the refusal; and the line of the refusal.
-#[derive(Drop)]
+#[derive(Clone, Copy)]
 pub struct CallCount {
     pub calls: CountAnswer,
     pub line: Outcome,

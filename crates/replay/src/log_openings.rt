@@ -16,7 +16,7 @@ use plans::Plan;
 use rules::{Board, State};
 
 // The plan's outcome, the fresh arbiter of its plan, and the line that opens the listing.
-#[derive(Drop)]
+#[derive(Clone, Copy)]
 pub struct Begun {
     pub outcome: Outcome,
     pub board: Board,

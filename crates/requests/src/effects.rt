@@ -2,7 +2,7 @@
 use rules::Phases;
 
 // Who began to hold, who became entitled, whether the hold that ended was late, and the phases afterwards.
-#[derive(Drop)]
+#[derive(Clone, Copy)]
 pub struct Effect {
     pub granted: u32,
     pub entitled: u32,

@@ -1,5 +1,7 @@
 // A request enters or leaves, all requests are settled, and an `Effect` contains what changed: two masks, the late mark
 // and the phases. `calls_in_place` uses it. Specification, section 4.
+#![tactic(auto)]
+
 mod ages;
 mod effects;
 mod enter_leave;

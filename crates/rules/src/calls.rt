@@ -4,7 +4,7 @@ use refusals::Refusal;
 
 // At a tick, a processor requests an entry, completes its request, withdraws a request that does not hold, or completes
 // its request and requests an entry in one call.
-#[derive(Drop)]
+#[derive(Clone, Copy)]
 pub enum Call {
     Issue { processor: u8, entry: u8, tick: u64 },
     Complete { processor: u8, tick: u64 },
@@ -13,7 +13,7 @@ pub enum Call {
 }
 
 // An accepted call's masks and late mark, or the refusal. Bit p of a mask is processor p.
-#[derive(Drop)]
+#[derive(Clone, Copy)]
 pub enum Reply {
     Done {
         granted: u32,
@@ -24,7 +24,7 @@ pub enum Reply {
 }
 
 // What a call in place returns: the reply, and the moment after it.
-#[derive(Drop)]
+#[derive(Clone, Copy)]
 pub struct Changed {
     pub reply: Reply,
     pub moment: Moment,

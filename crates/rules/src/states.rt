@@ -3,7 +3,7 @@ use plans::{MAX_ENTRIES, MAX_PROCESSORS};
 
 // The counts of a plan, and which of its entries are writes. A call reads these from a board, and also the conflict
 // rows and the lengths.
-#[derive(Drop)]
+#[derive(Clone, Copy)]
 pub struct Terms {
     pub processors: u8,
     pub count: u8,
@@ -12,7 +12,7 @@ pub struct Terms {
 
 // What the calls and queries read. A board is made from a plan: its terms, the lengths, names and widened sets of its
 // entries, and which entries conflict.
-#[derive(Drop)]
+#[derive(Clone, Copy)]
 pub struct Board {
     pub terms: Terms,
     pub lengths: [u16; MAX_ENTRIES],
@@ -22,7 +22,7 @@ pub struct Board {
 }
 
 // The phases of all processors: bit p of a mask is processor p.
-#[derive(Drop)]
+#[derive(Clone, Copy)]
 pub struct Phases {
     pub waiting: u32,
     pub entitled: u32,
@@ -31,7 +31,7 @@ pub struct Phases {
 
 // The last accepted tick, and one request for each processor: its phase, the tick of its issue (of its grant while it
 // holds), the processors whose requests were active when it was issued, and the entry that it requests.
-#[derive(Drop)]
+#[derive(Clone, Copy)]
 pub struct State {
     pub last: u64,
     pub phases: Phases,
@@ -41,7 +41,7 @@ pub struct State {
 }
 
 // What every call changes in a state in addition to its arrays: the last accepted tick and the phases.
-#[derive(Drop)]
+#[derive(Clone, Copy)]
 pub struct Moment {
     pub last: u64,
     pub phases: Phases,

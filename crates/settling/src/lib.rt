@@ -1,5 +1,7 @@
 // The four steps of settling, carried out on masks, and which requests count. `requests` and `waits` use it, and so do
 // `calls_in_place`, `arbiter` and `queries`. Specification, section 5 and clause 4.10.
+#![tactic(auto)]
+
 mod conflict_walks;
 mod counted_requests;
 mod known_requests;

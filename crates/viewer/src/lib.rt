@@ -1,6 +1,8 @@
 // What a viewer in C calls: the functions are given the bytes of a plan and return a number. include/bittmelon.h
 // declares them. The figures of a refused plan are 0, and those of an accepted one can be 0 too: ask for the refusal
 // number first.
+#![tactic(auto)]
+
 ghost use Rattle.std.specs.Prelude.{◌≡◌};
 ghost use Rattle.refusals.specs.Due.{as_numbers};
 ghost use Rattle.encoding.specs.Buffers.{outcome_as_numbers};

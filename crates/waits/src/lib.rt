@@ -1,5 +1,7 @@
 // Direct waits: the processors that a request waits for, for one processor and for all. `queries` uses it.
 // Specification, clause 7.2.
+#![tactic(auto)]
+
 mod waits_of_each;
 mod waits_of_one;
 

@@ -1,5 +1,7 @@
 // The sizes of the buffers that `lockreplay` uses, and the theorem over these buffers: what the program writes is the
 // listing of the whole log (proofs/Program.antt). `lockreplay` and `demands` use it.
+#![tactic(auto)]
+
 ghost use Rattle.std.specs.Prelude.{◌≡◌};
 ghost use Rattle.whole_listing.specs.Rooms.{plan_room, block_room, lines_room};
 
