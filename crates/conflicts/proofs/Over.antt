@@ -1,12 +1,11 @@
 -- The conflict over a set of shared resources: there is one exactly if the set is not empty. Assumes nothing.
 use Prim.Native.Nat.{ℕ, ◌^◌, ◌<◌}
-use mathlib.Core.Path.{◌≡◌, refl, sym, ap, ◌∙◌}
+use mathlib.Core.Path.{◌≡◌, refl, ap}
 use mathlib.Core.Bool.{Bool, true, false, cond, not}
 use native.Mathlib.Omega.{arith}
 use lib.Count.{count_trailing_zeros, ones}
 use lib.Dec.{eqb}
 use borrow.Author.Tests.{ne_eqb}
-use Rattle.masks.specs.Sets.{bit}
 use Rattle.masks.proofs.Counts.{lowest_is, ones_are}
 use Rattle.plans.specs.Entries.{max_resources}
 use Rattle.conflicts.specs.declared.sharing.Conflict.{Conflict}

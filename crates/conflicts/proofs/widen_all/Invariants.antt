@@ -1,0 +1,16 @@
+-- `widen_all` meets its contract. The loop's invariant: the first i places are filled.
+-- The measure is how many are left. Assumes nothing.
+use Prim.Native.Nat.{◌≤◌, ◌-◌}
+use mathlib.Core.Path.{◌≡◌}
+use lib.ListN.{length, take}
+use Rattle.plans.specs.Entries.{max_entries}
+use Rattle.masks.specs.Tabulation.{tabulate}
+use Rattle.conflicts.proofs.WidenedSets.{widened_at}
+use Rattle.conflicts.proofs.widen_all.Given as goal
+
+abbrev pub invariant-loop-i : goal.invariant-loop-i
+invariant-loop-i l =
+    (l.i ≤ max_entries) × (length l.widened ≡ max_entries) × (take l.i l.widened ≡ tabulate l.i (widened_at l.plan))
+
+abbrev pub decreases-loop-i : goal.decreases-loop-i
+decreases-loop-i l = max_entries - l.i
