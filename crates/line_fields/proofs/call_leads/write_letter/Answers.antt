@@ -3,14 +3,12 @@ use Prim.Native.Nat.{ℕ, suc, ◌+◌, ◌≤◌}
 use native.Mathlib.Omega.{arith}
 use mathlib.Core.Path.{◌≡◌, refl}
 use mathlib.Core.List.{List, [], ◌∷◌}
-use lib.ListN.{length, set, length-set}
+use lib.ListN.{length, set}
 use Rattle.digits.specs.Digits.{decimal}
 use Rattle.digits.specs.Placed.{placed_size, placed_buffer}
 use Rattle.digits.specs.inner.Stored.{Stored}
 use Rattle.digits.proofs.Placed.{then_stored, stored_length, placed_stored}
-use borrow.Author.Rules.{rules}
-use Rattle.line_fields.proofs.call_leads.write_letter.Statement.{statement}
-use Rattle.line_fields.proofs.call_leads.write_letter.Tie as tie
+use Rattle.line_fields.proofs.call_leads.write_letter.Goals as goal
 
 three : (l : List ℕ) (at x y z : ℕ) → Stored (x ∷ y ∷ z ∷ []) l at (at + 3)
     (set (set (set l at x) (at + 1) y) (at + 2) z)
@@ -31,35 +29,9 @@ letter-stored letter processor at l fits both =
     (placed_stored (decimal processor) _ (at + 3) (length (decimal processor) + 0) (omega arith)
     (omega (arith, stored_length (three l at 32 letter 32))) both.0 both.1)
 
-slice-write-buffer-2 : tie.Need-slice-write-buffer-2
-slice-write-buffer-2 c = simp length-set (omega arith)
-
-slice-write-buffer-3 : tie.Need-slice-write-buffer-3
-slice-write-buffer-3 c = simp length-set (omega arith)
-
-same_length : tie.Need-same-length
-same_length c =
-    let put = c.before.before in
-    let a = put.before.before.before.args in
-    stored_length (letter-stored a.letter a.processor a.at a.buffer.now (omega arith)
-    put.put-decimal.ensures)
-
-returns : tie.Need-returns
+pub returns : goal.returns
 returns c =
-    let put = c.before.before in
-    let a = put.before.before.before.args in
-    (letter-stored a.letter a.processor a.at a.buffer.now (omega arith) put.put-decimal.ensures).stores
-
-pub write_letter_spec : {M : Type 1} → statement M
-write_letter_spec =
-    tie.close
-    (tie.spec
-    (λ c. search rules)
-    (λ c. search rules)
-    slice-write-buffer-2
-    (λ c. search rules)
-    slice-write-buffer-3
-    (λ c. search rules)
-    (λ c κs. search rules)
-    same_length
-    returns)
+    let put = c in
+    let a = put.args in
+    (letter-stored a.letter a.processor a.at a.buffer.now (omega arith)
+    (put.put_decimal.ensures.size, put.put_decimal.ensures.bytes)).stores
