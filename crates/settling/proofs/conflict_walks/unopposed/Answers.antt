@@ -11,8 +11,7 @@ use Rattle.masks.proofs.Walks.{none_kept, some_last}
 use Rattle.plans.specs.Entries.{max_processors}
 use Rattle.rules.specs.Requests.{Facts, facts_by, entry_of, conflicts}
 use Rattle.rules.specs.inner.Moves.{unopposed_in}
-use Rattle.settling.proofs.conflict_walks.unopposed.Statement.{statement}
-use Rattle.settling.proofs.conflict_walks.unopposed.Tie as tie
+use Rattle.settling.proofs.conflict_walks.unopposed.Goals as goal
 
 module _ (f : Facts) (candidates others : ℕ) where
   no-others : candidates < 2 ^ max_processors → others ≡ 0 → candidates ≡ unopposed_in f candidates others
@@ -29,23 +28,11 @@ module _ (f : Facts) (candidates others : ℕ) where
       e ∙ mask_agree max_processors _ _ (λ p l. ap (λ t. bit candidates p && not t)
       (has (get_or f.rows (entry_of f p) 0)))
 
-returns : tie.Need-returns
-returns c = none_kept max_processors _ _ c.if1.true
+pub returns-then-candidates-eq0 : goal.returns-then-candidates-eq0
+returns-then-candidates-eq0 c = none_kept max_processors _ _ c.if-candidates-eq0.true
 
-returns-2 : tie.Need-returns-2
-returns-2 c =
-    let a = c.before.before.args in
-    no-others (facts_by a.rows.now 0 a.requested.now []) _ _ c.before.before.ranges.candidates.fits
-    c.if2.true
-
-returns-3 : tie.Need-returns-3
-returns-3 c =
-    let a = c.before.before.before.before.args in
-    clear-of-others (facts_by a.rows.now 0 a.requested.now []) _ _ _ _ c.before.entries-of.ensures
-    c.Clear-of.ensures
-
-pub unopposed_spec : {M : Type 1} → statement M
-unopposed_spec =
-    tie.close
-    (tie.spec returns returns-2 (λ c κs. c.before.before.requires.1)
-    (λ c κs. c.before.before.before.requires.0) returns-3)
+pub returns-then-others-eq0 : goal.returns-then-others-eq0
+returns-then-others-eq0 c =
+    let a = c.args in
+    no-others (facts_by a.rows.now 0 a.requested.now []) _ _ c.ranges.candidates.fits
+    c.if-others-eq0.true
