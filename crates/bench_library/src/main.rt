@@ -8,21 +8,32 @@ mod board;
 mod reads;
 mod turns;
 
-ghost use Rattle.std.specs.Prelude.{◌<◌, ◌≤◌};
+ghost use Rattle.std.specs.Prelude.{◌<◌, ◌≤◌, length};
 
-use libc::STDOUT_FILENO;
+use std::env::{Env, FillError};
 
 const BUSY: u64 = 16;
 
 const TURNS: u64 = 5000000;
 
+// How many bytes of `text` an argument takes: none if there is no such argument, or all if it is longer.
+fn taken(rt: &HostRuntime, i: usize, text: &mut [u8]) -> usize
+    ensures { result ≤ length text.new }
+{
+    match rt.arg(i, text) {
+        Ok(size) => size,
+        Err(FillError::TooLong) => text.len(),
+        Err(FillError::NotPresent) => 0,
+    }
+}
+
 // Argument i as a number of at most nine digits, or `other` if there is none.
-fn number_of(i: usize, other: u64) -> u64
+fn number_of(rt: &HostRuntime, i: usize, other: u64) -> u64
     requires { other < 1000000000 }
     ensures { result < 1000000000 }
 {
     let mut text = [0; 9];
-    let size = os::arg(i, &mut text);
+    let size = taken(rt, i, &mut text);
     if size == 0 {
         return other;
     }
@@ -42,20 +53,19 @@ fn at_most_32(n: u64) -> u8
 }
 
 // Whether the first argument is `plans`.
-fn is_of_plans() -> bool {
+fn is_of_plans(rt: &HostRuntime) -> bool {
     let mut text = [0; 9];
-    let size = os::arg(1, &mut text);
+    let size = taken(rt, 1, &mut text);
     (size == 5) & (text[0] == b'p')
 }
 
-fn main() {
-    let plans = is_of_plans();
-    let turns = number_of(2, TURNS);
+fn main(rt: HostRuntime) {
+    let plans = is_of_plans(&rt);
+    let turns = number_of(&rt, 2, TURNS);
     let sum = if plans {
         reads::sum_of(turns)
     } else {
-        turns::sum_of(at_most_32(number_of(1, BUSY)), turns)
+        turns::sum_of(at_most_32(number_of(&rt, 1, BUSY)), turns)
     };
-    io::print_decimal(STDOUT_FILENO, sum);
-    io::write_all(STDOUT_FILENO, b"\n");
+    let _ = println!(rt; "{sum}");
 }

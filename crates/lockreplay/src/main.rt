@@ -8,12 +8,14 @@ ghost use Rattle.std.specs.Prelude.{◌≤◌, length};
 ghost use Rattle.encoding.specs.Buffers.{outcome_as_numbers};
 
 use encoding::Outcome;
-use libc::{STDERR_FILENO, STDIN_FILENO, STDOUT_FILENO};
 use listings::line_size;
-use log_input::{Fed, bring_to_front, copy_in, due_size, fill_plan, fill_to};
+use log_input::{Fed, Source, bring_to_front, copy_in, due_size, fill_plan, fill_to, tell};
 use logs::{CALL_COUNT_BYTES, CountAnswer, RECORD_BYTES};
 use replay::{Begun, RanBlock, begin, count, finish, run};
 use rules::{Board, State};
+use std::env::{Env, FillError};
+use std::io;
+use std::io::Stdin;
 use whole_listing::{BLOCK_ROOM, LINES_ROOM, PLAN_ROOM};
 
 // What was read before the calls: how many of them there are, and whether the replay goes on.
@@ -23,72 +25,110 @@ struct Counted {
     more: bool,
 }
 
+// The system, and standard input with the reason of a read that failed.
+#[derive(Drop)]
+struct Streams {
+    rt: HostRuntime,
+    input: Source<Stdin>,
+}
+
 // Reads what is needed after the bytes at hand. If a read fails, standard error says why.
-fn feed(block: &mut [u8], have: usize, needed: usize) -> Fed
+fn feed(streams: &mut Streams, block: &mut [u8], have: usize, needed: usize) -> Fed
     ensures { result.have ≤ length block.new }
 {
-    let fed = fill_to(STDIN_FILENO, block, have, needed);
+    let fed = fill_to(&mut streams.input, block, have, needed);
     if fed.failed {
-        os::fail(b"lockreplay: standard input");
+        streams
+            .input
+            .tell(&streams.rt, "lockreplay: standard input");
     }
     fed
 }
 
-// Writes lines, and returns whether all of them were written. If a write fails, standard error says why.
-fn put(lines: &[u8]) -> bool {
-    let written = io::write_all(STDOUT_FILENO, lines);
-    if !written {
-        os::fail(b"lockreplay: standard output");
+// Writes all of the bytes, or stops at the first write that takes nothing or fails.
+fn write_whole(rt: &HostRuntime, bytes: &[u8]) -> io::Result<()> {
+    let mut done = 0;
+    while done < bytes.len() {
+        let taken = rt.write_some(&bytes[done..])?;
+        if taken == 0 {
+            return Err(io::Error::from(io::ErrorKind::WriteZero));
+        }
+        done += taken;
     }
-    written
+    Ok(())
+}
+
+// Writes lines, and returns whether all of them were written. If a write fails, standard error says why.
+fn put(rt: &HostRuntime, lines: &[u8]) -> bool {
+    match write_whole(rt, lines) {
+        Ok(()) => true,
+        Err(reason) => {
+            tell(rt, "lockreplay: standard output", reason);
+            false
+        }
+    }
 }
 
 // The same for the line at the start of `out`, if there is one.
-fn show(line: Outcome, out: &[u8]) -> bool
+fn show(rt: &HostRuntime, line: Outcome, out: &[u8]) -> bool
     requires { (outcome_as_numbers line).value ≤ length out.now }
 {
     let size = line_size(line);
-    put(&out[..size])
+    put(rt, &out[..size])
 }
 
 // Continues after the bytes that are used up. It waits for a record only if no whole one is in the block, and after the
 // last call for any byte.
-fn advance(block: &mut [u8], used: usize, have: usize, left: u16) -> Fed
+fn advance(streams: &mut Streams, block: &mut [u8], used: usize, have: usize, left: u16) -> Fed
     ensures { result.have ≤ length block.new }
 {
     let rest = bring_to_front(block, used, have);
-    feed(block, rest, due_size(left))
+    feed(streams, block, rest, due_size(left))
 }
 
 // Carries out the calls that are whole in a block, and writes their lines. A write that fails also ends the replay.
-fn run_block(board: Board, state: State, left: u16, block: &[u8], out: &mut [u8]) -> RanBlock
+fn run_block(
+    rt: &HostRuntime,
+    board: Board,
+    state: State,
+    left: u16,
+    block: &[u8],
+    out: &mut [u8],
+) -> RanBlock
     ensures { result.calls ≤ left }
 {
     let mut ran = run(board, state, left, block, out);
     let written = ran.written;
-    let shown = put(&out[..written]);
+    let shown = put(rt, &out[..written]);
     ran.ended = ran.ended | !shown;
     ran
 }
 
 // After the last call that is there: the line of the fault at the log's end, if there is one.
-fn close(left: u16, block: &[u8], out: &mut [u8]) {
+fn close(rt: &HostRuntime, left: u16, block: &[u8], out: &mut [u8]) {
     let line = finish(left, block, out);
-    show(line, out);
+    show(rt, line, out);
 }
 
 // The calls after the call count, as they arrive. A block that carries out no call is the last: no call is left, or the
 // input ended, or a read failed, which happens only if no call is whole in the block.
-fn replay_calls(begun: Begun, calls: u16, block: &mut [u8], filled: usize, out: &mut [u8]) {
+fn replay_calls(
+    streams: &mut Streams,
+    begun: Begun,
+    calls: u16,
+    block: &mut [u8],
+    filled: usize,
+    out: &mut [u8],
+) {
     let board = begun.board;
     let mut current = begun.state;
     let mut left = calls;
     let mut have = filled;
     let mut used = CALL_COUNT_BYTES;
     loop {
-        let fed = advance(block, used, have, left);
+        let fed = advance(streams, block, used, have, left);
         have = fed.have;
-        let ran = run_block(board, current, left, &block[..have], out);
+        let ran = run_block(&streams.rt, board, current, left, &block[..have], out);
         if ran.ended | fed.failed {
             return;
         }
@@ -100,14 +140,14 @@ fn replay_calls(begun: Begun, calls: u16, block: &mut [u8], filled: usize, out: 
         left -= ran.calls;
         used = RECORD_BYTES * (ran.calls as usize);
     }
-    close(left, &block[..have], out);
+    close(&streams.rt, left, &block[..have], out);
 }
 
 // The call count, and the line of its fault, if there is one.
-fn take_count(block: &[u8], out: &mut [u8]) -> Counted {
+fn take_count(rt: &HostRuntime, block: &[u8], out: &mut [u8]) -> Counted {
     let counted = count(block, out);
     let line = counted.line;
-    let shown = show(line, out);
+    let shown = show(rt, line, out);
     let answer = counted.calls;
     match answer {
         CountAnswer::Calls(calls) => Counted {
@@ -123,59 +163,78 @@ fn take_count(block: &[u8], out: &mut [u8]) -> Counted {
 
 // After the plan: the call count, and then the calls. The bytes that were read with the plan are the next ones of the
 // log.
-fn replay_rest(begun: Begun, bytes: &[u8], block: &mut [u8], out: &mut [u8]) {
+fn replay_rest(
+    streams: &mut Streams,
+    begun: Begun,
+    bytes: &[u8],
+    block: &mut [u8],
+    out: &mut [u8],
+) {
     let first = copy_in(bytes, block);
-    let fed = feed(block, first, CALL_COUNT_BYTES);
+    let fed = feed(streams, block, first, CALL_COUNT_BYTES);
     if !fed.failed {
         let have = fed.have;
-        let counted = take_count(&block[..have], out);
+        let counted = take_count(&streams.rt, &block[..have], out);
         if counted.more {
-            replay_calls(begun, counted.calls, block, have, out);
+            replay_calls(streams, begun, counted.calls, block, have, out);
         }
     }
 }
 
 // A log from its plan on; its first bytes are there.
-fn replay_log(plan: &[u8], block: &mut [u8], out: &mut [u8]) {
+fn replay_log(streams: &mut Streams, plan: &[u8], block: &mut [u8], out: &mut [u8]) {
     let begun = begin(plan, out);
     let line = begun.line;
-    let shown = show(line, out);
+    let shown = show(&streams.rt, line, out);
     let outcome = begun.outcome;
     if let Outcome::Bytes(size) = outcome {
         if shown {
-            replay_rest(begun, &plan[size..], block, out);
+            replay_rest(streams, begun, &plan[size..], block, out);
         }
     }
 }
 
 // Replays a log. The plan is read into a buffer of its own, which has room for the longest plan and begins as zeros;
 // only the filled part is lent.
-fn replay() {
+fn replay(streams: &mut Streams) {
     let mut plan = [0u8; PLAN_ROOM];
     let mut block = [0u8; BLOCK_ROOM];
     let mut out = [0u8; LINES_ROOM];
-    let fed = fill_plan(STDIN_FILENO, &mut plan);
+    let fed = fill_plan(&mut streams.input, &mut plan);
     if fed.failed {
-        os::fail(b"lockreplay: standard input");
+        streams
+            .input
+            .tell(&streams.rt, "lockreplay: standard input");
     } else {
         let filled = fed.have;
-        replay_log(&plan[..filled], &mut block, &mut out);
+        replay_log(streams, &plan[..filled], &mut block, &mut out);
     }
 }
 
-fn help() {
-    io::write_all(STDERR_FILENO, b"usage: lockreplay < LOG\n");
-    io::write_all(
-        STDERR_FILENO,
-        b"Replays a log from standard input and writes its listing. It takes no arguments.\n",
+fn help(rt: &HostRuntime) {
+    let _ = rt.eprintln("usage: lockreplay < LOG");
+    let _ = rt.eprintln(
+        "Replays a log from standard input and writes its listing. It takes no arguments.",
     );
 }
 
+// Whether there is an argument, also an empty one. None of its bytes are looked at.
+fn has_argument(rt: &HostRuntime) -> bool {
+    match rt.arg(1, &mut []) {
+        Err(FillError::NotPresent) => false,
+        _ => true,
+    }
+}
+
 // With an argument it prints the help and reads nothing, because it would not open a file of that name.
-fn main() {
-    if os::arg_count() > 1 {
-        help();
+fn main(rt: HostRuntime) {
+    if has_argument(&rt) {
+        help(&rt);
     } else {
-        replay();
+        let mut streams = Streams {
+            rt: rt,
+            input: Source::new(rt.stdin()),
+        };
+        replay(&mut streams);
     }
 }

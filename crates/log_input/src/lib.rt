@@ -3,10 +3,12 @@
 // (`specs/Reads.antt`). `lockreplay`, `query_listing` and `register_listing` use it.
 #![tactic(auto)]
 
+mod failures;
 mod front_bytes;
 mod needed_input;
 mod reads;
 
+pub use failures::{Source, tell};
 pub use front_bytes::{bring_to_front, copy_in};
 pub use needed_input::due_size;
 pub use reads::{Fed, fill_plan, fill_to};

@@ -3,6 +3,7 @@ ghost use Rattle.std.specs.Prelude.{◌≡◌, ◌+◌, ◌≤◌, min, true, le
 ghost use Rattle.log_input.specs.Reads.{at_hand, EnoughIsLeft, FailsShort, FailsUndecided};
 
 use crate::needed_input::is_short;
+use std::io::Read;
 
 // How many bytes a buffer contains after some reads, and whether the last read failed.
 #[derive(Clone, Copy)]
@@ -19,17 +20,21 @@ struct Got {
 }
 
 // One read, into the buffer after its first bytes. A read that fails counts no byte.
-fn read_behind(input: i32, buffer: &mut [u8], have: usize) -> Got
+fn read_behind<R: Read>(input: &mut R, buffer: &mut [u8], have: usize) -> Got
     requires { have ≤ length buffer.old }
     ensures within { have + result.bytes ≤ length buffer.new }
     ensures kept { take have buffer.new ≡ take have buffer.old }
     ensures failure { result.failed ≡ true → result.bytes ≡ 0 }
 {
-    let got = libc::read(input, &mut buffer[have..]);
-    let bytes = io::count(got, &buffer[have..]);
-    Got {
-        bytes: bytes,
-        failed: got < 0,
+    match input.read(&mut buffer[have..]) {
+        Ok(bytes) => Got {
+            bytes: bytes,
+            failed: false, // these bytes, or the end
+        },
+        Err(_) => Got {
+            bytes: 0,
+            failed: true,
+        },
     }
 }
 
@@ -41,7 +46,12 @@ fn least(a: usize, b: usize) -> usize
 
 // Reads until the buffer contains as many bytes as are needed, or is full, or the input ends, or a read fails. The
 // first bytes are at hand: they stay and are counted. If they are enough, nothing is read.
-pub fn fill_to(input: i32, buffer: &mut [u8], first: usize, needed: usize) -> Fed
+pub fn fill_to<R: Read>(
+    input: &mut R,
+    buffer: &mut [u8],
+    first: usize,
+    needed: usize,
+) -> Fed
     ensures within { result.have ≤ length buffer.new }
     ensures kept { take first buffer.new ≡ take first buffer.old }
     ensures size { length buffer.new ≡ length buffer.old }
@@ -69,7 +79,7 @@ pub fn fill_to(input: i32, buffer: &mut [u8], first: usize, needed: usize) -> Fe
 
 // Reads until the bytes so far decide that the plan at the start of the buffer is accepted or refused, or the input
 // ends, or a read fails. Nothing is at hand at first. A plan that fits is never short once the buffer is full.
-pub fn fill_plan(input: i32, buffer: &mut [u8]) -> Fed
+pub fn fill_plan<R: Read>(input: &mut R, buffer: &mut [u8]) -> Fed
     ensures within { result.have ≤ length buffer.new }
     ensures kept { length buffer.new ≡ length buffer.old }
     ensures failure { FailsUndecided buffer.new result.have result.failed }

@@ -1,7 +1,7 @@
 // The log as it arrives, by value: the program waits for no more bytes than it needs to go on. A failed read is
 // reported here.
-use libc::STDIN_FILENO;
-use log_input::{Fed, bring_to_front, fill_plan, fill_to};
+use log_input::{Fed, Source, bring_to_front, fill_plan, fill_to};
+use std::io::Stdin;
 
 // More than the size of the longest plan.
 pub const INPUT_ROOM: usize = 4096;
@@ -15,9 +15,15 @@ pub struct Input {
     pub over: bool,
 }
 
-fn input_of(bytes: [u8; INPUT_ROOM], fed: Fed, ended: bool) -> Input {
+fn input_of(
+    rt: &HostRuntime,
+    source: &Source<Stdin>,
+    bytes: [u8; INPUT_ROOM],
+    fed: Fed,
+    ended: bool,
+) -> Input {
     if fed.failed {
-        os::fail(b"query_listing: standard input");
+        source.tell(rt, "query_listing: standard input");
     }
     Input {
         bytes: bytes,
@@ -27,16 +33,23 @@ fn input_of(bytes: [u8; INPUT_ROOM], fed: Fed, ended: bool) -> Input {
 }
 
 // The start of the input, at least up to the plan's end.
-pub fn opening() -> Input {
+pub fn opening(rt: &HostRuntime, source: &mut Source<Stdin>) -> Input {
     let mut bytes = [0u8; INPUT_ROOM];
-    let fed = fill_plan(STDIN_FILENO, &mut bytes);
-    input_of(bytes, fed, false)
+    let fed = fill_plan(source, &mut bytes);
+    input_of(rt, source, bytes, fed, false)
 }
 
 // So many bytes are used. After them so many are needed, or none if the replay has ended.
-pub fn after(input: Input, used: usize, needed: usize, ended: bool) -> Input {
+pub fn after(
+    rt: &HostRuntime,
+    source: &mut Source<Stdin>,
+    input: Input,
+    used: usize,
+    needed: usize,
+    ended: bool,
+) -> Input {
     let mut bytes = input.bytes;
     let first = bring_to_front(&mut bytes, used, input.have);
-    let fed = fill_to(STDIN_FILENO, &mut bytes, first, needed);
-    input_of(bytes, fed, ended)
+    let fed = fill_to(source, &mut bytes, first, needed);
+    input_of(rt, source, bytes, fed, ended)
 }

@@ -13,13 +13,14 @@ use board_line::put_list;
 use encoding::Outcome;
 use input::{INPUT_ROOM, Input, after, opening};
 use listings::line_size;
-use log_input::due_size;
+use log_input::{Source, due_size};
 use logs::{CALL_COUNT_BYTES, CountAnswer, RECORD_BYTES};
 use plans::MAX_PROCESSORS;
 use query_line::query_line;
 use replay::{Begun, RanBlock};
 use rules::{Board, State};
 use scratch_line::put_scratch;
+use std::io::Stdin;
 use text::{PAGE_ROOM, Page, front, print, put, put_line};
 
 // The processors that are asked for: all that have a place in a state, and one more.
@@ -53,7 +54,12 @@ fn put_answers(page: Page, board: Board, state: State, ended: bool) -> Page {
 }
 
 // One call: its line, and the answers after it.
-fn print_call(board: Board, state: State, bytes: [u8; INPUT_ROOM]) -> RanBlock {
+fn print_call(
+    rt: &HostRuntime,
+    board: Board,
+    state: State,
+    bytes: [u8; INPUT_ROOM],
+) -> RanBlock {
     let mut out = [0u8; PAGE_ROOM];
     let ran = replay::run(board, state, 1, &bytes, &mut out);
     let next = ran.state;
@@ -61,19 +67,25 @@ fn print_call(board: Board, state: State, bytes: [u8; INPUT_ROOM]) -> RanBlock {
         bytes: out,
         size: ran.written,
     };
-    print(put_answers(page, board, next, ran.ended));
+    print(rt, put_answers(page, board, next, ran.ended));
     ran
 }
 
 // A call, and then as much of the input as is needed with so many calls left: none after the end.
-fn take_turn(board: Board, turn: Turn, left: u16) -> Turn {
+fn take_turn(
+    rt: &HostRuntime,
+    source: &mut Source<Stdin>,
+    board: Board,
+    turn: Turn,
+    left: u16,
+) -> Turn {
     let state = turn.state;
     let input = turn.input;
     let bytes = input.bytes;
-    let ran = print_call(board, state, bytes);
+    let ran = print_call(rt, board, state, bytes);
     let next = ran.state;
     let needed = if ran.ended { 0 } else { due_size(left) };
-    let rest = after(input, RECORD_BYTES, needed, ran.ended);
+    let rest = after(rt, source, input, RECORD_BYTES, needed, ran.ended);
     Turn {
         state: next,
         input: rest,
@@ -86,23 +98,31 @@ fn has_record(turn: Turn) -> bool {
 }
 
 // Writes the line at the start of `out`, if there is one and the replay has not ended.
-fn show(line: Outcome, out: [u8; PAGE_ROOM], over: bool) {
+fn show(rt: &HostRuntime, line: Outcome, out: [u8; PAGE_ROOM], over: bool) {
     let size = if over { 0 } else { line_size(line) };
-    print(Page {
+    let page = Page {
         bytes: out,
         size: size,
-    });
+    };
+    print(rt, page);
 }
 
-fn print_end(left: u16, input: Input) {
+fn print_end(rt: &HostRuntime, left: u16, input: Input) {
     let mut out = [0u8; PAGE_ROOM];
     let bytes = input.bytes;
     let line = replay::finish(left, front(&bytes, input.have), &mut out);
-    show(line, out, input.over);
+    show(rt, line, out, input.over);
 }
 
 // The calls, one by one as they arrive.
-fn print_calls(board: Board, state: State, calls: u16, input: Input) {
+fn print_calls(
+    rt: &HostRuntime,
+    source: &mut Source<Stdin>,
+    board: Board,
+    state: State,
+    calls: u16,
+    input: Input,
+) {
     let mut left = calls;
     let mut turn = Turn {
         state: state,
@@ -110,51 +130,55 @@ fn print_calls(board: Board, state: State, calls: u16, input: Input) {
     };
     while 0 < left && has_record(turn) {
         left -= 1;
-        turn = take_turn(board, turn, left);
+        turn = take_turn(rt, source, board, turn, left);
     }
     let rest = turn.input;
-    print_end(left, rest);
+    print_end(rt, left, rest);
 }
 
-fn print_count(input: Input) -> CountAnswer {
+fn print_count(rt: &HostRuntime, input: Input) -> CountAnswer {
     let mut out = [0u8; PAGE_ROOM];
     let bytes = input.bytes;
     let counted = replay::count(front(&bytes, input.have), &mut out);
     let line = counted.line;
-    show(line, out, input.over);
+    show(rt, line, out, input.over);
     counted.calls
 }
 
 // After the plan: the call count, and then the calls. A failed read leaves too few bytes for a count.
-fn print_rest(board: Board, state: State, input: Input) {
-    let calls = print_count(input);
+fn print_rest(
+    rt: &HostRuntime,
+    source: &mut Source<Stdin>,
+    board: Board,
+    state: State,
+    input: Input,
+) {
+    let calls = print_count(rt, input);
     if let CountAnswer::Calls(left) = calls {
-        print_calls(
-            board,
-            state,
-            left,
-            after(input, CALL_COUNT_BYTES, due_size(left), false),
-        );
+        let rest = after(rt, source, input, CALL_COUNT_BYTES, due_size(left), false);
+        print_calls(rt, source, board, state, left, rest);
     }
 }
 
-fn print_plan(input: Input) -> Begun {
+fn print_plan(rt: &HostRuntime, input: Input) -> Begun {
     let mut out = [0u8; PAGE_ROOM];
     let bytes = input.bytes;
     let begun = replay::begin(front(&bytes, input.have), &mut out);
     let line = begun.line;
-    show(line, out, input.over);
+    show(rt, line, out, input.over);
     begun
 }
 
 // A failed read leaves less than a plan.
-fn main() {
-    let input = opening();
-    let begun = print_plan(input);
+fn main(rt: HostRuntime) {
+    let mut source = Source::new(rt.stdin());
+    let input = opening(&rt, &mut source);
+    let begun = print_plan(&rt, input);
     let outcome = begun.outcome;
     if let Outcome::Bytes(size) = outcome {
         let board = begun.board;
         let state = begun.state;
-        print_rest(board, state, after(input, size, CALL_COUNT_BYTES, false));
+        let rest = after(&rt, &mut source, input, size, CALL_COUNT_BYTES, false);
+        print_rest(&rt, &mut source, board, state, rest);
     }
 }

@@ -1,6 +1,7 @@
 // Text by value: a short line is built piece by piece, and a page collects the lines of one call, which are written
 // together. Both have room for all that is added; a place is taken modulo the room so that it is in range.
-use libc::STDOUT_FILENO;
+use std::fmt;
+use std::fmt::Write;
 
 // The longest line that is built from pieces has 23 bytes: a number, a state and two masks.
 const LINE_ROOM: usize = 32;
@@ -49,16 +50,24 @@ pub fn put_word(line: Line, word: &[u8]) -> Line {
     out
 }
 
+// Text that a format puts into a line.
+impl Write for Line {
+    fn write_str(&mut self, s: &str) -> fmt::Result {
+        *self = put_word(*self, s.as_bytes());
+        Ok(())
+    }
+}
+
 pub fn put_decimal(line: Line, n: u8) -> Line {
-    let mut digits = [0u8; 20];
-    let size = io::decimal(n as u64, &mut digits);
-    put_word(line, &digits[..size])
+    let mut longer = line;
+    let _ = write!(longer, "{n}");
+    longer
 }
 
 pub fn put_hex(line: Line, n: u32, width: usize) -> Line {
-    let mut digits = [0u8; 16];
-    let size = io::hex(n as u64, width, &mut digits);
-    put_word(line, &digits[..size])
+    let mut longer = line;
+    let _ = write!(longer, "{n:0width$x}");
+    longer
 }
 
 // ---- a page
@@ -103,7 +112,7 @@ pub fn front(bytes: &[u8], size: usize) -> &[u8] {
     &bytes[..end]
 }
 
-pub fn print(page: Page) {
+pub fn print(rt: &HostRuntime, page: Page) {
     let bytes = page.bytes;
-    io::write_all(STDOUT_FILENO, front(&bytes, page.size));
+    let _ = rt.write_all(front(&bytes, page.size));
 }

@@ -9,12 +9,12 @@ mod text;
 
 use driver::{read_lent, write_lent};
 use encoding::Outcome;
-use libc::STDIN_FILENO;
-use log_input::{bring_to_front, fill_plan, fill_to};
+use log_input::{Source, bring_to_front, fill_plan, fill_to};
 use plans::Plan;
 use refusals::{Refusal, Verdict};
 use registers::{BLOCK, Block, ReadAnswer};
 use rules::{Board, State};
+use std::io::Stdin;
 use text::{Line, empty_line, print, put, put_block, put_number, put_word};
 
 // The size of the input's buffer, which has room for the longest plan, and of an operation.
@@ -61,12 +61,12 @@ fn write_line(offset: u8, value: u8, verdict: Verdict) -> Line {
 }
 
 // Prints a line, and the bytes of the block after it.
-fn print_line(line: Line, block: Block) {
+fn print_line(rt: &HostRuntime, line: Line, block: Block) {
     let bytes = block.bytes;
-    print(put(put_block(put(line, 32), bytes), 10));
+    print(rt, put(put_block(put(line, 32), bytes), 10));
 }
 
-fn write_at(kept: Kept, offset: u8, value: u8) -> Kept {
+fn write_at(rt: &HostRuntime, kept: Kept, offset: u8, value: u8) -> Kept {
     let board = kept.board;
     let rows = board.rows;
     let lengths = board.lengths;
@@ -77,7 +77,7 @@ fn write_at(kept: Kept, offset: u8, value: u8) -> Kept {
     let written = change.written;
     let verdict = written.verdict;
     let after = change.block;
-    print_line(write_line(offset, value, verdict), after);
+    print_line(rt, write_line(offset, value, verdict), after);
     let next = written.state;
     Kept {
         board: board,
@@ -87,14 +87,14 @@ fn write_at(kept: Kept, offset: u8, value: u8) -> Kept {
 }
 
 // Carries out the operation at the start of the input, and prints it.
-fn operate(kept: Kept, input: Input) -> Kept {
+fn operate(rt: &HostRuntime, kept: Kept, input: Input) -> Kept {
     let offset = input.bytes[1];
     if input.bytes[0] == 0 {
         let block = kept.block;
-        print_line(read_line(offset, read_lent(block, offset)), block);
+        print_line(rt, read_line(offset, read_lent(block, offset)), block);
         kept
     } else {
-        write_at(kept, offset, input.bytes[2])
+        write_at(rt, kept, offset, input.bytes[2])
     }
 }
 
@@ -106,12 +106,12 @@ fn has_operation(input: Input) -> bool {
 }
 
 // So many bytes are used. After them the next operation is read, as far as the input goes.
-fn after(input: Input, used: usize) -> Input {
+fn after(rt: &HostRuntime, source: &mut Source<Stdin>, input: Input, used: usize) -> Input {
     let mut bytes = input.bytes;
     let first = bring_to_front(&mut bytes, used, input.have);
-    let fed = fill_to(STDIN_FILENO, &mut bytes, first, OPERATION);
+    let fed = fill_to(source, &mut bytes, first, OPERATION);
     if fed.failed {
-        os::fail(b"register_listing: standard input");
+        source.tell(rt, "register_listing: standard input");
     }
     Input {
         bytes: bytes,
@@ -121,13 +121,13 @@ fn after(input: Input, used: usize) -> Input {
 
 // A proved loop must end, and nothing states that the input does. So the loop counts its turns down, from a number that
 // no run uses up.
-fn take_turns(first: Kept, given: Input) {
+fn take_turns(rt: &HostRuntime, source: &mut Source<Stdin>, first: Kept, given: Input) {
     let mut kept = first;
     let mut input = given;
     let mut turns = u64::MAX;
     while (turns > 0) & has_operation(input) {
-        kept = operate(kept, input);
-        input = after(input, OPERATION);
+        kept = operate(rt, kept, input);
+        input = after(rt, source, input, OPERATION);
         turns -= 1;
     }
 }
@@ -147,7 +147,7 @@ fn opened(plan: Plan) -> Kept {
 }
 
 // The count of bytes is taken modulo the number of counts, so that it is in range.
-fn print_listing(input: Input) {
+fn print_listing(rt: &HostRuntime, source: &mut Source<Stdin>, input: Input) {
     let bytes = input.bytes;
     let end = input.have % COUNTS;
     let read = plan_bytes::read(&bytes[..end]);
@@ -155,21 +155,24 @@ fn print_listing(input: Input) {
     match outcome {
         Outcome::Bytes(size) => {
             let plan = read.plan;
-            take_turns(opened(plan), after(input, size));
+            let rest = after(rt, source, input, size);
+            take_turns(rt, source, opened(plan), rest);
         }
-        Outcome::Refused(refusal) => print(put(put_refusal(empty_line(), refusal), 10)),
+        Outcome::Refused(refusal) => print(rt, put(put_refusal(empty_line(), refusal), 10)),
     }
 }
 
-fn main() {
+fn main(rt: HostRuntime) {
+    let mut source = Source::new(rt.stdin());
     let mut bytes = [0u8; INPUT_ROOM];
-    let fed = fill_plan(STDIN_FILENO, &mut bytes);
+    let fed = fill_plan(&mut source, &mut bytes);
     if fed.failed {
-        os::fail(b"register_listing: standard input");
+        source.tell(&rt, "register_listing: standard input");
     } else {
-        print_listing(Input {
+        let input = Input {
             bytes: bytes,
             have: fed.have,
-        });
+        };
+        print_listing(&rt, &mut source, input);
     }
 }

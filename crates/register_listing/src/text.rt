@@ -1,6 +1,7 @@
 // The text of a line, by value: each function returns the line with more text at its end.
-use libc::STDOUT_FILENO;
 use registers::BLOCK;
+use std::fmt;
+use std::fmt::Write;
 
 // More than the size of the longest line.
 const LINE_ROOM: usize = 96;
@@ -37,17 +38,25 @@ pub fn put_word(line: Line, word: &[u8]) -> Line {
     longer
 }
 
+// Text that a format puts into a line.
+impl Write for Line {
+    fn write_str(&mut self, s: &str) -> fmt::Result {
+        *self = put_word(*self, s.as_bytes());
+        Ok(())
+    }
+}
+
 // A space and a decimal number.
 pub fn put_number(line: Line, n: u8) -> Line {
-    let mut digits = [0u8; 20];
-    let size = io::decimal(n as u64, &mut digits);
-    put_word(put(line, 32), &digits[..size])
+    let mut longer = put(line, 32);
+    let _ = write!(longer, "{n}");
+    longer
 }
 
 fn put_hex(line: Line, n: u8) -> Line {
-    let mut digits = [0u8; 16];
-    let size = io::hex(n as u64, 2, &mut digits);
-    put_word(line, &digits[..size])
+    let mut longer = line;
+    let _ = write!(longer, "{n:02x}");
+    longer
 }
 
 // Two hexadecimal digits for each byte of a block.
@@ -61,8 +70,8 @@ pub fn put_block(line: Line, bytes: [u8; BLOCK]) -> Line {
     longer
 }
 
-pub fn print(line: Line) {
+pub fn print(rt: &HostRuntime, line: Line) {
     let bytes = line.bytes;
     let end = line.size % LINE_ROOM;
-    io::write_all(STDOUT_FILENO, &bytes[..end]);
+    let _ = rt.write_all(&bytes[..end]);
 }
