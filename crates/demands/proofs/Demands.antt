@@ -202,14 +202,14 @@ accepted_record_is_read s ok = rw ok
 -- with them. The functions promise: settling::settle ≡ settled, conflicts::conflicts_of ≡ conflicts_of,
 -- figures::figures_of ≡ figures_of; and the calls as above.
 
--- A handover does what a completion and then an issue would do: leaves-what-both-leave, grants-of-both and
--- entitlements-of-both, above, on every state value. After any calls its masks are what changed from the state before
--- it to the state after it: handover-grants and handover-entitles.
+-- A handover does what a completion and then an issue would do: `leaves_what_both_leave`, `grants_of_both` and
+-- `entitlements_of_both`, above, on every state value. After any calls its masks are what changed from the state before
+-- it to the state after it: `handover_grants` and `handover_entitles`.
 
--- The round trips are written-in-buffer (a plan written into a buffer reads back as the same plan, and takes as many
+-- The round trips are `written_in_buffer` (a plan written into a buffer reads back as the same plan, and takes as many
 -- bytes as were written) and written_back (a plan that was read is written as the bytes that it was read from), above.
 
--- Demand 3, for whole lists of calls: whole-runs, above, is the claim `WholeRuns` of runs/specs/Claim.antt, over the
+-- Demand 3, for whole lists of calls: `whole_runs`, above, is the claim `WholeRuns` of runs/specs/Claim.antt, over the
 -- answers of `answered`, for every accepted plan and every list of calls. In addition to the three demands,
--- no-deadlock: nobody waits in a circle. The commands of a register block and the calls that do not go through it are
--- such a list: register-runs.
+-- `no_deadlock`: nobody waits in a circle. The commands of a register block and the calls that do not go through it are
+-- such a list: `register_runs`.
