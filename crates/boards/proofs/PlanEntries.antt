@@ -3,15 +3,13 @@ use mathlib.Core.Path.{◌≡◌, refl, sym, ap, ◌∙◌}
 use mathlib.Core.Bool.{Bool, true, false, cond, ◌&&◌}
 use mathlib.Core.List.{List}
 use Prim.Native.Nat.{ℕ, ◌+◌, ◌<◌}
-use native.Mathlib.Omega.{arith}
 use lib.Dec.{ltb}
-use lib.ListN.{get_or, get_or-eq_default, length-take}
-use borrow.Author.Tests.{ltb-true, ltb-false, lt-ltb}
+use lib.ListN.{get_or}
+use borrow.Author.Tests.{ltb-true, lt-ltb}
 use Rattle.masks.specs.Sets.{added, mask_of}
 use Rattle.masks.proofs.Masks.{mask_next}
-use Rattle.plans.specs.declared.Entry.{Entry}
 use Rattle.plans.specs.declared.Plan.{Plan}
-use Rattle.plans.specs.Entries.{max_entries, is_write, counted_entries, blank_entry, entry_at}
+use Rattle.plans.specs.Entries.{max_entries, is_write, blank_entry, entry_at}
 use Rattle.conflicts.specs.declared.Conflicts.{Conflicts}
 use Rattle.conflicts.specs.Conflict.{conflicts_of}
 use Rattle.conflicts.proofs.WidenedSets.{entry_at_law}

@@ -1,5 +1,5 @@
 -- The fresh arbiter of a plan, and when the plan is refused: with 3 to 8. Specification, section 4.
-use Rattle.std.specs.Prelude.{ℕ, cond, ◌&&◌, eqb, ltb, replicate}
+use Rattle.std.specs.Prelude.{cond, ◌&&◌, eqb, ltb, replicate}
 use Rattle.masks.specs.Sets.{mask_of}
 use Rattle.plans.specs.declared.Plan.{Plan}
 use Rattle.plans.specs.Entries.{max_processors, max_entries, is_write, entry_at}
