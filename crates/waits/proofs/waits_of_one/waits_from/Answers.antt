@@ -1,0 +1,17 @@
+-- `waits_from` meets its contract: those of the four cases whose entries are in the row of conflicts. Assumes nothing.
+use Prim.Native.Nat.{◌^◌, ◌<◌}
+use borrow.Author.Rules.{rules}
+use Rattle.rules.specs.Requests.{facts_by}
+use Rattle.waits.proofs.waits_of_one.Cases.{waits_mask}
+use Rattle.waits.proofs.waits_of_one.waits_from.Goals as goal
+
+pub returns : goal.returns
+returns c writes are =
+    let a = c.args in
+    let holding-fits : a.phases.holding < 2 ^ 32 = search rules in
+    waits_mask (facts_by a.rows.now writes a.requested.now a.earlier.now) a.phases a.writers a.p are
+    c.requires holding-fits
+    c.ranges.writers.fits _ _ _ _ _ _ _
+    c.has32-waiting.ensures c.has32-entitled.ensures c.has32-write.ensures
+    c.join_if-first.ensures c.join_if-second.ensures c.join_if-third.ensures c.join_if-others.ensures _ _
+    c.row_of.ensures c.those_in.ensures
