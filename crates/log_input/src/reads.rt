@@ -46,12 +46,7 @@ fn least(a: usize, b: usize) -> usize
 
 // Reads until the buffer contains as many bytes as are needed, or is full, or the input ends, or a read fails. The
 // first bytes are at hand: they stay and are counted. If they are enough, nothing is read.
-pub fn fill_to<R: Read>(
-    input: &mut R,
-    buffer: &mut [u8],
-    first: usize,
-    needed: usize,
-) -> Fed
+pub fn fill_to<R: Read>(input: &mut R, buffer: &mut [u8], first: usize, needed: usize) -> Fed
     ensures within { result.have ≤ length buffer.new }
     ensures kept { take first buffer.new ≡ take first buffer.old }
     ensures size { length buffer.new ≡ length buffer.old }
