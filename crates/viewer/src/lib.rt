@@ -1,6 +1,6 @@
-// What a viewer in C calls: the functions are given the bytes of a plan and return a number. include/bittmelon.h
-// declares them. The figures of a refused plan are 0, and those of an accepted one can be 0 too: ask for the refusal
-// number first.
+// What a viewer in C calls: the functions are given the bytes of a plan and return a number. `viewer_c` exports them,
+// and include/bittmelon.h declares them. The figures of a refused plan are 0, and those of an accepted one can be 0
+// too: ask for the refusal number first.
 #![tactic(auto)]
 
 ghost use Rattle.std.specs.Prelude.{◌≡◌};
@@ -31,8 +31,7 @@ fn figure_or_zero(outcome: Outcome, figure: u32) -> u32
 }
 
 // The refusal number of the plan in the bytes, or 0 if it is accepted.
-#[unsafe(no_mangle)]
-pub extern "C" fn bittmelon_plan_refusal(bytes: &[u8]) -> u32
+pub fn bittmelon_plan_refusal(bytes: &[u8]) -> u32
     ensures { result ≡ plan_refusal bytes.now }
 {
     let read = plan_bytes::read(bytes);
@@ -41,8 +40,7 @@ pub extern "C" fn bittmelon_plan_refusal(bytes: &[u8]) -> u32
 }
 
 // The longest that a read waits, in ticks.
-#[unsafe(no_mangle)]
-pub extern "C" fn bittmelon_read_figure(bytes: &[u8]) -> u32
+pub fn bittmelon_read_figure(bytes: &[u8]) -> u32
     ensures { result ≡ plan_read_figure bytes.now }
 {
     let read = plan_bytes::read(bytes);
@@ -53,8 +51,7 @@ pub extern "C" fn bittmelon_read_figure(bytes: &[u8]) -> u32
 }
 
 // The longest that a write waits, in ticks.
-#[unsafe(no_mangle)]
-pub extern "C" fn bittmelon_write_figure(bytes: &[u8]) -> u32
+pub fn bittmelon_write_figure(bytes: &[u8]) -> u32
     ensures { result ≡ plan_write_figure bytes.now }
 {
     let read = plan_bytes::read(bytes);

@@ -1,0 +1,11 @@
+-- `bittmelon_write_figure` meets its contract. Assumes nothing.
+use Rattle.plans.specs.Figures.{figures_of}
+use Rattle.viewer.specs.Viewer.{plan_write_figure}
+use Rattle.viewer.proofs.Answers.{is_figure}
+use Rattle.viewer.proofs.bittmelon_write_figure.Goals as goal
+
+pub returns : goal.returns
+unfolding plan_write_figure figures_of
+returns c =
+    is_figure c.args.bytes.now c.read-read.result c.read-read.ensures.outcome
+    (λ f. f.write) _ c.read-read.ensures.plan c.figures_of-figures.ensures _ c.figure_or_zero.ensures
