@@ -8,5 +8,5 @@ returns c =
     record {
       is = c.few_digits.ensures;
       most = omega
-      (arith, c.few_digits.ensures, most_digits 2 c.args.n (omega arith));
+          (arith, c.few_digits.ensures, most_digits 2 c.args.n (omega arith));
     }

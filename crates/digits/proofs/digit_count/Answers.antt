@@ -29,10 +29,10 @@ returns c =
     record {
       is = omega (arith, c.few_digits.ensures, c.loop-head.invariant.1.1);
       most = omega (
-    arith,
-    c.few_digits.ensures,
-    c.loop-head.invariant.1.1,
-    most_digits 19
-        c.args.n c.loop-head.invariant.1.0,
-  );
+        arith,
+        c.few_digits.ensures,
+        c.loop-head.invariant.1.1,
+        most_digits 19
+            c.args.n c.loop-head.invariant.1.0,
+      );
     }
