@@ -1,13 +1,12 @@
 -- The whole board: each processor's part is what the single queries answer for it, and the code makes these parts.
 -- Assumes nothing.
-use Prim.Native.Nat.{ℕ, suc, ◌+◌, ◌*◌, ◌≤◌, ◌<◌}
-use mathlib.Core.Path.{◌≡◌, refl, sym, ap, ap₂, ◌∙◌}
+use Prim.Native.Nat.{ℕ, suc, ◌+◌, ◌*◌, ◌<◌}
+use mathlib.Core.Path.{◌≡◌, ap, ◌∙◌}
 use mathlib.Core.List.{List}
 use native.Mathlib.Omega.{arith}
 use lib.ListN.{take, drop, get_or}
 use borrow.Author.Tests.{lt-ltb}
 use Rattle.masks.specs.Sets.{mask_of}
-use Rattle.refusals.specs.Due.{as_numbers}
 use Rattle.plans.specs.Entries.{max_processors}
 use Rattle.masks.proofs.Tabulate.{get_d_tabulate}
 use Rattle.rules.specs.declared.states.Phases.{Phases}

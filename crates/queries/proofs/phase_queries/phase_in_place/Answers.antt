@@ -1,0 +1,11 @@
+-- `phase_in_place` meets its contract: the masks contain the phase of a processor that counts. Assumes nothing.
+use Rattle.queries.specs.Queries.{state_number}
+use Rattle.queries.proofs.Answers.{accepted_says}
+use Rattle.queries.proofs.phase_queries.phase_in_place.Goals as goal
+
+pub returns-in-Accepted : goal.returns-in-Accepted
+unfolding state_number
+returns-in-Accepted c =
+    let told = c in
+    accepted_says _ _ _ _ told.check_processor-verdict.ensures told.in-Accepted.is
+    (rw c.clean.ensures at c.phase_at.ensures)

@@ -1,0 +1,18 @@
+-- `direct_waits_in_place` meets its contract: it uses the phases that count. Assumes nothing.
+use mathlib.Core.Path.{sym, ap, ◌∙◌}
+use Rattle.refusals.specs.Number.{verdict_number}
+use Rattle.queries.specs.Parts.{board_with, state_with}
+use Rattle.queries.proofs.Answers.{processor_below, accepted_says, waits_counted}
+use Rattle.queries.proofs.wait_queries.direct_waits_in_place.Goals as goal
+
+pub returns-in-Accepted : goal.returns-in-Accepted
+returns-in-Accepted c =
+    let told = c in
+    let cleaned = told in
+    let checked = cleaned.check_processor-verdict.ensures in
+    let a = cleaned.args in
+    let below = processor_below a.terms a.processor
+    (sym checked ∙ ap verdict_number told.in-Accepted.is) in
+    accepted_says _ _ _ _ checked told.in-Accepted.is
+    (waits_counted (board_with a.terms a.rows.now) (state_with a.requested.now a.earlier.now a.phases) _
+    cleaned.clean-counted.ensures _ _ below c.waits_of.ensures)
