@@ -48,12 +48,12 @@ use Rattle.logs.specs.Records.{fields_in, record_fault, read_record}
 --   plan_checks::check        verdict_number r ≡ plan_fault plan
 --   boards::fresh_of          verdict_number r.verdict ≡ plan_fault plan, r.board ≡ fresh_board plan,
 --                             r.state ≡ fresh_state
---   arbiter::answer           answerOf r ≡ answered board state call
---   arbiter::issue            answerOf r ≡ issued board state processor entry tick
---   arbiter::complete         answerOf r ≡ completed board state processor tick
---   arbiter::withdraw         answerOf r ≡ withdrawn board state processor tick
---   arbiter::handover         answerOf r ≡ handed_over board state processor entry tick
---   arbiter::answer_on        answerOf r ≡ answered, for the board whose terms, rows and lengths it is lent
+--   arbiter::answer           answer_of r ≡ answered board state call
+--   arbiter::issue            answer_of r ≡ issued board state processor entry tick
+--   arbiter::complete         answer_of r ≡ completed board state processor tick
+--   arbiter::withdraw         answer_of r ≡ withdrawn board state processor tick
+--   arbiter::handover         answer_of r ≡ handed_over board state processor entry tick
+--   arbiter::answer_on        answer_of r ≡ answered, for the board whose terms, rows and lengths it is lent
 --   calls_in_place::answer_in_place    answer_by r and the arrays after it ≡ answered, for the board and the state
 --                                      that it is lent
 --   calls_in_place::issue_in_place     the same with issued
