@@ -11,7 +11,7 @@ use borrow.Author.Tests.{ltb-true}
 use Rattle.masks.specs.Sets.{mask_of}
 use Rattle.masks.proofs.Masks.{mask_agree}
 use Rattle.masks.proofs.Truth.{and_left, and_right}
-use Rattle.encoding.specs.Buffers.{overwritten, buffer_after}
+use Rattle.encoding.specs.Buffers.{overwritten}
 use Rattle.encoding.proofs.Room.{fits_room}
 use Rattle.plans.specs.Entries.{max_processors, mask_size_for}
 use Rattle.masks.specs.Tabulation.{tabulate}
@@ -24,7 +24,7 @@ use Rattle.reach.specs.Rows.{rows_through}
 use Rattle.queries.specs.Words.{word_count, words_of, words_scratch}
 use Rattle.reach.proofs.Words.{words_agree}
 use Rattle.reach.proofs.reaching.Through.{via, Path, step, over, rows_via, path_via, via_gives}
-use Rattle.queries.specs.Queries.{waits_for, Chain, direct, through, reaches, mask_size_of, scratch_size, reach_bytes}
+use Rattle.queries.specs.Queries.{waits_for, Chain, direct, through, reaches, scratch_size, reach_bytes}
 use Rattle.queries.specs.inner.Rows.{direct_rows}
 use Rattle.queries.proofs.Waits.{Counted, waits_counted}
 use Rattle.queries.proofs.Chains.{chain_reaches, reaches_chain}

@@ -1,3 +1,4 @@
+-- `store_parts` meets its contract: each turn of the loop stores one more part. Assumes nothing.
 use mathlib.Core.Path.{refl}
 use Prim.Native.Nat.{◌<◌}
 use native.Mathlib.Omega.{arith}

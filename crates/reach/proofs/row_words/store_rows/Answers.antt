@@ -1,0 +1,22 @@
+use mathlib.Core.Path.{refl}
+use Prim.Native.Nat.{ℕ, ◌<◌}
+use native.Mathlib.Omega.{arith}
+use Rattle.encoding.specs.InTurn.{in_turn}
+use Rattle.queries.specs.Words.{word_count, words_of}
+use Rattle.reach.proofs.Words.{word_stored}
+use Rattle.reach.proofs.row_words.store_rows.Goals as goal
+
+pub loop-i-init : goal.loop-i-init
+unfolding words_of in_turn
+loop-i-init c = (omega arith, refl, refl)
+
+pub loop-i-preserved : goal.loop-i-preserved
+loop-i-preserved c =
+    let written = c in
+    let loop = written.loop-i in
+    let start = written in
+    let size : ℕ = start.args.size in
+    let low : loop.i < word_count size = omega arith in
+    let next = word_stored size _ (word_count size) loop.i _ _ _ low start.requires.1 loop.invariant.1 loop.invariant.2
+    written.write_number.ensures.bytes in
+    (omega arith, next.0, next.1)
