@@ -1,9 +1,8 @@
 -- A withdrawn request never holds: it ends without a grant, and no later call grants it. Assumes nothing.
-use Prim.Native.Nat.{ℕ, ◌≤◌, ◌<◌}
+use Prim.Native.Nat.{ℕ, ◌<◌}
 use mathlib.Core.Path.{◌≡◌, refl, sym, ap, subst, ◌∙◌}
 use mathlib.Core.Bool.{Bool, true, false, cond, not, ◌&&◌, and-false, false≢true}
 use mathlib.Core.List.{List, [], ◌∷◌, ◌++◌, map}
-use native.Mathlib.Nat.{le_trans}
 use native.Mathlib.Decide.{ℕ_discrete}
 use native.Mathlib.Omega.{arith}
 use lib.Dec.{eqb, lit<}
@@ -24,17 +23,16 @@ use Rattle.rules.specs.Faults.{withdraw_fault}
 use Rattle.rules.specs.Calls.{phases_of, taken_state, settled_done, left, withdrawn, answered}
 use Rattle.boards.specs.Fresh.{board_of, fresh_state}
 use Rattle.runs.specs.Events.{Event, events, state_after}
-use Rattle.runs.specs.History.{When, never, at, happened, Request, History, Act, puts, takes, acts_of, arrival}
+use Rattle.runs.specs.History.{never, at, happened, Request, History, Act, puts, takes, acts_of, arrival}
 use Rattle.runs.specs.History.{acting, all_acting, granting, ending, counting, counted_in, nothing}
 use Rattle.runs.specs.Claim.{history_of, request, every_entry}
 use Rattle.runs.specs.Withdrawals.{WithdrawnNeverHolds}
-use Rattle.runs.proofs.columns.Columns.{holding}
 use Rattle.runs.proofs.history.Cases.{get_d_map, length_more}
 use Rattle.runs.proofs.history.Tied.{Tied, waits, holds, ended, never_is_not_at}
 use Rattle.runs.proofs.history.Verdicts.{phase_taken}
-use Rattle.runs.proofs.history.Runs.{Reached, run_to, reached_fresh}
+use Rattle.runs.proofs.history.Runs.{run_to, reached_fresh}
 use Rattle.runs.proofs.refinement.State.{held_bit}
-use Rattle.runs.proofs.refinement.Clean.{Clean, clean_phases, phase_in}
+use Rattle.runs.proofs.refinement.Clean.{Clean, clean_phases}
 use Rattle.runs.proofs.refinement.Arbiter.{plan_arbiter}
 use Rattle.runs.proofs.refinement.WholeRuns.{every_length}
 

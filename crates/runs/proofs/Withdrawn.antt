@@ -15,7 +15,7 @@ use Rattle.rules.specs.Acts.{put_in, put_last, taken_out, stamped}
 use Rattle.rules.specs.Calls.{put_state, taken_state, done, settled_done, issued, left, completed, withdrawn}
 use Rattle.boards.specs.Fresh.{board_of}
 use Rattle.runs.specs.Events.{events}
-use Rattle.runs.specs.History.{When, never, at, Request, History, all_acting, counted_in, wait_of}
+use Rattle.runs.specs.History.{When, never, at, Request, all_acting, counted_in, wait_of}
 use Rattle.runs.specs.Claim.{history_of}
 use Rattle.runs.proofs.PlanF.{plan_f, read, write}
 

@@ -1,6 +1,6 @@
 -- Demand 3, stated for whole lists of calls. A reader needs only this page and the definitions that it names.
 -- Specification, section 6.
-use Rattle.std.specs.Prelude.{ℕ, ◌-◌, ◌*◌, ◌≤◌, ◌<◌, ◌≡◌, Bool, true, false, cond, List, length, get_or}
+use Rattle.std.specs.Prelude.{ℕ, ◌≤◌, ◌<◌, ◌≡◌, Bool, true, false, cond, List, length, get_or}
 use Rattle.plans.specs.declared.Plan.{Plan}
 use Rattle.plans.specs.Entries.{is_write, entry_at}
 use Rattle.plans.specs.Figures.{read_figure, write_figure}

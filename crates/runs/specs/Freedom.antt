@@ -1,12 +1,12 @@
 -- Freedom from deadlock, stated for whole lists of calls. Specification, clause 6.10.
-use Rattle.std.specs.Prelude.{ℕ, ◌≡◌, Bool, true, List, [], ◌∷◌}
+use Rattle.std.specs.Prelude.{ℕ, ◌≡◌, Bool, true, List}
 use Rattle.plans.specs.declared.Plan.{Plan}
 use Rattle.rules.specs.declared.states.Board.{Board}
 use Rattle.rules.specs.declared.states.State.{State}
 use Rattle.rules.specs.declared.calls.Call.{Call}
 use Rattle.rules.specs.Requests.{unsatisfied}
 use Rattle.rules.specs.CountedRequests.{is_holding}
-use Rattle.rules.specs.Calls.{phases_of, answered}
+use Rattle.rules.specs.Calls.{phases_of}
 use Rattle.boards.specs.Fresh.{board_of, fresh_state}
 use Rattle.runs.specs.Events.{state_after}
 use Rattle.queries.specs.Queries.{Chain}

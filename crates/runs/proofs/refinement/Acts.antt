@@ -27,7 +27,7 @@ use Rattle.runs.proofs.history.Cases.{by_processor, get_d_set}
 use Rattle.runs.proofs.columns.Columns.{idle, waiting, holding}
 use Rattle.runs.proofs.columns.Phases.{true_not_false, Rises, rises_rises, idle_stays}
 use Rattle.runs.proofs.columns.Moves.{rises1, rises2, rises3, rises4}
-use Rattle.runs.proofs.refinement.State.{requests_of, phase_of, Tidy, held_phase, held_bit, Becomes, moved, kept}
+use Rattle.runs.proofs.refinement.State.{phase_of, Tidy, held_phase, held_bit, Becomes, moved, kept}
 use Rattle.runs.proofs.refinement.State.{becomes_tidy}
 use Rattle.runs.proofs.refinement.Steps.{second_fails, first_step, second_step, third_step, fourth_step}
 use Rattle.runs.proofs.refinement.Steps.{step1_tidy, step2_tidy, step3_tidy, step4_tidy}

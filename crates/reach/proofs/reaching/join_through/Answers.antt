@@ -1,3 +1,4 @@
+-- The row of one more processor, joined, in `join_through`. Assumes nothing.
 use mathlib.Core.Path.{refl}
 use Prim.Native.Nat.{◌<◌}
 use native.Mathlib.Omega.{arith}

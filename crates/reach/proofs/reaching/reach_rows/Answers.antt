@@ -1,3 +1,4 @@
+-- The chains through one more processor, in `reach_rows`. Assumes nothing.
 use mathlib.Core.Path.{refl, sym, ap, ◌∙◌}
 use mathlib.Core.List.{List}
 use Prim.Native.Nat.{ℕ}

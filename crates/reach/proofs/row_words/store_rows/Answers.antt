@@ -1,3 +1,4 @@
+-- The word of one more processor, stored, in `store_rows`. Assumes nothing.
 use mathlib.Core.Path.{refl}
 use Prim.Native.Nat.{ℕ, ◌<◌}
 use native.Mathlib.Omega.{arith}
