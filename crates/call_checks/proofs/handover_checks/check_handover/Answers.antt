@@ -1,5 +1,6 @@
 -- `check_handover` meets its contract: each test decides its refusal, in the order 10, 11, 12, 14, 15. Assumes nothing.
 use mathlib.Core.Path.{sym, ◌∙◌}
+use native.Mathlib.Omega.{arith}
 use borrow.Author.Tests.{lt-ltb, le-ltb}
 use Rattle.rules.specs.Faults.{handover_fault}
 use Rattle.call_checks.proofs.handover_checks.check_handover.Goals as goal
@@ -22,7 +23,7 @@ returns-then-not-listed c =
     rw (
       sym c.is_in_time.ensures ∙ c.if-not-is_in_time.false,
       sym c.is_counted.ensures ∙ c.if-not-is_counted.false,
-      le-ltb _ _ c.if-not-listed.true,
+      le-ltb c.args.entry c.args.terms.count (omega arith),
     )
 
 pub returns-then-not-active : goal.returns-then-not-active
@@ -31,7 +32,7 @@ returns-then-not-active c =
     rw (
       sym c.is_in_time.ensures ∙ c.if-not-is_in_time.false,
       sym c.is_counted.ensures ∙ c.if-not-is_counted.false,
-      lt-ltb _ _ c.if-not-listed.false,
+      lt-ltb c.args.entry c.args.terms.count (omega arith),
       sym c.is_active-active.ensures ∙ c.if-not-active.true,
     )
 
@@ -41,7 +42,7 @@ returns c =
     rw (
       sym c.is_in_time.ensures ∙ c.if-not-is_in_time.false,
       sym c.is_counted.ensures ∙ c.if-not-is_counted.false,
-      lt-ltb _ _ c.if-not-listed.false,
+      lt-ltb c.args.entry c.args.terms.count (omega arith),
       sym c.is_active-active.ensures ∙ c.if-not-active.false,
       c.refuse_unless.ensures,
       c.is_unsatisfied.ensures,
