@@ -43,6 +43,7 @@ fn conflict_in(
 
 // Clause 7.10: what two entries of a board conflict over, with the board's names and widened sets lent. Refused with
 // 12.
+#[tactic(auto, unfolding(crate::specs::Contention::shared_of))]
 pub fn shared_on(
     terms: Terms,
     names: &[u64; MAX_ENTRIES],

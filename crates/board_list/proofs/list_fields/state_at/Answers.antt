@@ -22,17 +22,13 @@ returns-then-has32-2 c = rw (
 pub returns-then-has32-3 : goal.returns-then-has32-3
 unfolding state_in
 returns-then-has32-3 c =
-    let second = c in
-    let first = second in
-    let a = first.args in
+    let a = c.args in
     let waits : bit a.phases.waiting a.p ≡ true = sym c.has32-3.ensures ∙ c.if-has32-3.true in
-    rw (← first.has32.ensures, first.if-has32.false, ← second.has32-2.ensures, second.if-has32-2.false, waits)
+    rw (← c.has32.ensures, c.if-has32.false, ← c.has32-2.ensures, c.if-has32-2.false, waits)
 
 pub returns-else-has32-3 : goal.returns-else-has32-3
 unfolding state_in
 returns-else-has32-3 c =
-    let second = c in
-    let first = second in
-    let a = first.args in
+    let a = c.args in
     let idle : bit a.phases.waiting a.p ≡ false = sym c.has32-3.ensures ∙ c.if-has32-3.false in
-    rw (← first.has32.ensures, first.if-has32.false, ← second.has32-2.ensures, second.if-has32-2.false, idle)
+    rw (← c.has32.ensures, c.if-has32.false, ← c.has32-2.ensures, c.if-has32-2.false, idle)

@@ -13,8 +13,7 @@ returns-then-size-eq2 c =
 
 pub returns : goal.returns
 returns c =
-    let start = c in
-    let a = start.args in
+    let a = c.args in
     c.write_number.ensures.bytes
     ∙ stored_where_fits a.buffer.now a.at (bytes_of a.size a.mask) a.size
-    (length_bytes_of a.size a.mask) start.requires
+    (length_bytes_of a.size a.mask) c.requires

@@ -9,13 +9,11 @@ use Rattle.board_list.proofs.list_parts.store_part.Goals as goal
 
 pub returns-then-has_room : goal.returns-then-has_room
 returns-then-has_room c =
-    let first = c in
-    let asked = first in
-    let a = asked.args in
-    let room = asked.has_room.ensures in
+    let a = c.args in
+    let room = c.has_room.ensures in
     let part = part_bytes a.size a.state a.entry a.waited a.waits in
     (with_room (part_size a.size) a.at a.buffer.now part (length_part a.size _ _ _ _)
-    (sym room.is ∙ asked.if-has_room.true) _
+    (sym room.is ∙ c.if-has_room.true) _
     (part_written a.size a.state a.entry a.waited a.waits a.buffer.now a.at _ _
-    (room.room asked.if-has_room.true)
-    first.write_number.ensures.bytes c.store_mask.ensures)).1
+    (room.room c.if-has_room.true)
+    c.write_number.ensures.bytes c.store_mask.ensures)).1

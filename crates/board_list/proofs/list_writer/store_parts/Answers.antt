@@ -17,18 +17,13 @@ loop-i-init c = (omega arith, refl, refl)
 pub loop-i-preserved : goal.loop-i-preserved
 unfolding part_in entry_shown waited_in
 loop-i-preserved c =
-    let stored = c in
-    let waited = stored in
-    let entry = waited in
-    let state = entry in
-    let loop = state.loop-i in
-    let start = state in
-    let a = start.args in
+    let loop = c.loop-i in
+    let a = c.args in
     let low : loop.i < a.count = omega arith in
     let next = turn_stores (part_size a.size)
     (part_in a.size a.phases a.last a.requested.now a.since.now a.waits.now)
     (λ p. length_part a.size _ _ _ _) 1 a.count loop.i a.buffer.now loop.buffer _ low
-    start.requires.2 loop.invariant.1 loop.invariant.2
-    (rw (state.state_at-state.ensures, entry.entry_at-entry.ensures, waited.waited_at-waited.ensures) at
-    stored.store_part.ensures) in
+    c.requires.2 loop.invariant.1 loop.invariant.2
+    (rw (c.state_at-state.ensures, c.entry_at-entry.ensures, c.waited_at-waited.ensures) at
+    c.store_part.ensures) in
     (omega arith, next.0, next.1)

@@ -9,15 +9,12 @@ use Rattle.queries.proofs.board_queries.list_board_in_place.Goals as goal
 
 pub returns : goal.returns
 returns c =
-    let written = c in
-    let found = written in
-    let cleaned = found in
-    let a = cleaned.args in
+    let a = c.args in
     let b = board_by a.terms a.rows.now [] in
     let s = state_by a.moment a.requested.now a.since.now a.earlier.now in
-    let counted = cleaned.clean-phases.ensures in
+    let counted = c.clean-phases.ensures in
     record {
-      outcome = written.write.ensures.outcome;
-      bytes = written.write.ensures.bytes
-          ∙ board_found b s _ _ counted (rows_counted b s _ counted _ found.waits_of_all-waits.ensures) a.buffer.now;
+      outcome = c.write.ensures.outcome;
+      bytes = c.write.ensures.bytes
+          ∙ board_found b s _ _ counted (rows_counted b s _ counted _ c.waits_of_all-waits.ensures) a.buffer.now;
     }

@@ -6,6 +6,5 @@ use Rattle.queries.proofs.phase_queries.phase_in_place.Goals as goal
 pub returns-in-Accepted : goal.returns-in-Accepted
 unfolding state_number
 returns-in-Accepted c =
-    let told = c in
-    accepted_says _ _ _ _ told.check_processor-verdict.ensures told.in-Accepted.is
+    accepted_says _ _ _ _ c.check_processor-verdict.ensures c.in-Accepted.is
     (rw c.clean.ensures at c.phase_at.ensures)

@@ -7,12 +7,10 @@ use Rattle.queries.proofs.wait_queries.direct_waits_in_place.Goals as goal
 
 pub returns-in-Accepted : goal.returns-in-Accepted
 returns-in-Accepted c =
-    let told = c in
-    let cleaned = told in
-    let checked = cleaned.check_processor-verdict.ensures in
-    let a = cleaned.args in
+    let checked = c.check_processor-verdict.ensures in
+    let a = c.args in
     let below = processor_below a.terms a.processor
-    (sym checked ∙ ap verdict_number told.in-Accepted.is) in
-    accepted_says _ _ _ _ checked told.in-Accepted.is
+    (sym checked ∙ ap verdict_number c.in-Accepted.is) in
+    accepted_says _ _ _ _ checked c.in-Accepted.is
     (waits_counted (board_with a.terms a.rows.now) (state_with a.requested.now a.earlier.now a.phases) _
-    cleaned.clean-counted.ensures _ _ below c.waits_of.ensures)
+    c.clean-counted.ensures _ _ below c.waits_of.ensures)

@@ -6,13 +6,10 @@ use Rattle.reach.proofs.reach_queries.reach.Goals as goal
 pub returns : goal.returns
 unfolding waits_for
 returns c =
-    let found = c in
-    let direct = found in
-    let start = direct in
-    let b = start.args.board in
-    let s = start.args.state in
+    let b = c.args.board in
+    let s = c.args.state in
     record {
-      mask = found.reach_from.ensures.mask b s refl direct.direct_rows-direct.ensures;
-      stored = found.reach_from.ensures.stored b s refl
-          direct.direct_rows-direct.ensures;
+      mask = c.reach_from.ensures.mask b s refl c.direct_rows-direct.ensures;
+      stored = c.reach_from.ensures.stored b s refl
+          c.direct_rows-direct.ensures;
     }

@@ -9,15 +9,14 @@ use Rattle.reach.proofs.reach_queries.reach_from.Goals as goal
 pub returns-in-Accepted : goal.returns-in-Accepted
 unfolding reach_fault reach_scratch
 returns-in-Accepted c =
-    let written = c in
-    let checked = written.check_reach-verdict.ensures in
-    let accepted = written.in-Accepted.is in
+    let checked = c.check_reach-verdict.ensures in
+    let accepted = c.in-Accepted.is in
     record {
       mask = λ b s same are.
           accepted_says _ _ _ _ (rw same at checked) accepted
-          (written.write_reach.ensures.mask b s (ap (λ t. t.processors) same) are);
+          (c.write_reach.ensures.mask b s (ap (λ t. t.processors) same) are);
       stored = λ b s same are. rw (← rw same at checked, accepted)
-          (written.write_reach.ensures.stored b s (ap (λ t. t.processors) same) are);
+          (c.write_reach.ensures.stored b s (ap (λ t. t.processors) same) are);
     }
 
 pub returns-in-Refused : goal.returns-in-Refused

@@ -4,12 +4,9 @@ use Rattle.reach.proofs.reach_queries.write_reach.Goals as goal
 
 pub returns : goal.returns
 returns c =
-    let stored = c in
-    let rows = stored in
-    let start = rows in
     record {
-      mask = λ b s same are. row_asked b s _ (rows_reached b s _ same _ _ are rows.reach_rows-rows.ensures) _ start.requires.0;
+      mask = λ b s same are. row_asked b s _ (rows_reached b s _ same _ _ are c.reach_rows-rows.ensures) _ c.requires.0;
       stored = λ b s same are.
-          words_stored b s _ (rows_reached b s _ same _ _ are rows.reach_rows-rows.ensures) _ same _ _ start.requires.1
-          stored.write_rows.ensures.bytes;
+          words_stored b s _ (rows_reached b s _ same _ _ are c.reach_rows-rows.ensures) _ same _ _ c.requires.1
+          c.write_rows.ensures.bytes;
     }

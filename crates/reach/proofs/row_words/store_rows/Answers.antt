@@ -13,11 +13,9 @@ loop-i-init c = (omega arith, refl, refl)
 
 pub loop-i-preserved : goal.loop-i-preserved
 loop-i-preserved c =
-    let written = c in
-    let loop = written.loop-i in
-    let start = written in
-    let size : ℕ = start.args.size in
+    let loop = c.loop-i in
+    let size : ℕ = c.args.size in
     let low : loop.i < word_count size = omega arith in
-    let next = word_stored size _ (word_count size) loop.i _ _ _ low start.requires.1 loop.invariant.1 loop.invariant.2
-    written.write_number.ensures.bytes in
+    let next = word_stored size _ (word_count size) loop.i _ _ _ low c.requires.1 loop.invariant.1 loop.invariant.2
+    c.write_number.ensures.bytes in
     (omega arith, next.0, next.1)
