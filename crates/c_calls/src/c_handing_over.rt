@@ -1,5 +1,5 @@
-// A handover on memory that a program in C or Rust owns. include/bittmelon.h declares what is exported. Specification,
-// sections 4 and 11.
+// A handover on memory that a program in C or Rust owns. `c_calls_c` exports it, and include/bittmelon.h declares it.
+// Specification, sections 4 and 11.
 ghost use Rattle.std.specs.Prelude.{◌≡◌};
 ghost use Rattle.rules.specs.Calls.{handed_over};
 ghost use Rattle.rules.specs.InPlace.{board_by, state_by};
@@ -14,8 +14,7 @@ use rules::Terms;
 
 // The processor completes its request and issues one for an entry, at one tick. Refused with 10, 11, 12, 14 or 15,
 // checked in this order.
-#[unsafe(no_mangle)]
-pub extern "C" fn bittmelon_handover_parts(
+pub fn bittmelon_handover_parts(
     processors: u8,
     entries: u8,
     writes: u64,

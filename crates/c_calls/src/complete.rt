@@ -12,8 +12,7 @@ use plans::{MAX_ENTRIES, MAX_PROCESSORS};
 use rules::Terms;
 
 // The processor completes its request at a tick. Refused with 10, 11, 14 or 15, checked in this order.
-#[unsafe(no_mangle)]
-pub extern "C" fn bittmelon_complete_parts(
+pub fn bittmelon_complete_parts(
     processors: u8,
     entries: u8,
     writes: u64,

@@ -12,8 +12,7 @@ use plans::{MAX_ENTRIES, MAX_PROCESSORS};
 use rules::Terms;
 
 // The processor issues a request for an entry at a tick. Refused with 10, 11, 12 or 13, checked in this order.
-#[unsafe(no_mangle)]
-pub extern "C" fn bittmelon_issue_parts(
+pub fn bittmelon_issue_parts(
     processors: u8,
     entries: u8,
     writes: u64,

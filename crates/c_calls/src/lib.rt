@@ -1,6 +1,6 @@
-// Exported to C and Rust: the four calls of the arbiter on memory that the caller owns. Its parts are lent as pointers,
-// and only the counts and the phases are copied. include/bittmelon.h declares what is exported. Specification, sections
-// 4 and 11.
+// For C and Rust: the four calls of the arbiter on memory that the caller owns. Its parts are lent as pointers, and
+// only the counts and the phases are copied. `c_calls_c` exports these functions, and include/bittmelon.h declares
+// them. Specification, sections 4 and 11.
 #![tactic(auto)]
 
 mod c_handing_over;

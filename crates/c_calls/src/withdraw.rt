@@ -13,8 +13,7 @@ use rules::Terms;
 
 // The processor leaves the queue at a tick; its request must not hold. Refused with 10, 11, 14 or 17, checked in this
 // order.
-#[unsafe(no_mangle)]
-pub extern "C" fn bittmelon_withdraw_parts(
+pub fn bittmelon_withdraw_parts(
     processors: u8,
     entries: u8,
     writes: u64,

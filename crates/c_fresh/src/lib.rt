@@ -1,5 +1,6 @@
-// Exported to C and Rust: a fresh arbiter, made from the bytes of a plan and stored in memory that the caller owns; and
-// the version of the archive. include/bittmelon.h declares what is exported. Specification, sections 4 and 11.
+// For C and Rust: a fresh arbiter, made from the bytes of a plan and stored in memory that the caller owns; and the
+// version of the archive. `c_fresh_c` exports these functions, and include/bittmelon.h declares them. Specification,
+// sections 4 and 11.
 #![tactic(auto)]
 
 mod board;
@@ -18,8 +19,7 @@ use plans::{MAX_ENTRIES, MAX_PROCESSORS};
 use state::store_state;
 
 // The version of the archive, to compare with the header's.
-#[unsafe(no_mangle)]
-pub extern "C" fn bittmelon_version_number() -> u32
+pub fn bittmelon_version_number() -> u32
     ensures { result ≡ version_number }
 {
     30200
@@ -27,8 +27,7 @@ pub extern "C" fn bittmelon_version_number() -> u32
 
 // Stores the fresh arbiter of the plan in the bytes; bytes after the plan are ignored. Returns how many bytes the plan
 // took, or its refusal, 1 or 3 to 8, and then writes nothing.
-#[unsafe(no_mangle)]
-pub extern "C" fn bittmelon_fresh_parts(
+pub fn bittmelon_fresh_parts(
     plan: &[u8],
     processors: &mut u8,
     entries: &mut u8,

@@ -1,5 +1,5 @@
 // Which resources two entries conflict over, on memory that a program in C or Rust owns. Nothing is changed.
-// include/bittmelon.h declares what is exported. Specification, sections 7 and 11.
+// `c_queries_c` exports it, and include/bittmelon.h declares it. Specification, sections 7 and 11.
 ghost use Rattle.std.specs.Prelude.{◌≡◌};
 ghost use Rattle.conflicts.specs.Sharing.{conflict_as_numbers};
 ghost use Rattle.queries.specs.Contention.{shared_as_numbers, shared_of};
@@ -56,8 +56,7 @@ fn shared_for_c(answer: SharedAnswer) -> CConflict
 }
 
 // Clause 7.10: what two entries conflict over. Refused with 12.
-#[unsafe(no_mangle)]
-pub extern "C" fn bittmelon_shared_parts(
+pub fn bittmelon_shared_parts(
     processors: u8,
     entries: u8,
     writes: u64,

@@ -1,5 +1,6 @@
-// Exported to C and Rust: the queries on memory that the caller owns. Its parts are lent as pointers, and only a lent
-// scratch or buffer is changed. include/bittmelon.h declares these functions. Specification, sections 7 and 11.
+// For C and Rust: the queries on memory that the caller owns. Its parts are lent as pointers, and only a lent scratch
+// or buffer is changed. `c_queries_c` exports these functions, and include/bittmelon.h declares them. Specification,
+// sections 7 and 11.
 #![tactic(auto)]
 
 mod c_contention;
@@ -20,8 +21,7 @@ use reach::reach_in_place;
 use rules::Terms;
 
 // Clause 7.1: the number of a processor's state. Refused with 11.
-#[unsafe(no_mangle)]
-pub extern "C" fn bittmelon_state_parts(
+pub fn bittmelon_state_parts(
     processors: u8,
     entries: u8,
     phases: &[u32; 3],
@@ -42,8 +42,7 @@ pub extern "C" fn bittmelon_state_parts(
 }
 
 // Clause 7.2: the direct waits of a processor, as a mask. Refused with 11.
-#[unsafe(no_mangle)]
-pub extern "C" fn bittmelon_waits_parts(
+pub fn bittmelon_waits_parts(
     processors: u8,
     entries: u8,
     writes: u64,
@@ -68,8 +67,7 @@ pub extern "C" fn bittmelon_waits_parts(
 
 // Clause 7.3: the reach of a processor, as a mask. The query leaves a word for each processor in the scratch, and bytes
 // after the words stay. Refused with 11, then with 16; a refusal writes nothing.
-#[unsafe(no_mangle)]
-pub extern "C" fn bittmelon_reach_parts(
+pub fn bittmelon_reach_parts(
     processors: u8,
     entries: u8,
     writes: u64,
@@ -101,8 +99,7 @@ pub extern "C" fn bittmelon_reach_parts(
 
 // Clause 7.7: fills the buffer with the list of the whole board and returns how many bytes it took; bytes after the
 // list stay. A buffer that is too short is refused with 16, and then nothing is written.
-#[unsafe(no_mangle)]
-pub extern "C" fn bittmelon_list_parts(
+pub fn bittmelon_list_parts(
     processors: u8,
     entries: u8,
     writes: u64,

@@ -1,5 +1,5 @@
 // Exported to C and Rust: the functions of `viewer`, under the same names and with the same clauses.
-// include/bittmelon.h declares them.
+// include/bittmelon.h declares what is exported.
 #![tactic(auto)]
 
 ghost use Rattle.std.specs.Prelude.{◌≡◌};
