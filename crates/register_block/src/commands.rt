@@ -39,6 +39,7 @@ pub fn unmoved(verdict: Verdict, block: Block, state: State) -> Change
 }
 
 // Clause 10.7: carries out a command.
+#[tactic(auto, unfolding(crate::specs::Commands::commanded))]
 pub fn command(
     terms: Terms,
     rows: &[u64; MAX_ENTRIES],

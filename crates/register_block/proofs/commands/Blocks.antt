@@ -1,8 +1,7 @@
 -- Commands and other writes, in terms of what the code returns. Assumes nothing.
-use Prim.Native.Nat.{ℕ, ◌≤◌, ◌<◌}
+use Prim.Native.Nat.{ℕ, ◌≤◌}
 use mathlib.Core.Path.{◌≡◌, sym, ap, ◌∙◌}
-use borrow.Author.Tests.{eq-eqb, ne_eqb, lt-ltb, le-ltb}
-use Rattle.refusals.specs.declared.Refusal.{Refusal}
+use borrow.Author.Tests.{ne_eqb, le-ltb}
 use Rattle.refusals.specs.declared.Verdict.{Verdict}
 use Rattle.rules.specs.declared.calls.Call.{Call}
 use Rattle.rules.specs.Replies.{reply_as_numbers}
@@ -26,16 +25,6 @@ abbrev changed : Block → Verdict → State → Change
 changed block verdict state = record { block = block; written = record { verdict = verdict; state = state } }
 
 module _ (board : Board) (state : State) (block : Block) (command : ℕ) (change : Change) where
-  pub command_none : command ≡ 0 → change ≡ changed block Verdict.Accepted state → change_as_numbers change
-      ≡ commanded board state block command
-  unfolding commanded
-  command_none z e = rw (eq-eqb _ _ z) (ap change_as_numbers e)
-
-  pub command_above : (command ≡ 0 → ⊥) → 4 < command → change ≡ changed block (Verdict.Refused Refusal.Register) state
-      → change_as_numbers change ≡ commanded board state block command
-  unfolding commanded
-  command_above z above e = rw (ne_eqb _ _ z, lt-ltb _ _ above) (ap change_as_numbers e)
-
   pub command_answered : (call : Call) (a : Answered) (shown : Block) → (command ≡ 0 → ⊥) → command ≤ 4 → call
       ≡ command_call block.bytes command
       → answer_of a ≡ answered board state call → shown ≡ replied_block block.bytes (reply_as_numbers a.reply)

@@ -1,4 +1,3 @@
-use Prim.Native.Nat.{◌-◌}
 use Rattle.masks.proofs.Stores.{each_last}
 use Rattle.plans.specs.Entries.{max_processors}
 use Rattle.requests.proofs.ages.Ages.{is_tabulate}
