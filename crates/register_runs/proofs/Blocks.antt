@@ -1,7 +1,7 @@
 -- The bytes of a block: what stores and an accepted command leave in pending, in the interrupt line, and in the reply.
 -- Assumes nothing.
-use Prim.Native.Nat.{ℕ, zero, suc, ◌+◌, ◌/◌, ◌%◌, ◌^◌, ◌≤◌, ◌<◌}
-use mathlib.Core.Path.{◌≡◌, refl, sym, ap, ap₂, subst, ◌∙◌}
+use Prim.Native.Nat.{ℕ, zero, suc, ◌+◌, ◌/◌, ◌%◌, ◌^◌, ◌<◌}
+use mathlib.Core.Path.{◌≡◌, refl, sym, ap, subst, ◌∙◌}
 use mathlib.Core.Bool.{Bool, true, false, cond, not, ◌&&◌, ◌||◌, and-true, or-false}
 use mathlib.Core.List.{List}
 use native.Mathlib.Omega.{arith}
@@ -16,8 +16,6 @@ use Rattle.encoding.specs.Numbers.{number, bytes_of}
 use Rattle.encoding.proofs.Bytes.{AreBytes}
 use Rattle.encoding.proofs.Numbers.{number_bytes_of, bytes_bytes_of}
 use Rattle.rules.specs.Replies.{Response, refused_with}
-use Rattle.registers.specs.declared.Block.{Block}
-use Rattle.registers.specs.declared.Register.{Register}
 use Rattle.registers.specs.declared.Register.TheVariants.{Pending}
 use Rattle.registers.specs.Registers.{register_at, refusal_in, late_in, granted_in, entitled_in, pending_in, raised, line_of}
 use Rattle.registers.specs.Registers.{with_line}

@@ -7,7 +7,7 @@ use native.Mathlib.Nat.{pow-suc, mul_comm, mul_assoc}
 use native.Mathlib.Numerals.{one-add}
 use native.Mathlib.Omega.{arith}
 use lib.Dec.{eqb, ltb}
-use lib.ListN.{length, get_or, take, drop}
+use lib.ListN.{length, get_or, take}
 use lib.Pow.{shr-shr}
 use lib.Seq.{slice, get_or-take, get_or-drop}
 use borrow.Author.Tests.{ltb-true, ltb-false}

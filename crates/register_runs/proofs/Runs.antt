@@ -18,16 +18,15 @@ use Rattle.rules.specs.Replies.{Response}
 use Rattle.rules.specs.declared.states.Board.{Board}
 use Rattle.rules.specs.declared.states.State.{State}
 use Rattle.rules.specs.Calls.{answered}
-use Rattle.boards.specs.Fresh.{board_of, fresh_state}
-use Rattle.registers.specs.declared.Block.{Block}
+use Rattle.boards.specs.Fresh.{board_of}
 use Rattle.registers.specs.Registers.{pending_in, raised, line_of}
 use Rattle.register_block.specs.Calls.{command_call}
 use Rattle.register_block.specs.Commands.{WriteAnswer, register_write}
-use Rattle.runs.specs.Events.{Event, events, state_after}
+use Rattle.runs.specs.Events.{events, state_after}
 use Rattle.runs.proofs.refinement.WholeRuns.{whole_runs}
 use Rattle.register_runs.specs.Steps.{Step, reads, writes, calls, Device, fresh_device, stepped, after, carries}
 use Rattle.register_runs.specs.Steps.{grants, clears, unanswered, calls_in, calls_of, reply_in, seen_in, seen_of}
-use Rattle.register_runs.specs.Claim.{bytes_after, PendingAreGrants, GrantStays, LineIsRight, CallsOfRun}
+use Rattle.register_runs.specs.Claim.{PendingAreGrants, GrantStays, LineIsRight, CallsOfRun}
 use Rattle.register_runs.specs.Claim.{RegisterRuns}
 use Rattle.register_runs.proofs.Replies.{answer_holdable}
 use Rattle.register_runs.proofs.Blocks.{Whole, stored_whole, stored_line, stored_pending, replied_whole}

@@ -7,7 +7,7 @@ use Rattle.boards.specs.Fresh.{board_of, fresh_state}
 use Rattle.registers.specs.Registers.{pending_in, line_of}
 use Rattle.runs.specs.Events.{events, state_after}
 use Rattle.runs.specs.Claim.{WholeRuns}
-use Rattle.register_runs.specs.Steps.{Step, Device, fresh_device, after, grants, clears, unanswered, calls_of}
+use Rattle.register_runs.specs.Steps.{Step, fresh_device, after, grants, clears, unanswered, calls_of}
 use Rattle.register_runs.specs.Steps.{seen_of}
 
 -- The bytes of the block after a run.
