@@ -1,7 +1,7 @@
 -- What the query about two entries answers on the board of an accepted plan: what these entries of the plan share, with
 -- a conflict exactly if the board's rows contain one. A write shares its widened set with itself. Assumes nothing.
 use Prim.Native.Nat.{ℕ, ◌<◌, ◌≤◌}
-use mathlib.Core.Path.{◌≡◌, refl, sym, ap, ap₂, ◌∙◌}
+use mathlib.Core.Path.{◌≡◌, sym, ap, ap₂, ◌∙◌}
 use mathlib.Core.Bool.{true, cond, not, ◌&&◌}
 use native.Mathlib.Nat.{le_trans}
 use lib.Bits as bits
@@ -11,10 +11,10 @@ use lib.ListN.{get_or}
 use borrow.Author.Tests.{lt-ltb}
 use Rattle.masks.specs.Sets.{bit}
 use Rattle.plans.specs.declared.Plan.{Plan}
-use Rattle.plans.specs.Entries.{max_entries, is_read, is_write, counted_entries, entry_at}
+use Rattle.plans.specs.Entries.{max_entries, is_write, counted_entries, entry_at}
 use Rattle.plans.specs.Acceptance.{plan_fault}
 use Rattle.plans.proofs.Accepted.{accepted_count}
-use Rattle.conflicts.specs.Sharing.{shared_by, Over, over}
+use Rattle.conflicts.specs.Sharing.{over}
 use Rattle.conflicts.proofs.Over.{over_is}
 use Rattle.conflicts.specs.Widening.{widened_set}
 use Rattle.conflicts.specs.Conflict.{shared, conflict, in_conflict, conflicts_of}

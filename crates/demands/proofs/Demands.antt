@@ -31,7 +31,7 @@ use Rattle.rules.specs.Calls.{completed, withdrawn, both, handed_over, answered}
 use Rattle.boards.specs.Fresh.{board_of, blank_board, fresh_board}
 use Rattle.rules.specs.InPlace.{board_by, state_by}
 use Rattle.queries.specs.Queries.{reach_fault, reach_bytes, reach_query, reach_scratch}
-use Rattle.board_list.specs.Listing.{list_fault, list_buffer}
+use Rattle.board_list.specs.Listing.{list_buffer}
 use Rattle.queries.specs.WholeBoard.{board_bytes, board_fault, board_query, board_buffer}
 use Rattle.logs.specs.Verbs.{no_fields}
 use Rattle.logs.specs.Records.{fields_in, record_fault, read_record}
