@@ -54,12 +54,7 @@ fn put_answers(page: Page, board: Board, state: State, ended: bool) -> Page {
 }
 
 // One call: its line, and the answers after it.
-fn print_call(
-    rt: &HostRuntime,
-    board: Board,
-    state: State,
-    bytes: [u8; INPUT_ROOM],
-) -> RanBlock {
+fn print_call(rt: &HostRuntime, board: Board, state: State, bytes: [u8; INPUT_ROOM]) -> RanBlock {
     let mut out = [0u8; PAGE_ROOM];
     let ran = replay::run(board, state, 1, &bytes, &mut out);
     let next = ran.state;
