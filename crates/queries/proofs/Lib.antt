@@ -2,3 +2,4 @@ pub mod Answers
 pub mod Waits
 pub mod Chains
 pub mod WholeBoard
+pub mod InPlace

@@ -3,3 +3,4 @@ pub mod Replies
 pub mod Blocks
 pub mod Writes
 pub mod Runs
+pub mod Lent

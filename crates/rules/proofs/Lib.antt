@@ -5,3 +5,4 @@ pub mod Known
 pub mod Quiet
 pub mod Idle
 pub mod AtOnce
+pub mod InPlace
