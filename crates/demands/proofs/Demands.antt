@@ -9,6 +9,8 @@ pub use Rattle.runs.proofs.refinement.WholeRuns.{whole_runs}
 pub use Rattle.runs.proofs.Freedom.{no_deadlock}
 pub use Rattle.runs.proofs.NeverHolds.{withdrawn_never_holds}
 pub use Rattle.queries.proofs.WholeBoard.{part_is_queries}
+pub use Rattle.queries.proofs.InPlace.{phase_in_place, waits_in_place, reach_in_place, scratch_in_place}
+pub use Rattle.queries.proofs.InPlace.{list_in_place, listed_in_place}
 pub use Rattle.register_runs.proofs.Runs.{pending_are_grants, grant_stays, line_is_right, calls_of_run, register_runs}
 use Prim.Native.Nat.{ℕ, ◌<◌}
 use mathlib.Core.Path.{◌≡◌, refl, ◌∙◌}
