@@ -3,7 +3,7 @@
 use mathlib.Core.Path.{refl}
 use Rattle.rules.specs.CountedRequests.{is_holding, is_entitled, is_waiting, cleaned}
 use Rattle.queries.specs.Queries.{state_number}
-use Rattle.queries.proofs.InPlace.{waits_in_place, reach_in_place, scratch_in_place, list_in_place, listed_in_place}
+use Rattle.c_runs.proofs.InPlace.{waits_in_place, reach_in_place, scratch_in_place, list_in_place, listed_in_place}
 use Rattle.c_runs.specs.Memory.{Memory, board_held, state_held}
 use Rattle.c_runs.specs.Queries.{QueriesOf}
 

@@ -7,7 +7,7 @@ use Rattle.plans.specs.Reading.{read_fault, plan_read}
 use Rattle.plans.proofs.RoundTrip.{read_is_accepted}
 use Rattle.rules.specs.declared.calls.Call.{Call}
 use Rattle.rules.specs.Calls.{Answer, answered}
-use Rattle.rules.proofs.InPlace.{in_place_is_by_value}
+use Rattle.runs.proofs.InPlace.{in_place_is_by_value}
 use Rattle.boards.specs.Fresh.{board_of, fresh_board, fresh_state}
 use Rattle.c_boards.specs.declared.CAnswer.{CAnswer}
 use Rattle.c_fresh.specs.Fresh.{board_after, state_after_plan}

@@ -1,7 +1,7 @@
 -- The three demands, each with the definitions that state it and the theorem or promise that meets it. Theorems of
 -- other files are passed on from here: the round trips of demand 2, what a handover does, demand 3, freedom from
--- deadlock, that a withdrawn request never holds, what the list of the whole board contains for each processor, and runs
--- of steps on a register block. Assumes nothing.
+-- deadlock, that a withdrawn request never holds, what the list of the whole board contains for each processor, runs of
+-- steps on a register block, and runs from C or Rust. Assumes nothing.
 pub use Rattle.plans.proofs.RoundTrip.{written_in_buffer, written_back}
 pub use Rattle.runs.proofs.Handover.{leaves_what_both_leave, grants_of_both, entitlements_of_both}
 pub use Rattle.demands.proofs.Handover.{handover_grants, handover_entitles}
@@ -9,9 +9,12 @@ pub use Rattle.runs.proofs.refinement.WholeRuns.{whole_runs}
 pub use Rattle.runs.proofs.Freedom.{no_deadlock}
 pub use Rattle.runs.proofs.NeverHolds.{withdrawn_never_holds}
 pub use Rattle.queries.proofs.WholeBoard.{part_is_queries}
-pub use Rattle.queries.proofs.InPlace.{phase_in_place, waits_in_place, reach_in_place, scratch_in_place}
-pub use Rattle.queries.proofs.InPlace.{list_in_place, listed_in_place}
 pub use Rattle.register_runs.proofs.Runs.{pending_are_grants, grant_stays, line_is_right, calls_of_run, register_runs}
+pub use Rattle.register_runs.proofs.Lent.{lent_write_is_write}
+pub use Rattle.c_runs.proofs.InPlace.{phase_in_place, waits_in_place, reach_in_place, scratch_in_place}
+pub use Rattle.c_runs.proofs.InPlace.{list_in_place, listed_in_place}
+pub use Rattle.c_runs.proofs.Runs.{run_from_c}
+pub use Rattle.c_runs.proofs.Queries.{queries_from_c}
 use Prim.Native.Nat.{ℕ, ◌<◌}
 use mathlib.Core.Path.{◌≡◌, refl, ◌∙◌}
 use mathlib.Core.List.{List}
@@ -214,4 +217,5 @@ accepted_record_is_read s ok = rw ok
 -- Demand 3, for whole lists of calls: `whole_runs`, above, is the claim `WholeRuns` of runs/specs/Claim.antt, over the
 -- answers of `answered`, for every accepted plan and every list of calls. In addition to the three demands,
 -- `no_deadlock`: nobody waits in a circle. The commands of a register block and the calls that do not go through it are
--- such a list: `register_runs`.
+-- such a list: `register_runs`. So is every list of calls from C or Rust on memory that a plan was stored in:
+-- `run_from_c`.

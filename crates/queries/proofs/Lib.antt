@@ -2,4 +2,3 @@ pub mod Answers
 pub mod Waits
 pub mod Chains
 pub mod WholeBoard
-pub mod InPlace

@@ -8,7 +8,7 @@ use lib.Dec.{eqb, ltb}
 use Rattle.rules.specs.declared.states.Board.{Board}
 use Rattle.rules.specs.declared.states.State.{State}
 use Rattle.rules.specs.InPlace.{board_by}
-use Rattle.rules.proofs.InPlace.{in_place_is_by_value}
+use Rattle.runs.proofs.InPlace.{in_place_is_by_value}
 use Rattle.registers.specs.declared.Block.{Block}
 use Rattle.registers.specs.declared.Register.{Register}
 use Rattle.registers.specs.Registers.{register_at}

@@ -5,4 +5,3 @@ pub mod Known
 pub mod Quiet
 pub mod Idle
 pub mod AtOnce
-pub mod InPlace

@@ -10,3 +10,4 @@ pub mod Falling
 pub mod Holders
 pub mod Freedom
 pub mod NeverHolds
+pub mod InPlace
