@@ -5,14 +5,13 @@ use mathlib.Core.Path.{◌≡◌, refl, ap, sym, ◌∙◌}
 use mathlib.Core.Bool.{Bool, true, false, cond}
 use mathlib.Core.List.{List, [], ◌++◌}
 use native.Mathlib.Omega.{arith}
-use borrow.Author.Tests.{eqb-true, eqb-false, leb-true, leb-false, le-leb, lt-leb}
+use borrow.Author.Tests.{eqb-true, eqb-false, leb-true, leb-false, le-leb}
 use lib.Dec.{eqb, leb}
 use lib.ListN.{length, drop, length-drop}
 use Rattle.rules.specs.declared.states.Board.{Board}
 use Rattle.rules.specs.declared.states.State.{State}
 use Rattle.logs.specs.Records.{record_size}
 use Rattle.log_input.specs.Stages.{due_size}
-use Rattle.replay.specs.Budgets.{line_room}
 use Rattle.replay.specs.Blocks.{Ran, ran, budget, going_on}
 use Rattle.replay.specs.Ends.{end_line}
 use Rattle.whole_listing.specs.Rooms.{block_room, lines_room}

@@ -3,12 +3,12 @@
 use Prim.Native.Nat.{ℕ, zero, suc, ◌+◌, ◌-◌, ◌*◌, ◌≤◌, ◌<◌}
 use mathlib.Core.Path.{◌≡◌, refl, ap, sym, ◌∙◌}
 use mathlib.Core.Bool.{Bool, true, false, cond, ◌||◌}
-use mathlib.Core.List.{List, [], ◌∷◌, ◌++◌, append_assoc, append-nil}
+use mathlib.Core.List.{List, [], ◌∷◌, ◌++◌, append_assoc}
 use native.Mathlib.Nat.{zero-add, suc-add, add-sub_of_le}
 use native.Mathlib.Omega.{arith}
 use borrow.Author.Tests.{lt-leb, le-leb, ne_eqb}
 use lib.Dec.{eqb, leb}
-use lib.ListN.{length, take, drop, get_or, length-append, length-drop, get_or-append}
+use lib.ListN.{length, drop, length-append, length-drop, get_or-append}
 use lib.Seq.{slice, drop-drop, drop-append-le, take-append-le}
 use Rattle.masks.proofs.Truth.{or_right}
 use Rattle.rules.specs.declared.states.Board.{Board}
@@ -16,7 +16,7 @@ use Rattle.rules.specs.declared.states.State.{State}
 use Rattle.logs.specs.Records.{record_size, fields_in, record_fault, tail_fault}
 use Rattle.listings.specs.PlainLines.{refusal_line}
 use Rattle.log_input.specs.Stages.{due_size}
-use Rattle.replay.specs.Blocks.{Ran, one_more, ran, going_on}
+use Rattle.replay.specs.Blocks.{ran, going_on}
 use Rattle.replay.specs.Ends.{fault_line, end_fault, end_line}
 use Rattle.replay.proofs.Records.{Found, found, line_in, state_in, ran_call, ran_refused}
 use Rattle.whole_listing.specs.Listing.{calls_listing}

@@ -2,23 +2,22 @@
 -- nothing.
 use Prim.Native.Nat.{ℕ, zero, suc, ◌*◌, ◌^◌, ◌≤◌, ◌<◌}
 use mathlib.Core.Path.{◌≡◌, refl, ap, sym, ◌∙◌}
-use mathlib.Core.Bool.{Bool, true, false, cond, not, ◌&&◌, ◌||◌}
+use mathlib.Core.Bool.{Bool, true, false, not, ◌&&◌, ◌||◌}
 use mathlib.Core.List.{List, ◌++◌}
 use native.Mathlib.Omega.{arith}
-use borrow.Author.Tests.{leb-true, le-leb, eqb-true, eqb-false, eq-eqb, ne_eqb}
+use borrow.Author.Tests.{leb-true, eq-eqb, ne_eqb}
 use lib.Dec.{leb, eqb, ltb, eqb-suc-zero}
-use lib.ListN.{length, get_or, take, drop, length-append, length-drop, get_or-append}
+use lib.ListN.{length, get_or, drop, length-append, length-drop, get_or-append}
 use lib.Seq.{slice, take-append-le, drop-append-le}
-use Rattle.refusals.specs.Due.{AsNumbers, due, first_of}
+use Rattle.refusals.specs.Due.{due, first_of}
 use Rattle.encoding.specs.Buffers.{short_fault}
 use Rattle.encoding.proofs.Room.{enough_at}
 use Rattle.plans.specs.declared.Entry.{Entry}
-use Rattle.plans.specs.declared.Plan.{Plan}
 use Rattle.plans.specs.Entries.{max_processors, max_resources, max_entries, is_read, is_write}
 use Rattle.plans.specs.Entries.{counts_size, entry_size, entry_size_of, largest_entry, section_size, counted_entries}
 use Rattle.plans.specs.Acceptance.{within, processors_fault, resources_fault, count_fault, counts_fault, kind_fault}
-use Rattle.plans.specs.Acceptance.{set_fault, length_fault, entry_fault}
-use Rattle.plans.specs.Reading.{entry_in, entries_in, section_fault, read_fault, blank_plan, plan_in, read_as_numbers, plan_read}
+use Rattle.plans.specs.Acceptance.{set_fault, entry_fault}
+use Rattle.plans.specs.Reading.{entry_in, entries_in, section_fault, read_fault, plan_in, read_as_numbers, plan_read}
 use Rattle.plans.proofs.Sizes.{entry_size_least, entry_size_most, entry_size_due}
 use Rattle.plans.proofs.EntryBytes.{first_there, later_there}
 use Rattle.plans.proofs.PlanBytes.{counted_plan_in}

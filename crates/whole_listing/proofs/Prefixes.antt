@@ -1,8 +1,8 @@
 -- What is written before a piece arrives stays at the front of what is written after it: it depends on the earlier
 -- pieces alone. Assumes nothing.
-use Prim.Native.Nat.{ℕ, zero, suc, ◌≤◌, ◌<◌}
+use Prim.Native.Nat.{ℕ, zero, suc, ◌≤◌}
 use mathlib.Core.Path.{◌≡◌, refl, ap, sym, ◌∙◌}
-use mathlib.Core.Bool.{Bool, true, false, cond, not}
+use mathlib.Core.Bool.{Bool, true, false}
 use mathlib.Core.List.{List, [], ◌∷◌, ◌++◌, append_assoc, append-nil}
 use native.Mathlib.Omega.{arith}
 use borrow.Author.Tests.{leb-true, leb-false, eqb-true}
@@ -16,7 +16,7 @@ use Rattle.rules.specs.declared.states.State.{State}
 use Rattle.rules.specs.CallNumbers.{Fields, call_of}
 use Rattle.rules.specs.Calls.{answered}
 use Rattle.boards.specs.Fresh.{board_of, fresh_state}
-use Rattle.logs.specs.Records.{count_size, record_size, read_count, record_fault}
+use Rattle.logs.specs.Records.{count_size, record_size, read_count}
 use Rattle.listings.specs.Lines.{first_line, call_line}
 use Rattle.replay.proofs.Records.{Found, found, line_in, state_in}
 use Rattle.whole_listing.specs.SoFar.{Begins}

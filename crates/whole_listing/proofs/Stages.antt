@@ -1,7 +1,7 @@
 -- What the bytes of a log give, with the input closed after them or still open: the whole listing, or the lines so far.
 -- Assumes nothing.
 use Prim.Native.Nat.{ℕ}
-use mathlib.Core.Path.{◌≡◌, refl, ap, sym, ◌∙◌}
+use mathlib.Core.Path.{◌≡◌, refl}
 use mathlib.Core.Bool.{Bool, true, false, cond, not, ◌||◌}
 use mathlib.Core.List.{List, [], ◌++◌}
 use lib.Dec.{eqb, leb}
@@ -14,7 +14,7 @@ use Rattle.logs.specs.Records.{count_size, read_count}
 use Rattle.listings.specs.PlainLines.{refusal_line}
 use Rattle.listings.specs.Lines.{first_line}
 use Rattle.log_input.specs.Stages.{is_short}
-use Rattle.whole_listing.specs.Listing.{counted_listing, listing_of}
+use Rattle.whole_listing.specs.Listing.{listing_of}
 use Rattle.whole_listing.specs.SoFar.{counted_so_far, listing_so_far}
 use Rattle.whole_listing.specs.Arrivals.{plan_there, count_there}
 use Rattle.whole_listing.proofs.Calls.{calls_by, closed_calls, open_calls}

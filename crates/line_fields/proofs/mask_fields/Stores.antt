@@ -1,9 +1,9 @@
 -- Storing the digits of masks: a pair, a mask's two low bytes, a whole mask, both masks. Assumes nothing.
-use Prim.Native.Nat.{ℕ, suc, ◌+◌, ◌*◌, ◌/◌, ◌%◌, ◌<◌}
+use Prim.Native.Nat.{ℕ, suc, ◌+◌, ◌/◌, ◌%◌, ◌<◌}
 use native.Mathlib.Omega.{arith}
 use mathlib.Core.Path.{◌≡◌, refl, ◌∙◌}
-use mathlib.Core.List.{List, ◌∷◌}
-use lib.ListN.{length, get_or, set}
+use mathlib.Core.List.{List}
+use lib.ListN.{get_or, set}
 use lib.Seq.{sets}
 use Rattle.encoding.specs.Numbers.{bytes_of}
 use Rattle.digits.specs.Digits.{mask_in, mask_by}
