@@ -175,7 +175,7 @@ module _ (b : Board) (s : State) where
   accepted_reach_fills_scratch p scratch ok = rw ok
 
   -- The list of the whole board: only 16 refuses it. Each processor's part is what the single queries answer for it:
-  -- part-is-queries, above.
+  -- `part_is_queries`, above.
   pub refused_list_changes_nothing : (buffer : List ℕ) → 0 < board_fault b buffer
       → (board_query b buffer ≡ record { number = board_fault b buffer; value = 0 })
       × (board_buffer b s buffer ≡ buffer)

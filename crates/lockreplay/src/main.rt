@@ -38,9 +38,11 @@ fn feed(streams: &mut Streams, block: &mut [u8], have: usize, needed: usize) -> 
 {
     let fed = fill_to(&mut streams.input, block, have, needed);
     if fed.failed {
-        streams
-            .input
-            .tell(&streams.rt, "lockreplay: standard input");
+        tell(
+            &streams.rt,
+            "lockreplay: standard input",
+            streams.input.reason,
+        );
     }
     fed
 }
@@ -63,7 +65,7 @@ fn put(rt: &HostRuntime, lines: &[u8]) -> bool {
     match write_whole(rt, lines) {
         Ok(()) => true,
         Err(reason) => {
-            tell(rt, "lockreplay: standard output", reason);
+            tell(rt, "lockreplay: standard output", Some(reason));
             false
         }
     }
@@ -202,9 +204,11 @@ fn replay(streams: &mut Streams) {
     let mut out = [0u8; LINES_ROOM];
     let fed = fill_plan(&mut streams.input, &mut plan);
     if fed.failed {
-        streams
-            .input
-            .tell(&streams.rt, "lockreplay: standard input");
+        tell(
+            &streams.rt,
+            "lockreplay: standard input",
+            streams.input.reason,
+        );
     } else {
         let filled = fed.have;
         replay_log(streams, &plan[..filled], &mut block, &mut out);
@@ -233,7 +237,10 @@ fn main(rt: HostRuntime) {
     } else {
         let mut streams = Streams {
             rt: rt,
-            input: Source::new(rt.stdin()),
+            input: Source {
+                input: rt.stdin(),
+                reason: None,
+            },
         };
         replay(&mut streams);
     }

@@ -1,6 +1,6 @@
 // The log as it arrives, by value: the program waits for no more bytes than it needs to go on. A failed read is
 // reported here.
-use log_input::{Fed, Source, bring_to_front, fill_plan, fill_to};
+use log_input::{Fed, Source, bring_to_front, fill_plan, fill_to, tell};
 use std::io::Stdin;
 
 // More than the size of the longest plan.
@@ -23,7 +23,7 @@ fn input_of(
     ended: bool,
 ) -> Input {
     if fed.failed {
-        source.tell(rt, "query_listing: standard input");
+        tell(rt, "query_listing: standard input", source.reason);
     }
     Input {
         bytes: bytes,

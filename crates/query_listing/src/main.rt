@@ -166,7 +166,10 @@ fn print_plan(rt: &HostRuntime, input: Input) -> Begun {
 
 // A failed read leaves less than a plan.
 fn main(rt: HostRuntime) {
-    let mut source = Source::new(rt.stdin());
+    let mut source = Source {
+        input: rt.stdin(),
+        reason: None,
+    };
     let input = opening(&rt, &mut source);
     let begun = print_plan(&rt, input);
     let outcome = begun.outcome;

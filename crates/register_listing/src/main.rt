@@ -9,7 +9,7 @@ mod text;
 
 use driver::{read_lent, write_lent};
 use encoding::Outcome;
-use log_input::{Source, bring_to_front, fill_plan, fill_to};
+use log_input::{Source, bring_to_front, fill_plan, fill_to, tell};
 use plans::Plan;
 use refusals::{Refusal, Verdict};
 use registers::{BLOCK, Block, ReadAnswer};
@@ -111,7 +111,7 @@ fn after(rt: &HostRuntime, source: &mut Source<Stdin>, input: Input, used: usize
     let first = bring_to_front(&mut bytes, used, input.have);
     let fed = fill_to(source, &mut bytes, first, OPERATION);
     if fed.failed {
-        source.tell(rt, "register_listing: standard input");
+        tell(rt, "register_listing: standard input", source.reason);
     }
     Input {
         bytes: bytes,
@@ -163,11 +163,14 @@ fn print_listing(rt: &HostRuntime, source: &mut Source<Stdin>, input: Input) {
 }
 
 fn main(rt: HostRuntime) {
-    let mut source = Source::new(rt.stdin());
+    let mut source = Source {
+        input: rt.stdin(),
+        reason: None,
+    };
     let mut bytes = [0u8; INPUT_ROOM];
     let fed = fill_plan(&mut source, &mut bytes);
     if fed.failed {
-        source.tell(&rt, "register_listing: standard input");
+        tell(&rt, "register_listing: standard input", source.reason);
     } else {
         let input = Input {
             bytes: bytes,
