@@ -8,6 +8,7 @@ pub use Rattle.demands.proofs.Handover.{handover_grants, handover_entitles}
 pub use Rattle.runs.proofs.refinement.WholeRuns.{whole_runs}
 pub use Rattle.runs.proofs.Freedom.{no_deadlock}
 pub use Rattle.runs.proofs.NeverHolds.{withdrawn_never_holds}
+pub use Rattle.runs.proofs.InPlace.{in_place_is_by_value}
 pub use Rattle.queries.proofs.WholeBoard.{part_is_queries}
 pub use Rattle.register_runs.proofs.Runs.{pending_are_grants, grant_stays, line_is_right, calls_of_run, register_runs}
 pub use Rattle.register_runs.proofs.Lent.{lent_write_is_write}
@@ -34,7 +35,6 @@ use Rattle.rules.specs.Faults.{processor_fault, issue_fault, complete_fault, wit
 use Rattle.rules.specs.Calls.{Answer, phases_of, put_state, taken_state, settled_done, late_mark, ruled, issued, left}
 use Rattle.rules.specs.Calls.{completed, withdrawn, both, handed_over, answered}
 use Rattle.boards.specs.Fresh.{board_of, blank_board, fresh_board}
-use Rattle.rules.specs.InPlace.{board_by, state_by}
 use Rattle.queries.specs.Queries.{reach_fault, reach_bytes, reach_query, reach_scratch}
 use Rattle.board_list.specs.Listing.{list_buffer}
 use Rattle.queries.specs.WholeBoard.{board_bytes, board_fault, board_query, board_buffer}
@@ -144,17 +144,6 @@ module _ (b : Board) (s : State) where
 
   pub accepted_call_is_carried_out : (c : Call) → call_fault b s c ≡ 0 → answered b s c ≡ carried_out b s c
   accepted_call_is_carried_out c ok = call_is_ruled c ∙ rw ok
-
-  -- A call in place on the lent parts of a board and a state answers what the call by value answers.
-  pub in_place_is_by_value : (c : Call)
-      → answered (board_by b.terms b.rows b.lengths)
-      (state_by (record { last = s.last; phases = s.phases }) s.requested s.since s.earlier) c
-      ≡ answered b s c
-  unfolding put_state taken_state settled_done issued left completed withdrawn both handed_over
-  in_place_is_by_value (Call.Issue p e t) = refl
-  in_place_is_by_value (Call.Complete p t) = refl
-  in_place_is_by_value (Call.Withdraw p t) = refl
-  in_place_is_by_value (Call.Handover p e t) = refl
 
   -- This also covers the state of a processor and its direct waits: each answer is made of the number that is due and
   -- the value.
