@@ -2,13 +2,13 @@
 ghost use Rattle.std.specs.Prelude.{◌<◌};
 
 use crate::board::plan;
-use encoding::Outcome;
 use plans::{Entry, MAX_PLAN_BYTES};
+use refusals::Refusal;
 
-fn taken(outcome: Outcome) -> u64 {
+fn taken(outcome: Result<usize, Refusal>) -> u64 {
     match outcome {
-        Outcome::Bytes(size) => size as u64,
-        Outcome::Refused(_) => 0,
+        Ok(size) => size as u64,
+        Err(_) => 0,
     }
 }
 

@@ -3,7 +3,7 @@
 ghost use Rattle.std.specs.Prelude.{◌<◌, ◌≤◌};
 
 use crate::board::plan;
-use rules::{Board, Moment, Reply, State};
+use rules::{Done, Board, Moment, Reply, State};
 
 // The next number of a fixed sequence.
 fn next(seed: u64) -> u64 {
@@ -40,13 +40,13 @@ fn holder_from(holding: u32, place: u32) -> u32
 
 fn mixed(sum: u64, reply: Reply) -> u64 {
     match reply {
-        Reply::Done {
+        Ok(Done {
             granted,
             entitled,
             late,
-        } => (sum % 4294967296 * 31 + granted as u64 * 65536 + entitled as u64 * 2 + late as u64)
+        }) => (sum % 4294967296 * 31 + granted as u64 * 65536 + entitled as u64 * 2 + late as u64)
             % 4294967296,
-        Reply::Refused(_) => sum,
+        Err(_) => sum,
     }
 }
 

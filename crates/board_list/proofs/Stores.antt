@@ -1,4 +1,5 @@
 -- The stores of the whole list, and the answer after them. Assumes nothing.
+use Rattle.std.specs.Prelude.{Result, Ok, Err}
 use Prim.Native.Nat.{ℕ, ◌+◌, ◌≤◌, ◌<◌}
 use mathlib.Core.Path.{◌≡◌, refl, sym, ap, ◌∙◌}
 use mathlib.Core.List.{List, ◌∷◌}
@@ -6,7 +7,6 @@ use native.Mathlib.Omega.{arith}
 use lib.ListN.{length, set}
 use lib.Seq.{sets}
 use Rattle.refusals.specs.declared.Refusal.{Refusal}
-use Rattle.refusals.specs.declared.Verdict.{Verdict}
 use Rattle.refusals.specs.Number.{number_of, verdict_number}
 use Rattle.refusals.specs.Due.{AsNumbers, as_numbers}
 use Rattle.refusals.proofs.Numbers.{number_not_zero}
@@ -18,8 +18,8 @@ use Rattle.encoding.specs.InTurn.{in_turn}
 use Rattle.encoding.proofs.InTurn.{in_turn_agree, length_in_turn}
 use Rattle.board_list.specs.Listing.{list_bytes, list_fault, list_buffer}
 
-pub room_for_list : (k count size : ℕ) (verdict : Verdict) → verdict_number verdict ≡ room_fault (list_size k count) size 0
-    → verdict ≡ Verdict.Accepted → list_size k count ≤ size
+pub room_for_list : (k count size : ℕ) (verdict : Result Unit Refusal) → verdict_number verdict ≡ room_fault (list_size k count) size 0
+    → verdict ≡ Ok tt → list_size k count ≤ size
 room_for_list k count size verdict checked e =
     omega (arith, room_fits (list_size k count) size 0 (sym checked ∙ ap verdict_number e))
 
@@ -33,12 +33,12 @@ module _ (k : ℕ) (f : ℕ → List ℕ) (size : (p : ℕ) → length (f p) ≡
       sets_overwritten l 0 (m ∷ in_turn m f) whole
 
   -- The answer and the content of the buffer, with room and without.
-  module _ (m : ℕ) (verdict : Verdict) (checked : verdict_number verdict ≡ room_fault (list_size k m) (length l) 0) where
+  module _ (m : ℕ) (verdict : Result Unit Refusal) (checked : verdict_number verdict ≡ room_fault (list_size k m) (length l) 0) where
     due_here : (n : ℕ) → verdict_number verdict ≡ n → list_fault k m l ≡ n
     unfolding list_fault
     due_here n e = sym checked ∙ e
 
-    pub list_written : verdict ≡ Verdict.Accepted → (after : List ℕ) → after ≡ sets (set l 0 m) 1 (in_turn m f)
+    pub list_written : verdict ≡ Ok tt → (after : List ℕ) → after ≡ sets (set l 0 m) 1 (in_turn m f)
         → (◌≡◌ {A = AsNumbers} (record { number = 0; value = list_size k m })
         (as_numbers (list_fault k m l) (list_size k m)))
         × (after ≡ list_buffer k m f l)
@@ -47,7 +47,7 @@ module _ (k : ℕ) (f : ℕ → List ℕ) (size : (p : ℕ) → length (f p) ≡
         let none : list_fault k m l ≡ 0 = due_here 0 (ap verdict_number e) in
         rw none (refl, stored ∙ list_stores m (room_for_list k m (length l) verdict checked e))
 
-    pub list_refused : (r : Refusal) → verdict ≡ Verdict.Refused r
+    pub list_refused : (r : Refusal) → verdict ≡ Err r
         → (◌≡◌ {A = AsNumbers} (record { number = number_of r; value = 0 }) (as_numbers (list_fault k m l) (list_size k m)))
         × (l ≡ list_buffer k m f l)
     unfolding list_buffer

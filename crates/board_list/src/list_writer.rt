@@ -12,10 +12,10 @@ ghost use Rattle.board_list.specs.Listing.{part_in, list_fault, list_buffer};
 use crate::list_fields::{entry_at, state_at, waited_at};
 use crate::list_parts::store_part;
 use crate::list_sizes::{PART_FIXED_BYTES, list_size, listed};
-use encoding::{Outcome, check_room};
+use encoding::check_room;
 use plans::{MAX_PROCESSORS, mask_size};
-use refusals::Verdict;
 use rules::Phases;
+use refusals::Refusal;
 
 // Stores the parts of the first count processors, from byte 1.
 fn store_parts(
@@ -62,7 +62,7 @@ pub fn write(
     since: &[u64; MAX_PROCESSORS],
     waits: &[u32; MAX_PROCESSORS],
     buffer: &mut [u8],
-) -> Outcome
+) -> Result<usize, Refusal>
     ensures outcome { outcome_as_numbers result ≡ as_numbers
         (list_fault (mask_size_for processors) (listed_of processors) buffer.old)
         (list_size (mask_size_for processors) (listed_of processors)) }
@@ -76,11 +76,11 @@ pub fn write(
     let needed = list_size(processors);
     let verdict = check_room(needed, buffer.len(), 0);
     match verdict {
-        Verdict::Accepted => {
+        Ok(()) => {
             buffer[0] = count as u8;
             store_parts(size, count, phases, last, requested, since, waits, buffer);
-            Outcome::Bytes(needed)
+            Ok(needed)
         }
-        Verdict::Refused(refusal) => Outcome::Refused(refusal),
+        Err(refusal) => Err(refusal),
     }
 }

@@ -4,22 +4,20 @@
 #![tactic(auto)]
 
 ghost use Rattle.std.specs.Prelude.{◌≡◌, cond, ◌&&◌, ltb};
-ghost use Rattle.refusals.specs.Number.{verdict_number};
 ghost use Rattle.plans.specs.Entries.{max_entries, is_write};
 ghost use Rattle.plans.specs.Acceptance.{plan_fault};
-ghost use Rattle.boards.specs.Fresh.{fresh_state, board_of, blank_board, fresh_board};
+ghost use Rattle.boards.specs.Fresh.{fresh_state, board_of, fresh_board, fresh_number, board_made, state_made};
 
 use conflicts::conflicts_of;
 use masks::add64;
 use plan_checks::check;
 use plans::{Entry, MAX_ENTRIES, MAX_PROCESSORS, Plan, is_write};
-use refusals::Verdict;
 use rules::{Board, Phases, State, Terms};
+use refusals::Refusal;
 
-// A fresh arbiter of a plan, or the refusal of the plan.
+// A fresh arbiter: its board, and the state in which nobody is active.
 #[derive(Clone, Copy)]
 pub struct Fresh {
-    pub verdict: Verdict,
     pub board: Board,
     pub state: State,
 }
@@ -91,27 +89,6 @@ fn board_of(plan: Plan) -> Board
     }
 }
 
-// The board that is returned with a refusal.
-fn blank_board() -> Board
-    ensures { result ≡ blank_board }
-{
-    let lengths = [0; MAX_ENTRIES];
-    let names = [0; MAX_ENTRIES];
-    let widened = [0; MAX_ENTRIES];
-    let rows = [0; MAX_ENTRIES];
-    Board {
-        terms: Terms {
-            processors: 0,
-            count: 0,
-            writes: 0,
-        },
-        lengths: lengths,
-        names: names,
-        widened: widened,
-        rows: rows,
-    }
-}
-
 // Clause 4.3: nobody is active, and the last accepted tick is 0.
 fn fresh_state() -> State
     ensures { result ≡ fresh_state }
@@ -133,29 +110,14 @@ fn fresh_state() -> State
 }
 
 // A fresh arbiter of the plan, or a refusal with 3 to 8.
-pub fn fresh_of(plan: Plan) -> Fresh
-    ensures verdict { verdict_number result.verdict ≡ plan_fault plan }
-    ensures board { result.board ≡ fresh_board plan }
-    ensures state { result.state ≡ fresh_state }
+pub fn fresh_of(plan: Plan) -> Result<Fresh, Refusal>
+    ensures verdict { fresh_number result ≡ plan_fault plan }
+    ensures board { board_made result ≡ fresh_board plan }
+    ensures state { state_made result ≡ fresh_state }
 {
-    let state = fresh_state();
-    let verdict = check(plan);
-    match verdict {
-        Verdict::Accepted => {
-            let board = board_of(plan);
-            Fresh {
-                verdict: Verdict::Accepted,
-                board: board,
-                state: state,
-            }
-        }
-        Verdict::Refused(refusal) => {
-            let board = blank_board();
-            Fresh {
-                verdict: Verdict::Refused(refusal),
-                board: board,
-                state: state,
-            }
-        }
-    }
+    check(plan)?;
+    Ok(Fresh {
+        board: board_of(plan),
+        state: fresh_state(),
+    })
 }

@@ -6,7 +6,6 @@ ghost use Rattle.queries.specs.Answers.{phase_as_numbers, mask_as_numbers};
 ghost use Rattle.c_boards.specs.Answers.{c_answer_as_numbers};
 
 use crate::CAnswer;
-use queries::{MaskAnswer, PhaseAnswer, phase_number};
 use refusals::Refusal;
 
 // A refusal: its number, and 0 as the value.
@@ -14,33 +13,33 @@ fn refusal_for_c(refusal: Refusal) -> CAnswer
     ensures { c_answer_as_numbers result ≡ record { number = number_of refusal; value = 0 } }
 {
     CAnswer {
-        refusal: refusals::number(refusal) as u32,
+        refusal: u8::from(refusal) as u32,
         value: 0,
     }
 }
 
 // The number of a processor's state, or the refusal.
-pub fn phase_for_c(answer: PhaseAnswer) -> CAnswer
+pub fn phase_for_c(answer: Result<Phase, Refusal>) -> CAnswer
     ensures { c_answer_as_numbers result ≡ phase_as_numbers answer }
 {
     match answer {
-        PhaseAnswer::Is(phase) => CAnswer {
+        Ok(phase) => CAnswer {
             refusal: 0,
             value: phase_number(phase) as u64,
         },
-        PhaseAnswer::Refused(refusal) => refusal_for_c(refusal),
+        Err(refusal) => refusal_for_c(refusal),
     }
 }
 
 // A mask of processors, or the refusal.
-pub fn mask_for_c(answer: MaskAnswer) -> CAnswer
+pub fn mask_for_c(answer: Result<u32, Refusal>) -> CAnswer
     ensures { c_answer_as_numbers result ≡ mask_as_numbers answer }
 {
     match answer {
-        MaskAnswer::Mask(mask) => CAnswer {
+        Ok(mask) => CAnswer {
             refusal: 0,
             value: mask as u64,
         },
-        MaskAnswer::Refused(refusal) => refusal_for_c(refusal),
+        Err(refusal) => refusal_for_c(refusal),
     }
 }

@@ -1,6 +1,7 @@
 -- What a call from C or Rust returns, and what it leaves in the caller's memory. Specification, sections 4 and 11.
+use Rattle.std.specs.Prelude.{Result, Ok, Err}
+use Rattle.refusals.specs.declared.Refusal.{Refusal}
 use Rattle.std.specs.Prelude.{ℕ, List}
-use Rattle.rules.specs.declared.calls.Reply.{Reply}
 use Rattle.rules.specs.Replies.{Response}
 use Rattle.rules.specs.declared.states.Moment.{Moment}
 use Rattle.rules.specs.Calls.{Answer}
@@ -14,9 +15,9 @@ response r = record { number = r.refusal; granted = r.granted; entitled = r.enti
 
 -- Clauses 11.3 and 4.6: the moment that is left: the one after the call if it was carried out, and the one before if it
 -- was refused.
-abbrev pub moment_left : Reply → Moment → Moment → Moment
-moment_left (Reply.Done granted entitled late) after before = after
-moment_left (Reply.Refused r) after before = before
+abbrev pub moment_left : Result Done Refusal → Moment → Moment → Moment
+moment_left (Ok d) after before = after
+moment_left (Err r) after before = before
 
 -- Clause 11.3: the answer: what the call returns, with the caller's memory as it leaves it.
 abbrev pub answer_in : CReply → ℕ → List ℕ → List ℕ → List ℕ → List ℕ → Answer

@@ -8,7 +8,7 @@ ghost use Rattle.c_calls.specs.Replies.{response, moment_left};
 
 use c_boards::store_moment;
 use refusals::Refusal;
-use rules::{Changed, Reply};
+use rules::{Done, Changed, Reply};
 
 // A reply in numbers: the number of the refusal, 0 if the call is accepted; the granted and the entitled mask; late.
 // With a refusal the other three are 0.
@@ -38,7 +38,7 @@ fn refused(refusal: Refusal) -> CReply
     ensures { response result ≡ refused_with (number_of refusal) }
 {
     CReply {
-        refusal: refusals::number(refusal) as u32,
+        refusal: u8::from(refusal) as u32,
         granted: 0,
         entitled: 0,
         late: 0,
@@ -54,15 +54,15 @@ pub fn store_and_reply(changed: Changed, last: &mut u64, phases: &mut [u32; 3]) 
 {
     let reply = changed.reply;
     match reply {
-        Reply::Done {
+        Ok(Done {
             granted,
             entitled,
             late,
-        } => {
+        }) => {
             let after = changed.moment;
             store_moment(after, last, phases);
             done(granted, entitled, late)
         }
-        Reply::Refused(refusal) => refused(refusal),
+        Err(refusal) => refused(refusal),
     }
 }

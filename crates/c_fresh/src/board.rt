@@ -4,12 +4,12 @@ ghost use Rattle.c_boards.specs.Parts.{terms_by, board_in};
 ghost use Rattle.c_fresh.specs.Stores.{board_left};
 
 use boards::fresh_of;
-use encoding::Outcome;
 use plans::{MAX_ENTRIES, Plan};
+use refusals::Refusal;
 
 // Stores the board of the plan, if one was read.
 pub fn store_board(
-    outcome: Outcome,
+    outcome: Result<usize, Refusal>,
     plan: Plan,
     processors: &mut u8,
     entries: &mut u8,
@@ -26,7 +26,7 @@ pub fn store_board(
         lengths.old names.old widened.old rows.old) }
 {
     match outcome {
-        Outcome::Bytes(_) => {
+        Ok(_) => {
             let fresh = fresh_of(plan);
             let board = fresh.board;
             let terms = board.terms;
@@ -42,6 +42,6 @@ pub fn store_board(
             *widened = new_widened;
             *rows = new_rows;
         }
-        Outcome::Refused(_) => {}
+        Err(_) => {}
     }
 }

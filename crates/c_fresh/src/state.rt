@@ -4,12 +4,12 @@ ghost use Rattle.rules.specs.InPlace.{state_by};
 ghost use Rattle.c_boards.specs.Parts.{moment_by};
 ghost use Rattle.c_fresh.specs.Stores.{state_left};
 
-use encoding::Outcome;
 use plans::MAX_PROCESSORS;
+use refusals::Refusal;
 
 // Clause 4.3: stores the state with no active request and 0 as the last accepted tick.
 pub fn store_state(
-    outcome: Outcome,
+    outcome: Result<usize, Refusal>,
     last: &mut u64,
     phases: &mut [u32; 3],
     requested: &mut [u8; MAX_PROCESSORS],
@@ -23,13 +23,13 @@ pub fn store_state(
         requested.old since.old earlier.old) }
 {
     match outcome {
-        Outcome::Bytes(_) => {
+        Ok(_) => {
             *last = 0;
             *phases = [0, 0, 0];
             *requested = [0; MAX_PROCESSORS];
             *since = [0; MAX_PROCESSORS];
             *earlier = [0; MAX_PROCESSORS];
         }
-        Outcome::Refused(_) => {}
+        Err(_) => {}
     }
 }

@@ -8,8 +8,9 @@ ghost use Rattle.c_queries.specs.Shared.{c_conflict_as_numbers};
 
 use conflicts::Conflict;
 use plans::MAX_ENTRIES;
-use queries::{SharedAnswer, shared_on};
+use queries::shared_on;
 use rules::Terms;
+use refusals::Refusal;
 
 // The number of the refusal, 0 if there is none; 1 for a conflict, with the lowest shared resource and how many are
 // shared.
@@ -22,17 +23,17 @@ pub struct CConflict {
     pub count: u32,
 }
 
-fn conflict_for_c(conflict: Conflict) -> CConflict
+fn conflict_for_c(conflict: Option<Conflict>) -> CConflict
     ensures { c_conflict_as_numbers result ≡ record { number = 0; conflict = conflict_as_numbers conflict } }
 {
     match conflict {
-        Conflict::None => CConflict {
+        None => CConflict {
             refusal: 0,
             conflict: 0,
             lowest: 0,
             count: 0,
         },
-        Conflict::Over { lowest, count } => CConflict {
+        Some(Conflict { lowest, count }) => CConflict {
             refusal: 0,
             conflict: 1,
             lowest: lowest as u32,
@@ -41,13 +42,13 @@ fn conflict_for_c(conflict: Conflict) -> CConflict
     }
 }
 
-fn shared_for_c(answer: SharedAnswer) -> CConflict
+fn shared_for_c(answer: Result<Option<Conflict>, Refusal>) -> CConflict
     ensures { c_conflict_as_numbers result ≡ shared_as_numbers answer }
 {
     match answer {
-        SharedAnswer::Is(conflict) => conflict_for_c(conflict),
-        SharedAnswer::Refused(refusal) => CConflict {
-            refusal: refusals::number(refusal) as u32,
+        Ok(conflict) => conflict_for_c(conflict),
+        Err(refusal) => CConflict {
+            refusal: u8::from(refusal) as u32,
             conflict: 0,
             lowest: 0,
             count: 0,

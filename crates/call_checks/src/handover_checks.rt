@@ -5,7 +5,7 @@ ghost use Rattle.refusals.specs.Number.{verdict_number};
 ghost use Rattle.rules.specs.Faults.{handover_fault};
 
 use crate::conditions::{is_active, is_counted, is_in_time, is_unsatisfied};
-use refusals::{Refusal, Verdict, refuse_unless};
+use refusals::{Refusal, refuse_unless};
 use rules::{Phases, Terms};
 
 // Clause 4.5: refuses with 10, 11, 12, 14, 15, in this order.
@@ -16,22 +16,22 @@ pub fn check_handover(
     processor: u8,
     entry: u8,
     tick: u64,
-) -> Verdict
+) -> Result<(), Refusal>
     ensures { verdict_number result ≡ handover_fault terms last phases processor entry tick }
 {
     if !is_in_time(last, tick) {
-        return Verdict::Refused(Refusal::Tick);
+        return Err(Refusal::Tick);
     }
     if !is_counted(terms, processor) {
-        return Verdict::Refused(Refusal::Processor);
+        return Err(Refusal::Processor);
     }
     let listed = entry < terms.count;
     let active = is_active(phases, processor);
     if !listed {
-        return Verdict::Refused(Refusal::Entry);
+        return Err(Refusal::Entry);
     }
     if !active {
-        return Verdict::Refused(Refusal::Idle);
+        return Err(Refusal::Idle);
     }
     refuse_unless(!is_unsatisfied(phases, processor), Refusal::Unheld)
 }

@@ -5,7 +5,7 @@ ghost use Rattle.refusals.specs.Number.{verdict_number};
 ghost use Rattle.rules.specs.Faults.{issue_fault};
 
 use crate::conditions::{is_active, is_counted, is_in_time};
-use refusals::{Refusal, Verdict};
+use refusals::Refusal;
 use rules::{Phases, Terms};
 
 // Clause 4.5: refuses with 10, 11, 12, 13, in this order. It returns at the first fault, so an accepted call pays only
@@ -17,20 +17,20 @@ pub fn check_issue(
     processor: u8,
     entry: u8,
     tick: u64,
-) -> Verdict
+) -> Result<(), Refusal>
     ensures { verdict_number result ≡ issue_fault terms last phases processor entry tick }
 {
     if !is_in_time(last, tick) {
-        return Verdict::Refused(Refusal::Tick);
+        return Err(Refusal::Tick);
     }
     if !is_counted(terms, processor) {
-        return Verdict::Refused(Refusal::Processor);
+        return Err(Refusal::Processor);
     }
     if terms.count <= entry {
-        return Verdict::Refused(Refusal::Entry);
+        return Err(Refusal::Entry);
     }
     if is_active(phases, processor) {
-        return Verdict::Refused(Refusal::Busy);
+        return Err(Refusal::Busy);
     }
-    Verdict::Accepted
+    Ok(())
 }

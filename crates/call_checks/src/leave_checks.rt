@@ -7,7 +7,7 @@ ghost use Rattle.rules.specs.Faults.{take_fault, complete_fault, withdraw_fault}
 
 use crate::conditions::{is_active, is_counted, is_in_time, is_unsatisfied};
 use masks::has32;
-use refusals::{Refusal, Verdict, refuse_unless};
+use refusals::{Refusal, refuse_unless};
 use rules::{Phases, Terms};
 
 // Clause 4.5, for a call that removes the processor's request: refuses with 10, 11, 14, then with the number that is
@@ -20,23 +20,23 @@ fn check_taken(
     tick: u64,
     passes: bool,
     refusal: Refusal,
-) -> Verdict
+) -> Result<(), Refusal>
     ensures { verdict_number result ≡ take_fault terms last phases processor tick (due passes (number_of refusal)) }
 {
     if !is_in_time(last, tick) {
-        return Verdict::Refused(Refusal::Tick);
+        return Err(Refusal::Tick);
     }
     if !is_counted(terms, processor) {
-        return Verdict::Refused(Refusal::Processor);
+        return Err(Refusal::Processor);
     }
     if !is_active(phases, processor) {
-        return Verdict::Refused(Refusal::Idle);
+        return Err(Refusal::Idle);
     }
     refuse_unless(passes, refusal)
 }
 
 // Clause 4.5: refuses with 10, 11, 14, 15, in this order.
-pub fn check_complete(terms: Terms, last: u64, phases: Phases, processor: u8, tick: u64) -> Verdict
+pub fn check_complete(terms: Terms, last: u64, phases: Phases, processor: u8, tick: u64) -> Result<(), Refusal>
     ensures { verdict_number result ≡ complete_fault terms last phases processor tick }
 {
     let held = !is_unsatisfied(phases, processor);
@@ -44,7 +44,7 @@ pub fn check_complete(terms: Terms, last: u64, phases: Phases, processor: u8, ti
 }
 
 // Clause 4.5: refuses with 10, 11, 14, 17, in this order.
-pub fn check_withdraw(terms: Terms, last: u64, phases: Phases, processor: u8, tick: u64) -> Verdict
+pub fn check_withdraw(terms: Terms, last: u64, phases: Phases, processor: u8, tick: u64) -> Result<(), Refusal>
     ensures { verdict_number result ≡ withdraw_fault terms last phases processor tick }
 {
     let unheld = !has32(phases.holding, processor as u32);

@@ -1,4 +1,5 @@
 -- The answers to the calls, built from the results of their parts. Assumes nothing.
+use Rattle.std.specs.Prelude.{Result, Ok, Err}
 use mathlib.Core.Path.{◌≡◌, refl, sym, ap, ap₂, ◌∙◌}
 use mathlib.Core.Bool.{cond}
 use mathlib.Core.List.{List}
@@ -8,7 +9,6 @@ use lib.Dec.{ltb}
 use lib.ListN.{get_or, set}
 use borrow.Author.Tests.{ltb-true}
 use Rattle.refusals.specs.declared.Refusal.{Refusal}
-use Rattle.refusals.specs.declared.Verdict.{Verdict}
 use Rattle.refusals.specs.Number.{number_of, verdict_number}
 use Rattle.refusals.specs.Due.{first_of}
 use Rattle.refusals.proofs.Numbers.{number_not_zero, first_accepted, due_accepted}
@@ -36,12 +36,12 @@ use Rattle.rules.proofs.Halves.{first_half, issue_accepted}
 abbrev pub Unchanged : Refusal → State → Answer
 Unchanged r s = record { reply = refused_with (number_of r); state = s }
 
-ruled_accepts : (n : ℕ) (v : Verdict) (s : State) (a : Answer) → verdict_number v ≡ n → v ≡ Verdict.Accepted → a
+ruled_accepts : (n : ℕ) (v : Result Unit Refusal) (s : State) (a : Answer) → verdict_number v ≡ n → v ≡ Ok tt → a
     ≡ ruled n s a
 ruled_accepts n v s a says w = ap (λ (n : ℕ). ruled n s a) (ap verdict_number (sym w) ∙ says)
 
-ruled_refuses : (n : ℕ) (v : Verdict) (r : Refusal) (s : State) (a : Answer) → verdict_number v ≡ n → v
-    ≡ Verdict.Refused r
+ruled_refuses : (n : ℕ) (v : Result Unit Refusal) (r : Refusal) (s : State) (a : Answer) → verdict_number v ≡ n → v
+    ≡ Err r
     → Unchanged r s ≡ ruled n s a
 ruled_refuses n v r s a says w =
     ap (λ t. cond t a (Unchanged r s)) (sym (number_not_zero r))
@@ -56,7 +56,7 @@ counted_below terms last p t later e =
     (due_accepted (has_processor terms p) 11 (omega arith)
     (first_accepted (processor_fault terms p) later (first_accepted (tick_fault last t) _ e).later).first))
 
-module _ (v : Verdict) (terms : Terms) (last : ℕ) (ph : Phases) (p t : ℕ) (w : v ≡ Verdict.Accepted) where
+module _ (v : Result Unit Refusal) (terms : Terms) (last : ℕ) (ph : Phases) (p t : ℕ) (w : v ≡ Ok tt) where
   pub complete_counted : verdict_number v ≡ complete_fault terms last ph p t → p < max_processors
   unfolding complete_fault
   complete_counted says = counted_below terms last p t _ (sym says ∙ ap verdict_number w)
@@ -106,16 +106,16 @@ late_is b s p t length late eh el = el ∙ ap (λ (x : ℕ). cond (ltb x (t - ge
 
 -- ---- the calls
 
-module _ (b : Board) (s : State) (before : Phases) (cleans : before ≡ phases_of b s) (v : Verdict) where
+module _ (b : Board) (s : State) (before : Phases) (cleans : before ≡ phases_of b s) (v : Result Unit Refusal) where
   module _ (p e t : ℕ) (says : verdict_number v ≡ issue_fault b.terms s.last before p e t) where
     decides : verdict_number v ≡ issue_fault b.terms s.last (phases_of b s) p e t
     decides = says ∙ ap (λ ph. issue_fault b.terms s.last ph p e t) cleans
 
-    pub issue_refused : (r : Refusal) → v ≡ Verdict.Refused r → Unchanged r s ≡ issued b s p e t
+    pub issue_refused : (r : Refusal) → v ≡ Err r → Unchanged r s ≡ issued b s p e t
     unfolding issued
     issue_refused r w = ruled_refuses _ v r s _ decides w
 
-    pub issue_done : v ≡ Verdict.Accepted → (line : List ℕ) (a : Answer) → line ≡ put_last s.earlier before p
+    pub issue_done : v ≡ Ok tt → (line : List ℕ) (a : Answer) → line ≡ put_last s.earlier before p
         → Entered b s before line a p e t → a ≡ issued b s p e t
     unfolding issued
     issue_done w line a el eq = entered_is b s before cleans a line p e t el eq ∙ ruled_accepts _ v s _ decides w
@@ -125,21 +125,21 @@ module _ (b : Board) (s : State) (before : Phases) (cleans : before ≡ phases_o
     ends : verdict_number v ≡ number (phases_of b s)
     ends = says ∙ ap number cleans
 
-    leave_refused : (r : Refusal) → v ≡ Verdict.Refused r → Unchanged r s ≡ left b s p t (number (phases_of b s)) late
+    leave_refused : (r : Refusal) → v ≡ Err r → Unchanged r s ≡ left b s p t (number (phases_of b s)) late
     unfolding left
     leave_refused r w = ruled_refuses (number (phases_of b s)) v r s _ ends w
 
-    leave_done : v ≡ Verdict.Accepted → (a : Answer) → Gone b s before a p t late → a
+    leave_done : v ≡ Ok tt → (a : Answer) → Gone b s before a p t late → a
         ≡ left b s p t (number (phases_of b s)) late
     unfolding left
     leave_done w a eq = gone_is b s before cleans a p t late eq ∙ ruled_accepts (number (phases_of b s)) v s _ ends w
 
   module _ (p t : ℕ) (says : verdict_number v ≡ complete_fault b.terms s.last before p t) where
-    pub complete_refused : (r : Refusal) → v ≡ Verdict.Refused r → Unchanged r s ≡ completed b s p t
+    pub complete_refused : (r : Refusal) → v ≡ Err r → Unchanged r s ≡ completed b s p t
     unfolding completed
     complete_refused = leave_refused p t (late_mark b s p t) (λ ph. complete_fault b.terms s.last ph p t) says
 
-    pub complete_done : v ≡ Verdict.Accepted → (length late : ℕ) (a : Answer)
+    pub complete_done : v ≡ Ok tt → (length late : ℕ) (a : Answer)
         → length ≡ get_or b.lengths (get_or s.requested p 0) 0 → late
         ≡ cond (ltb length (t - get_or s.since p 0)) 1 0
         → Gone b s before a p t late → a ≡ completed b s p t
@@ -149,11 +149,11 @@ module _ (b : Board) (s : State) (before : Phases) (cleans : before ≡ phases_o
         ∙ ap (left b s p t (complete_fault b.terms s.last (phases_of b s) p t)) (late_is b s p t length late eh el)
 
   module _ (p t : ℕ) (says : verdict_number v ≡ withdraw_fault b.terms s.last before p t) where
-    pub withdraw_refused : (r : Refusal) → v ≡ Verdict.Refused r → Unchanged r s ≡ withdrawn b s p t
+    pub withdraw_refused : (r : Refusal) → v ≡ Err r → Unchanged r s ≡ withdrawn b s p t
     unfolding withdrawn
     withdraw_refused = leave_refused p t 0 (λ ph. withdraw_fault b.terms s.last ph p t) says
 
-    pub withdraw_done : v ≡ Verdict.Accepted → (a : Answer) → Gone b s before a p t 0 → a ≡ withdrawn b s p t
+    pub withdraw_done : v ≡ Ok tt → (a : Answer) → Gone b s before a p t 0 → a ≡ withdrawn b s p t
     unfolding withdrawn
     withdraw_done = leave_done p t 0 (λ ph. withdraw_fault b.terms s.last ph p t) says
 
@@ -161,11 +161,11 @@ module _ (b : Board) (s : State) (before : Phases) (cleans : before ≡ phases_o
     hands : verdict_number v ≡ handover_fault b.terms s.last (phases_of b s) p e t
     hands = says ∙ ap (λ ph. handover_fault b.terms s.last ph p e t) cleans
 
-    pub handover_refused : (r : Refusal) → v ≡ Verdict.Refused r → Unchanged r s ≡ handed_over b s p e t
+    pub handover_refused : (r : Refusal) → v ≡ Err r → Unchanged r s ≡ handed_over b s p e t
     unfolding handed_over
     handover_refused r w = ruled_refuses _ v r s _ hands w
 
-    module _ (w : v ≡ Verdict.Accepted) (length late : ℕ) (eh : length ≡ get_or b.lengths (get_or s.requested p 0) 0)
+    module _ (w : v ≡ Ok tt) (length late : ℕ) (eh : length ≡ get_or b.lengths (get_or s.requested p 0) 0)
         (el : late ≡ cond (ltb length (t - get_or s.since p 0)) 1 0) (a : Answer)
         (gone : Gone b s before a p t late) where
       ok : handover_fault b.terms s.last (phases_of b s) p e t ≡ 0

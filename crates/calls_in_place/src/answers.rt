@@ -7,7 +7,7 @@ ghost use Rattle.rules.specs.InPlace.{state_by, answer_by};
 
 use refusals::Refusal;
 use requests::Effect;
-use rules::{Changed, Moment, Reply};
+use rules::{Done, Changed, Moment, Reply};
 
 pub fn accepted(carried: Effect, tick: u64) -> Changed
     ensures { (requested : List ℕ) (since : List ℕ) (earlier : List ℕ)
@@ -15,11 +15,11 @@ pub fn accepted(carried: Effect, tick: u64) -> Changed
 {
     let phases = carried.phases;
     Changed {
-        reply: Reply::Done {
+        reply: Ok(Done {
             granted: carried.granted,
             entitled: carried.entitled,
             late: carried.late,
-        },
+        }),
         moment: Moment {
             last: tick,
             phases: phases,
@@ -32,7 +32,7 @@ pub fn refused(refusal: Refusal, moment: Moment) -> Changed
         ≡ record { reply = refused_with (number_of refusal); state = state_by moment requested since earlier } }
 {
     Changed {
-        reply: Reply::Refused(refusal),
+        reply: Err(refusal),
         moment: moment,
     }
 }

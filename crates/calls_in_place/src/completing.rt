@@ -8,7 +8,6 @@ ghost use Rattle.rules.specs.InPlace.{board_by, state_by, answer_by};
 use crate::answers::{accepted, refused};
 use call_checks::check_complete;
 use plans::{MAX_ENTRIES, MAX_PROCESSORS};
-use refusals::Verdict;
 use requests::{late_mark, leave, length_at};
 use rules::{Changed, Moment, Terms};
 use settling::clean;
@@ -33,8 +32,8 @@ pub fn complete_in_place(
     let before = clean(terms, *requested, given);
     let verdict = check_complete(terms, moment.last, before, processor, tick);
     match verdict {
-        Verdict::Accepted => {}
-        Verdict::Refused(refusal) => {
+        Ok(()) => {}
+        Err(refusal) => {
             return refused(refusal, moment);
         }
     }

@@ -7,7 +7,6 @@ ghost use Rattle.rules.specs.InPlace.{board_by, state_by, answer_by};
 use crate::answers::{accepted, refused};
 use call_checks::check_handover;
 use plans::{MAX_ENTRIES, MAX_PROCESSORS};
-use refusals::Verdict;
 use requests::{enter, late_mark, leave, length_at, merge, put_last};
 use rules::{Changed, Moment, Terms};
 use settling::clean;
@@ -35,8 +34,8 @@ pub fn handover_in_place(
     let before = clean(terms, *requested, given);
     let verdict = check_handover(terms, moment.last, before, processor, entry, tick);
     match verdict {
-        Verdict::Accepted => {}
-        Verdict::Refused(refusal) => {
+        Ok(()) => {}
+        Err(refusal) => {
             return refused(refusal, moment);
         }
     }

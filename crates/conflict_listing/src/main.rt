@@ -3,22 +3,21 @@
 #![tactic(auto)]
 
 use conflicts::Conflict;
-use encoding::Outcome;
 use log_input::fill_to;
 use plans::MAX_PLAN_BYTES;
-use queries::{SharedAnswer, shared_by};
+use queries::shared_by;
 use refusals::Refusal;
 use rules::Board;
 
 fn print_refusal(rt: &HostRuntime, refusal: Refusal) {
-    let number = refusals::number(refusal);
+    let number = u8::from(refusal);
     let _ = print!(rt; "refused {number}");
 }
 
-fn print_conflict(rt: &HostRuntime, conflict: Conflict) {
+fn print_conflict(rt: &HostRuntime, conflict: Option<Conflict>) {
     let _ = match conflict {
-        Conflict::None => print!(rt; "none"),
-        Conflict::Over { lowest, count } => print!(rt; "{lowest} {count}"),
+        None => print!(rt; "none"),
+        Some(Conflict { lowest, count }) => print!(rt; "{lowest} {count}"),
     };
 }
 
@@ -26,8 +25,8 @@ fn print_pair(rt: &HostRuntime, board: Board, first: u8, second: u8) {
     let _ = print!(rt; "{first} {second} ");
     let answer = shared_by(board, first, second);
     match answer {
-        SharedAnswer::Is(conflict) => print_conflict(rt, conflict),
-        SharedAnswer::Refused(refusal) => print_refusal(rt, refusal),
+        Ok(conflict) => print_conflict(rt, conflict),
+        Err(refusal) => print_refusal(rt, refusal),
     }
     let _ = println!(rt);
 }
@@ -58,13 +57,13 @@ fn main(rt: HostRuntime) {
     let read = plan_bytes::read(&bytes[..filled]);
     let outcome = read.outcome;
     match outcome {
-        Outcome::Bytes(_) => {
+        Ok(_) => {
             let plan = read.plan;
             let fresh = boards::fresh_of(plan);
             let board = fresh.board;
             print_pairs(&rt, board, plan.count);
         }
-        Outcome::Refused(refusal) => {
+        Err(refusal) => {
             print_refusal(&rt, refusal);
             let _ = println!(rt);
         }

@@ -8,42 +8,42 @@ ghost use Rattle.conflicts.specs.Sharing.{shared_by, conflict_as_numbers, over};
 
 use plans::{Entry, is_read, is_write};
 
-// No conflict, or a conflict over shared resources: the lowest-numbered of them, and how many there are.
+// What two entries conflict over: the lowest-numbered of the shared resources, and how many there are.
 #[derive(Clone, Copy)]
-pub enum Conflict {
-    None,
-    Over { lowest: u8, count: u8 },
+pub struct Conflict {
+    pub lowest: u8,
+    pub count: u8,
 }
 
 // The conflict over a set of shared resources.
-pub fn conflict_over(set: u64) -> Conflict
+pub fn conflict_over(set: u64) -> Option<Conflict>
     ensures { conflict_as_numbers result ≡ over set }
 {
     if set == 0 {
-        return Conflict::None;
+        return None;
     }
-    Conflict::Over {
+    Some(Conflict {
         lowest: u64::trailing_zeros(set) as u8,
         count: u64::count_ones(set) as u8,
-    }
+    })
 }
 
 // Clause 3.2: the conflict of two entries, given whether both are writes, whether both are reads, the names that they
 // share, and what their widened sets share.
-pub fn conflict_by(writes: bool, reads: bool, names: u64, widened: u64) -> Conflict
+pub fn conflict_by(writes: bool, reads: bool, names: u64, widened: u64) -> Option<Conflict>
     ensures { conflict_as_numbers result ≡ over (shared_by writes reads names widened) }
 {
     if writes {
         return conflict_over(widened);
     }
     if reads {
-        return Conflict::None;
+        return None;
     }
     conflict_over(names)
 }
 
 // Clause 3.2: two writes conflict over their widened sets, a read and a write over their names, two reads never.
-pub fn pair_conflict(e: Entry, e_widened: u64, f: Entry, f_widened: u64) -> Conflict
+pub fn pair_conflict(e: Entry, e_widened: u64, f: Entry, f_widened: u64) -> Option<Conflict>
     ensures { conflict_as_numbers result
         ≡ over (shared_by (is_write e && is_write f) (is_read e && is_read f) (bit_and e.set f.set)
         (bit_and e_widened f_widened)) }
@@ -56,11 +56,11 @@ pub fn pair_conflict(e: Entry, e_widened: u64, f: Entry, f_widened: u64) -> Conf
 }
 
 // Whether there is a conflict.
-pub fn is_conflict(conflict: Conflict) -> bool
+pub fn is_conflict(conflict: Option<Conflict>) -> bool
     ensures { result ≡ eqb (conflict_as_numbers conflict).number 1 }
 {
     match conflict {
-        Conflict::None => false,
-        Conflict::Over { lowest, count } => true,
+        None => false,
+        Some(Conflict { lowest, count }) => true,
     }
 }

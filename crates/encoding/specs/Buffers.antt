@@ -1,8 +1,9 @@
 -- Bytes in a lent buffer, and when there are too few of them: refusals 1 and 16. Specification, sections 2 and 8.
+use Rattle.std.specs.Prelude.{Result, Ok, Err}
+use Rattle.refusals.specs.declared.Refusal.{Refusal}
 use Rattle.std.specs.Prelude.{ℕ, ◌+◌, ◌-◌, Bool, cond, ◌&&◌, List, ◌++◌, eqb, leb, length, take, drop}
 use Rattle.refusals.specs.Number.{number_of}
 use Rattle.refusals.specs.Due.{AsNumbers, due}
-use Rattle.encoding.specs.declared.Outcome.{Outcome}
 
 -- Clauses 2.9 and 8.1: 1 if the bytes s end before the n bytes that are due.
 abbrev pub short_fault : ℕ → List ℕ → ℕ
@@ -26,6 +27,6 @@ abbrev pub buffer_after : ℕ → List ℕ → List ℕ → ℕ → List ℕ
 buffer_after number new buffer at = cond (eqb number 0) (overwritten buffer at new) buffer
 
 -- How many bytes were read or written, or the refusal, as numbers.
-abbrev pub outcome_as_numbers : Outcome → AsNumbers
-outcome_as_numbers (Outcome.Bytes n) = record { number = 0; value = n }
-outcome_as_numbers (Outcome.Refused r) = record { number = number_of r; value = 0 }
+abbrev pub outcome_as_numbers : Result ℕ Refusal → AsNumbers
+outcome_as_numbers (Ok n) = record { number = 0; value = n }
+outcome_as_numbers (Err r) = record { number = number_of r; value = 0 }

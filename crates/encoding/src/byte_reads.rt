@@ -4,7 +4,7 @@ ghost use Rattle.std.specs.Prelude.{◌≡◌, get_or};
 ghost use Rattle.refusals.specs.Number.{verdict_number};
 ghost use Rattle.encoding.specs.Buffers.{short_fault};
 
-use refusals::{Refusal, Verdict, refuse_unless};
+use refusals::{Refusal, refuse_unless};
 
 // The byte at a place, or 0 past the end.
 pub fn byte_at(bytes: &[u8], place: usize) -> u8
@@ -14,7 +14,7 @@ pub fn byte_at(bytes: &[u8], place: usize) -> u8
 }
 
 // Refuses with 1 if there are fewer bytes than are due.
-pub fn check_due(needed: usize, bytes: &[u8]) -> Verdict
+pub fn check_due(needed: usize, bytes: &[u8]) -> Result<(), Refusal>
     ensures { verdict_number result ≡ short_fault needed bytes.now }
 {
     refuse_unless(needed <= bytes.len(), Refusal::Short)

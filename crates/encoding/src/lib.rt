@@ -9,13 +9,5 @@ mod storing;
 
 pub use byte_reads::{byte_at, check_due};
 pub use number_reads::read_number;
-use refusals::Refusal;
 pub use rooms::{check_room, has_room};
 pub use storing::write_number;
-
-// How many bytes were read or written, or the refusal.
-#[derive(Clone, Copy)]
-pub enum Outcome {
-    Bytes(usize),
-    Refused(Refusal),
-}

@@ -4,7 +4,7 @@ ghost use Rattle.std.specs.Prelude.{◌≡◌, true, ◌+◌, ◌≤◌};
 ghost use Rattle.refusals.specs.Number.{verdict_number};
 ghost use Rattle.encoding.specs.Buffers.{has_room, room_fault};
 
-use refusals::{Refusal, Verdict, refuse_unless};
+use refusals::{Refusal, refuse_unless};
 
 // Whether a buffer of this size has the needed bytes from a position on. The position can be any number, so nothing is
 // added to it: the sum might overflow.
@@ -19,7 +19,7 @@ pub fn has_room(needed: usize, size: usize, at: usize) -> bool
 }
 
 // Refuses with 16 if there is no room.
-pub fn check_room(needed: usize, size: usize, at: usize) -> Verdict
+pub fn check_room(needed: usize, size: usize, at: usize) -> Result<(), Refusal>
     ensures { verdict_number result ≡ room_fault needed size at }
 {
     refuse_unless(has_room(needed, size, at), Refusal::Room)

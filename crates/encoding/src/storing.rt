@@ -6,7 +6,6 @@ ghost use Rattle.refusals.specs.Due.{as_numbers};
 ghost use Rattle.encoding.specs.Numbers.{bytes_of};
 ghost use Rattle.encoding.specs.Buffers.{room_fault, buffer_after, outcome_as_numbers};
 
-use crate::Outcome;
 use crate::rooms::has_room;
 use refusals::Refusal;
 
@@ -25,15 +24,15 @@ fn store_number(value: u64, size: usize, buffer: &mut [u8], at: usize)
 }
 
 // Writes a number into the buffer as size bytes, from position at. Other bytes stay. Without room it writes nothing.
-pub fn write_number(value: u64, size: usize, buffer: &mut [u8], at: usize) -> Outcome
+pub fn write_number(value: u64, size: usize, buffer: &mut [u8], at: usize) -> Result<usize, Refusal>
     ensures outcome { outcome_as_numbers result ≡ as_numbers (room_fault size (length buffer.old) at) size }
     ensures bytes { buffer.new
         ≡ buffer_after (room_fault size (length buffer.old) at) (bytes_of size value) buffer.old at }
 {
     if has_room(size, buffer.len(), at) {
         store_number(value, size, buffer, at);
-        Outcome::Bytes(size)
+        Ok(size)
     } else {
-        Outcome::Refused(Refusal::Room)
+        Err(Refusal::Room)
     }
 }

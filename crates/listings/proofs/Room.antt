@@ -1,4 +1,5 @@
 -- A line is written into the buffer if it fits, and nothing is written if it does not. Assumes nothing.
+use Rattle.std.specs.Prelude.{Ok, Err}
 use Prim.Native.Nat.{ℕ, ◌+◌, ◌≤◌}
 use native.Mathlib.Omega.{arith}
 use mathlib.Core.Path.{◌≡◌, refl, sym, ◌∙◌}
@@ -7,7 +8,6 @@ use mathlib.Core.List.{List, ◌++◌}
 use lib.ListN.{length, length-append}
 use Rattle.refusals.specs.declared.Refusal.{Refusal}
 use Rattle.refusals.specs.Due.{as_numbers}
-use Rattle.encoding.specs.declared.Outcome.{Outcome}
 use Rattle.encoding.specs.Buffers.{has_room, overwritten, outcome_as_numbers}
 use Rattle.encoding.proofs.Room.{with_room, without_room, fits_room, there_is_room}
 use Rattle.listings.specs.PlainLines.{line_as_numbers, line_buffer}
@@ -22,12 +22,12 @@ module _ (bytes buffer : List ℕ) (at needed : ℕ) (flag : Bool) (size : neede
   fits = rw size at test
 
   pub no_room : flag ≡ false
-      → (outcome_as_numbers (Outcome.Refused Refusal.Room) ≡ line_as_numbers bytes (length buffer) at)
+      → (outcome_as_numbers (Err Refusal.Room) ≡ line_as_numbers bytes (length buffer) at)
       × (buffer ≡ line_buffer bytes buffer at)
   no_room left = without_room (length bytes) at buffer bytes (sym fits ∙ left)
 
   pub room : (next : ℕ) (after : List ℕ) → flag ≡ true → Stored bytes buffer at next after
-      → (outcome_as_numbers (Outcome.Bytes needed) ≡ line_as_numbers bytes (length buffer) at)
+      → (outcome_as_numbers (Ok needed) ≡ line_as_numbers bytes (length buffer) at)
       × (after ≡ line_buffer bytes buffer at)
   room next after taken s = rw size (with_room (length bytes) at buffer bytes refl (sym fits ∙ taken) after s.stores)
 
@@ -38,7 +38,7 @@ module _ (lead tail buffer : List ℕ) (at more led : ℕ) (some : 1 ≤ length 
   whole = simp length-append (omega arith)
 
   pub no_line : led ≡ 0 → (b : List ℕ) → b ≡ placed_buffer (length lead + more) lead buffer at
-      → (outcome_as_numbers (Outcome.Refused Refusal.Room) ≡ line_as_numbers (lead ++ tail) (length buffer) at)
+      → (outcome_as_numbers (Err Refusal.Room) ≡ line_as_numbers (lead ++ tail) (length buffer) at)
       × (b ≡ line_buffer (lead ++ tail) buffer at)
   no_line none b put =
       let full = not_begun lead (length buffer) at (length lead + more) some size none in
@@ -65,7 +65,7 @@ module _ (lead tail buffer : List ℕ) (at more led : ℕ) (some : 1 ≤ length 
       rest_fits = omega (arith, line_fits, led_all, rest, stored_length lead_stored)
 
       pub whole_line : (next : ℕ) (after : List ℕ) → Stored tail b (at + led) next after
-          → (outcome_as_numbers (Outcome.Bytes (led + more)) ≡ line_as_numbers (lead ++ tail) (length buffer) at)
+          → (outcome_as_numbers (Ok (led + more)) ≡ line_as_numbers (lead ++ tail) (length buffer) at)
           × (after ≡ line_buffer (lead ++ tail) buffer at)
       whole_line next after s =
           rw led_all
@@ -77,7 +77,7 @@ module _ (line buffer after : List ℕ) (at size : ℕ) (some : 1 ≤ length lin
     (e : size ≡ field_size line (length buffer) at)
     (put : after ≡ field_buffer line buffer at) where
   pub no_field_line : size ≡ 0
-      → (outcome_as_numbers (Outcome.Refused Refusal.Room) ≡ line_as_numbers line (length buffer) at)
+      → (outcome_as_numbers (Err Refusal.Room) ≡ line_as_numbers line (length buffer) at)
       × (after ≡ line_buffer line buffer at)
   no_field_line none = (
     (no_room line buffer at (length line) _ refl refl
@@ -86,7 +86,7 @@ module _ (line buffer after : List ℕ) (at size : ℕ) (some : 1 ≤ length lin
   )
 
   pub field_line : (size ≡ 0 → ⊥)
-      → (outcome_as_numbers (Outcome.Bytes size) ≡ line_as_numbers line (length buffer) at)
+      → (outcome_as_numbers (Ok size) ≡ line_as_numbers line (length buffer) at)
       × (after ≡ line_buffer line buffer at)
   field_line more =
       let yes = begun line (length buffer) at (length line) some e more in

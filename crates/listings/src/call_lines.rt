@@ -9,9 +9,8 @@ ghost use Rattle.listings.specs.Lines.{reply_fields, call_line_by};
 
 use crate::done_lines::done_line;
 use crate::lines::refused_line;
-use encoding::Outcome;
-use refusals::number;
-use rules::{Call, Reply};
+use rules::{Done, Call, Reply};
+use refusals::Refusal;
 
 // A call's line from its letter, its numbers and the reply.
 fn reply_line(
@@ -23,7 +22,7 @@ fn reply_line(
     reply: Reply,
     buffer: &mut [u8],
     at: usize,
-) -> Outcome
+) -> Result<usize, Refusal>
     ensures outcome { outcome_as_numbers result
         ≡ line_as_numbers
         (fields_line letter processor tick
@@ -36,15 +35,15 @@ fn reply_line(
         buffer.old at }
 {
     match reply {
-        Reply::Done {
+        Ok(Done {
             granted,
             entitled,
             late,
-        } => done_line(
+        }) => done_line(
             pairs, processors, letter, processor, tick, granted, entitled, late, buffer, at,
         ),
-        Reply::Refused(refusal) => {
-            refused_line(letter, processor, tick, number(refusal), buffer, at)
+        Err(refusal) => {
+            refused_line(letter, processor, tick, u8::from(refusal), buffer, at)
         }
     }
 }
@@ -58,7 +57,7 @@ pub fn call_line_by(
     reply: Reply,
     buffer: &mut [u8],
     at: usize,
-) -> Outcome
+) -> Result<usize, Refusal>
     ensures outcome { outcome_as_numbers result
         ≡ line_as_numbers (call_line_by pairs.now processors call (reply_as_numbers reply))
         (length buffer.old) at }

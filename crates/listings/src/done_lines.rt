@@ -7,7 +7,6 @@ ghost use Rattle.digits.specs.Digits.{mask_by};
 ghost use Rattle.listings.specs.PlainLines.{fields_line, done_fields, line_as_numbers, line_buffer};
 
 use digits::byte_digits;
-use encoding::Outcome;
 use line_fields::{put_lead, put_line_end, put_masks};
 use plans::mask_size;
 use refusals::Refusal;
@@ -25,7 +24,7 @@ pub fn done_line(
     late: u8,
     buffer: &mut [u8],
     at: usize,
-) -> Outcome
+) -> Result<usize, Refusal>
     ensures outcome { outcome_as_numbers result
         ≡ line_as_numbers
         (fields_line letter processor tick
@@ -40,10 +39,10 @@ pub fn done_line(
     let more = 4 + 4 * mask_size(processors) + byte_digits(late);
     let led = put_lead(letter, processor, tick, more as u8, buffer, at);
     if led == 0 {
-        return Outcome::Refused(Refusal::Room);
+        return Err(Refusal::Room);
     }
     let second = at + led;
     let third = second + put_masks(pairs, processors, granted, entitled, buffer, second);
     put_line_end(b" ", late as u64, buffer, third);
-    Outcome::Bytes(led + more)
+    Ok(led + more)
 }

@@ -8,7 +8,7 @@ ghost use Rattle.listings.specs.PlainLines.{entries_word, read_word, write_word,
 ghost use Rattle.listings.specs.PlainLines.{numbers_line, line_as_numbers, line_buffer};
 
 use digits::digit_count;
-use encoding::{Outcome, has_room};
+use encoding::has_room;
 use line_fields::{put_labelled, put_line_end};
 use refusals::Refusal;
 
@@ -68,7 +68,7 @@ pub fn numbers_line(
     write: u32,
     buffer: &mut [u8],
     at: usize,
-) -> Outcome
+) -> Result<usize, Refusal>
     ensures outcome { outcome_as_numbers result
         ≡ line_as_numbers (numbers_line processors resources count read write) (length buffer.old) at }
     ensures bytes { buffer.new ≡ line_buffer (numbers_line processors resources count read write) buffer.old at }
@@ -76,8 +76,8 @@ pub fn numbers_line(
     let needed = first_size(processors, resources, count, read, write);
     if has_room(needed, buffer.len(), at) {
         write_first(processors, resources, count, read, write, buffer, at);
-        Outcome::Bytes(needed)
+        Ok(needed)
     } else {
-        Outcome::Refused(Refusal::Room)
+        Err(Refusal::Room)
     }
 }

@@ -14,16 +14,15 @@ ghost use Rattle.listings.specs.PlainLines.{refusal_line, line_as_numbers, line_
 ghost use Rattle.listings.specs.Lines.{first_line};
 
 pub use call_lines::call_line_by;
-use encoding::Outcome;
 use figures::figures_of;
 use first_lines::numbers_line;
 use lines::fault_line;
 pub use lines::line_size;
 use plans::Plan;
-use refusals::{Refusal, number};
+use refusals::Refusal;
 
 // Clause 9.6: the first line, for any plan value.
-pub fn first_line(plan: Plan, buffer: &mut [u8], at: usize) -> Outcome
+pub fn first_line(plan: Plan, buffer: &mut [u8], at: usize) -> Result<usize, Refusal>
     ensures outcome { outcome_as_numbers result ≡ line_as_numbers (first_line plan) (length buffer.old) at }
     ensures bytes { buffer.new ≡ line_buffer (first_line plan) buffer.old at }
 {
@@ -40,9 +39,9 @@ pub fn first_line(plan: Plan, buffer: &mut [u8], at: usize) -> Outcome
 }
 
 // Clause 9.8: the line of a fault in the bytes.
-pub fn refusal_line(refusal: Refusal, buffer: &mut [u8], at: usize) -> Outcome
+pub fn refusal_line(refusal: Refusal, buffer: &mut [u8], at: usize) -> Result<usize, Refusal>
     ensures outcome { outcome_as_numbers result ≡ line_as_numbers (refusal_line (number_of refusal)) (length buffer.old) at }
     ensures bytes { buffer.new ≡ line_buffer (refusal_line (number_of refusal)) buffer.old at }
 {
-    fault_line(number(refusal), buffer, at)
+    fault_line(u8::from(refusal), buffer, at)
 }

@@ -6,7 +6,6 @@ ghost use Rattle.encoding.specs.Buffers.{outcome_as_numbers};
 ghost use Rattle.listings.specs.PlainLines.{refusal_line, fields_line, refused_fields, line_as_numbers, line_buffer};
 
 use digits::byte_digits;
-use encoding::Outcome;
 use line_fields::{put_lead, put_line_end};
 use refusals::Refusal;
 
@@ -18,7 +17,7 @@ pub fn refused_line(
     number: u8,
     buffer: &mut [u8],
     at: usize,
-) -> Outcome
+) -> Result<usize, Refusal>
     ensures outcome { outcome_as_numbers result
         ≡ line_as_numbers (fields_line letter processor tick (refused_fields number)) (length buffer.old) at }
     ensures bytes { buffer.new
@@ -27,31 +26,31 @@ pub fn refused_line(
     let more = 10 + byte_digits(number);
     let led = put_lead(letter, processor, tick, more as u8, buffer, at);
     if led == 0 {
-        return Outcome::Refused(Refusal::Room);
+        return Err(Refusal::Room);
     }
     put_line_end(b" refused ", number as u64, buffer, at + led);
-    Outcome::Bytes(led + more)
+    Ok(led + more)
 }
 
 // Clause 9.8: the line of a fault in the bytes, given its number.
-pub fn fault_line(number: u8, buffer: &mut [u8], at: usize) -> Outcome
+pub fn fault_line(number: u8, buffer: &mut [u8], at: usize) -> Result<usize, Refusal>
     ensures outcome { outcome_as_numbers result ≡ line_as_numbers (refusal_line number) (length buffer.old) at }
     ensures bytes { buffer.new ≡ line_buffer (refusal_line number) buffer.old at }
 {
     let size = put_line_end(b"refused ", number as u64, buffer, at);
     if size == 0 {
-        Outcome::Refused(Refusal::Room)
+        Err(Refusal::Room)
     } else {
-        Outcome::Bytes(size)
+        Ok(size)
     }
 }
 
 // How many bytes a line took, or 0 if there was no room.
-pub fn line_size(line: Outcome) -> usize
+pub fn line_size(line: Result<usize, Refusal>) -> usize
     ensures { result ≡ (outcome_as_numbers line).value }
 {
     match line {
-        Outcome::Bytes(size) => size,
-        Outcome::Refused(_) => 0,
+        Ok(size) => size,
+        Err(_) => 0,
     }
 }

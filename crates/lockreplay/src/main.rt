@@ -7,16 +7,16 @@
 ghost use Rattle.std.specs.Prelude.{◌≤◌, length};
 ghost use Rattle.encoding.specs.Buffers.{outcome_as_numbers};
 
-use encoding::Outcome;
 use listings::line_size;
 use log_input::{Fed, Source, bring_to_front, copy_in, due_size, fill_plan, fill_to, tell};
-use logs::{CALL_COUNT_BYTES, CountAnswer, RECORD_BYTES};
+use logs::{CALL_COUNT_BYTES, RECORD_BYTES};
 use replay::{Begun, RanBlock, begin, count, finish, run};
 use rules::{Board, State};
 use std::env::{Env, FillError};
 use std::io;
 use std::io::Stdin;
 use whole_listing::{BLOCK_ROOM, LINES_ROOM, PLAN_ROOM};
+use refusals::Refusal;
 
 // What was read before the calls: how many of them there are, and whether the replay goes on.
 #[derive(Clone, Copy)]
@@ -72,7 +72,7 @@ fn put(rt: &HostRuntime, lines: &[u8]) -> bool {
 }
 
 // The same for the line at the start of `out`, if there is one.
-fn show(rt: &HostRuntime, line: Outcome, out: &[u8]) -> bool
+fn show(rt: &HostRuntime, line: Result<usize, Refusal>, out: &[u8]) -> bool
     requires { (outcome_as_numbers line).value ≤ length out.now }
 {
     let size = line_size(line);
@@ -152,11 +152,11 @@ fn take_count(rt: &HostRuntime, block: &[u8], out: &mut [u8]) -> Counted {
     let shown = show(rt, line, out);
     let answer = counted.calls;
     match answer {
-        CountAnswer::Calls(calls) => Counted {
+        Ok(calls) => Counted {
             calls: calls,
             more: shown,
         },
-        CountAnswer::Refused(_) => Counted {
+        Err(_) => Counted {
             calls: 0,
             more: false,
         },
@@ -189,7 +189,7 @@ fn replay_log(streams: &mut Streams, plan: &[u8], block: &mut [u8], out: &mut [u
     let line = begun.line;
     let shown = show(&streams.rt, line, out);
     let outcome = begun.outcome;
-    if let Outcome::Bytes(size) = outcome {
+    if let Ok(size) = outcome {
         if shown {
             replay_rest(streams, begun, &plan[size..], block, out);
         }

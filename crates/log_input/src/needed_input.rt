@@ -3,16 +3,15 @@ ghost use Rattle.std.specs.Prelude.{◌≡◌, eqb};
 ghost use Rattle.encoding.specs.Buffers.{outcome_as_numbers};
 ghost use Rattle.log_input.specs.Stages.{is_short, due_size};
 
-use encoding::Outcome;
 use logs::RECORD_BYTES;
-use refusals::number;
+use refusals::Refusal;
 
-fn short_outcome(outcome: Outcome) -> bool
+fn short_outcome(outcome: Result<usize, Refusal>) -> bool
     ensures { result ≡ eqb (outcome_as_numbers outcome).number 1 }
 {
     match outcome {
-        Outcome::Bytes(_) => false,
-        Outcome::Refused(refusal) => number(refusal) == 1,
+        Ok(_) => false,
+        Err(refusal) => u8::from(refusal) == 1,
     }
 }
 

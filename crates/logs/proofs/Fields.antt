@@ -1,4 +1,5 @@
 -- The answers for a log's count and for a record, from the numbers that are read from their bytes. Assumes nothing.
+use Rattle.std.specs.Prelude.{Ok}
 use Prim.Native.Nat.{ℕ, ◌≤◌}
 use mathlib.Core.Path.{◌≡◌, ap, ◌∙◌}
 use mathlib.Core.List.{List}
@@ -8,11 +9,10 @@ use lib.ListN.{length, get_or, take, drop}
 use Rattle.encoding.specs.Numbers.{number}
 use Rattle.encoding.proofs.Numbers.{part_number}
 use Rattle.logs.specs.Verbs.{recorded}
-use Rattle.logs.specs.declared.CountAnswer.{CountAnswer}
 use Rattle.logs.specs.Records.{count_as_numbers, read_count, fields_in, record_fault, read_record}
 
 pub count_read : (s : List ℕ) (n : ℕ) → 2 ≤ length s → n ≡ number (take 8 (take 2 s))
-    → count_as_numbers (CountAnswer.Calls n) ≡ read_count s
+    → count_as_numbers (Ok n) ≡ read_count s
 count_read s n h e = rw (le-leb 2 (length s) h, e, part_number 0 2 s (lit< tt))
 
 -- If the 8 bytes of a record are there, its answer is that of its fields.

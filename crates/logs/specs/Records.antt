@@ -1,4 +1,6 @@
 -- The content of a log after its plan, and when it is refused: with 1, 2 or 9. Specification, section 9.
+use Rattle.std.specs.Prelude.{Result, Ok, Err}
+use Rattle.refusals.specs.declared.Refusal.{Refusal}
 use Rattle.std.specs.Prelude.{ℕ, List, eqb, length, get_or, take}
 use Rattle.std.proofs.Math.Seq.{slice}
 use Rattle.refusals.specs.Number.{number_of}
@@ -7,7 +9,6 @@ use Rattle.encoding.specs.Numbers.{number}
 use Rattle.encoding.specs.Buffers.{short_fault}
 use Rattle.rules.specs.CallNumbers.{Fields}
 use Rattle.logs.specs.Verbs.{Recorded, record_due, verb_fault}
-use Rattle.logs.specs.declared.CountAnswer.{CountAnswer}
 
 -- Clauses 9.1 and 9.2: how many bytes the number of calls takes, and how many a call takes.
 abbrev pub count_size : ℕ
@@ -17,9 +18,9 @@ abbrev pub record_size : ℕ
 record_size = 8
 
 -- How many calls follow, as numbers.
-abbrev pub count_as_numbers : CountAnswer → AsNumbers
-count_as_numbers (CountAnswer.Calls n) = record { number = 0; value = n }
-count_as_numbers (CountAnswer.Refused r) = record { number = number_of r; value = 0 }
+abbrev pub count_as_numbers : Result ℕ Refusal → AsNumbers
+count_as_numbers (Ok n) = record { number = 0; value = n }
+count_as_numbers (Err r) = record { number = number_of r; value = 0 }
 
 -- Clauses 9.1 and 9.4: the number of calls, at the start of the bytes after the plan; 1 if there are too few bytes.
 abbrev pub read_count : List ℕ → AsNumbers

@@ -1,9 +1,10 @@
 -- Which fields of a record give a call, and which are refused with 9. Specification, section 9.
+use Rattle.std.specs.Prelude.{Result, Ok, Err}
+use Rattle.refusals.specs.declared.Refusal.{Refusal}
 use Rattle.std.specs.Prelude.{ℕ, cond, ◌&&◌, ◌||◌, eqb}
 use Rattle.refusals.specs.Number.{number_of}
 use Rattle.refusals.specs.Due.{due}
 use Rattle.rules.specs.CallNumbers.{Fields, call_as_numbers}
-use Rattle.logs.specs.declared.record_calls.RecordAnswer.{RecordAnswer}
 
 -- Clause 9.3: 9 for a verb above 3, or a completion or a withdrawal with an entry.
 abbrev pub verb_fault : Fields → ℕ
@@ -25,9 +26,9 @@ no_fields = record { verb = 0; processor = 0; entry = 0; tick = 0 }
 abbrev pub record_due : ℕ → Fields → Recorded
 record_due n f = record { number = n; fields = cond (eqb n 0) f no_fields }
 
-abbrev pub record_as_numbers : RecordAnswer → Recorded
-record_as_numbers (RecordAnswer.Is c) = record { number = 0; fields = call_as_numbers c }
-record_as_numbers (RecordAnswer.Refused r) = record { number = number_of r; fields = no_fields }
+abbrev pub record_as_numbers : Result Call Refusal → Recorded
+record_as_numbers (Ok c) = record { number = 0; fields = call_as_numbers c }
+record_as_numbers (Err r) = record { number = number_of r; fields = no_fields }
 
 -- Clause 9.3: the record that these fields give.
 abbrev pub recorded : Fields → Recorded

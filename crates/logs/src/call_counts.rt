@@ -4,31 +4,30 @@ ghost use Rattle.std.specs.Prelude.{◌≡◌};
 ghost use Rattle.refusals.specs.Number.{verdict_number};
 ghost use Rattle.logs.specs.Records.{count_as_numbers, read_count, tail_fault};
 
-use crate::CountAnswer;
 use encoding::read_number;
-use refusals::{Refusal, Verdict};
+use refusals::Refusal;
 
 // The bytes that the call count takes.
 pub const CALL_COUNT_BYTES: usize = 2;
 
 // Clause 9.1: how many calls the log contains. The bytes are those after the plan.
-pub fn read_count(bytes: &[u8]) -> CountAnswer
+pub fn read_count(bytes: &[u8]) -> Result<u16, Refusal>
     ensures { count_as_numbers result ≡ read_count bytes.now }
 {
     if bytes.len() < CALL_COUNT_BYTES {
-        return CountAnswer::Refused(Refusal::Short);
+        return Err(Refusal::Short);
     }
     let count = read_number(&bytes[..CALL_COUNT_BYTES]);
-    CountAnswer::Calls(count as u16)
+    Ok(count as u16)
 }
 
 // Clause 9.5: checks the bytes after the last call. If there are any, the log is refused with 2.
-pub fn check_tail(bytes: &[u8]) -> Verdict
+pub fn check_tail(bytes: &[u8]) -> Result<(), Refusal>
     ensures { verdict_number result ≡ tail_fault bytes.now }
 {
     if bytes.len() == 0 {
-        Verdict::Accepted
+        Ok(())
     } else {
-        Verdict::Refused(Refusal::Tail)
+        Err(Refusal::Tail)
     }
 }

@@ -12,28 +12,21 @@ ghost use Rattle.logs.specs.Records.{read_record};
 
 pub use call_counts::{CALL_COUNT_BYTES, check_tail, read_count};
 use encoding::read_number;
-pub use record_calls::RecordAnswer;
 use record_calls::call_by;
 use refusals::Refusal;
+use rules::Call;
 
 // The bytes that a call's record takes. Its tick begins at the fourth byte.
 pub const RECORD_BYTES: usize = 8;
 
 const TICK_PLACE: usize = 3;
 
-// How many calls follow, or the refusal.
-#[derive(Clone, Copy)]
-pub enum CountAnswer {
-    Calls(u16),
-    Refused(Refusal),
-}
-
 // Clause 9.4: the call at the start of the bytes. Refuses with 1, then with 9.
-pub fn read_record(bytes: &[u8]) -> RecordAnswer
+pub fn read_record(bytes: &[u8]) -> Result<Call, Refusal>
     ensures { record_as_numbers result ≡ read_record bytes.now }
 {
     if bytes.len() < RECORD_BYTES {
-        return RecordAnswer::Refused(Refusal::Short);
+        return Err(Refusal::Short);
     }
     let verb = bytes[0];
     let tick = read_number(&bytes[TICK_PLACE..RECORD_BYTES]);

@@ -5,43 +5,36 @@ ghost use Rattle.logs.specs.Verbs.{record_as_numbers, recorded};
 use refusals::Refusal;
 use rules::Call;
 
-// A call, or the refusal of its record.
-#[derive(Clone, Copy)]
-pub enum RecordAnswer {
-    Is(Call),
-    Refused(Refusal),
-}
-
 // Clause 9.3: the call of a verb. Refuses with 9.
-pub fn call_by(verb: u8, processor: u8, entry: u8, tick: u64) -> RecordAnswer
+pub fn call_by(verb: u8, processor: u8, entry: u8, tick: u64) -> Result<Call, Refusal>
     ensures { record_as_numbers result
         ≡ recorded (record { verb = verb; processor = processor; entry = entry; tick = tick }) }
 {
     if verb == 0 {
-        return RecordAnswer::Is(Call::Issue {
+        return Ok(Call::Issue {
             processor: processor,
             entry: entry,
             tick: tick,
         });
     }
     if (verb == 1) & (entry == 0) {
-        return RecordAnswer::Is(Call::Complete {
+        return Ok(Call::Complete {
             processor: processor,
             tick: tick,
         });
     }
     if (verb == 2) & (entry == 0) {
-        return RecordAnswer::Is(Call::Withdraw {
+        return Ok(Call::Withdraw {
             processor: processor,
             tick: tick,
         });
     }
     if verb == 3 {
-        return RecordAnswer::Is(Call::Handover {
+        return Ok(Call::Handover {
             processor: processor,
             entry: entry,
             tick: tick,
         });
     }
-    RecordAnswer::Refused(Refusal::Verb)
+    Err(Refusal::Verb)
 }

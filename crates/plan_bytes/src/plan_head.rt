@@ -7,17 +7,16 @@ ghost use Rattle.plan_bytes.specs.inner.Head.{head_fault};
 use encoding::{byte_at, check_due};
 use plan_checks::{check_entry_count, check_processors, check_resources};
 use plans::PLAN_COUNTS_BYTES;
-use refusals::{Verdict, first_of};
+use refusals::Refusal;
 
 // Clause 2.9: the three counts in the order of their bytes. Refuses with 1 if a count is missing, and with 3 to 5.
-pub fn check_head(bytes: &[u8]) -> Verdict
+pub fn check_head(bytes: &[u8]) -> Result<(), Refusal>
     ensures { verdict_number result ≡ head_fault bytes.now }
 {
-    let processors = first_of(check_due(1, bytes), check_processors(byte_at(bytes, 0)));
-    let resources = first_of(check_due(2, bytes), check_resources(byte_at(bytes, 1)));
-    let count = first_of(
-        check_due(PLAN_COUNTS_BYTES, bytes),
-        check_entry_count(byte_at(bytes, 2)),
-    );
-    first_of(processors, first_of(resources, count))
+    check_due(1, bytes)?;
+    check_processors(byte_at(bytes, 0))?;
+    check_due(2, bytes)?;
+    check_resources(byte_at(bytes, 1))?;
+    check_due(PLAN_COUNTS_BYTES, bytes)?;
+    check_entry_count(byte_at(bytes, 2))
 }

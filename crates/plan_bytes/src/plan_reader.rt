@@ -1,39 +1,22 @@
 // Reads a plan from bytes. Specification, section 2.
 ghost use Rattle.std.specs.Prelude.{◌≡◌, cond, eqb};
 ghost use Rattle.refusals.specs.Due.{as_numbers};
-ghost use Rattle.encoding.specs.Buffers.{outcome_as_numbers};
 ghost use Rattle.plans.specs.Entries.{plan_size};
-ghost use Rattle.plans.specs.Reading.{blank_plan, plan_in, read_as_numbers, plan_read};
+ghost use Rattle.plans.specs.Reading.{blank_plan, plan_in, read_as_numbers, plan_read, taken_as_numbers, plan_taken};
 ghost use Rattle.plan_bytes.specs.inner.Body.{body_fault, CountsThere, whole_read};
 
 use crate::entry_reader::entry_of;
 use crate::plan_head::check_head;
-use encoding::Outcome;
 use plan_checks::{check_kind, check_length, check_set};
 use plans::{ENTRY_BYTES, Entry, MAX_ENTRIES, PLAN_COUNTS_BYTES, Plan, Read, entry_size};
-use refusals::{Refusal, Verdict};
+use refusals::Refusal;
 
-// Fills the places past the count, and the plan that is returned with a refusal.
+// Fills the places past the count.
 const BLANK: Entry = Entry {
     kind: 0,
     set: 0,
     length: 0,
 };
-
-// Clause 2.9: a refusal returns the blank plan.
-fn refused(refusal: Refusal) -> Read
-    ensures { result ≡ record { outcome = Outcome.Refused refusal; plan = blank_plan } }
-{
-    Read {
-        outcome: Outcome::Refused(refusal),
-        plan: Plan {
-            processors: 0,
-            resources: 0,
-            count: 0,
-            entries: [BLANK; MAX_ENTRIES],
-        },
-    }
-}
 
 // Clause 2.8: the plan with the counts in the bytes and these entries, and the number of bytes that it took.
 fn whole(bytes: &[u8], entries: [Entry; MAX_ENTRIES], taken: usize) -> Read
@@ -41,22 +24,22 @@ fn whole(bytes: &[u8], entries: [Entry; MAX_ENTRIES], taken: usize) -> Read
     ensures { result ≡ whole_read bytes.now entries taken }
 {
     Read {
-        outcome: Outcome::Bytes(taken),
         plan: Plan {
             processors: bytes[0],
             resources: bytes[1],
             count: bytes[2],
             entries: entries,
         },
+        bytes: taken,
     }
 }
 
 // Clause 2.9: reads the entries after accepted counts. The first fault ends the reading.
-fn read_entries(bytes: &[u8]) -> Read
+fn read_entries(bytes: &[u8]) -> Result<Read, Refusal>
     requires { CountsThere bytes.now }
-    ensures outcome { outcome_as_numbers result.outcome
+    ensures outcome { taken_as_numbers result
         ≡ as_numbers (body_fault bytes.now) (plan_size (plan_in bytes.now)) }
-    ensures plan { result.plan ≡ cond (eqb (body_fault bytes.now) 0) (plan_in bytes.now) blank_plan }
+    ensures plan { plan_taken result ≡ cond (eqb (body_fault bytes.now) 0) (plan_in bytes.now) blank_plan }
 {
     let count = bytes[2] as usize;
     let mut entries = [BLANK; MAX_ENTRIES];
@@ -64,42 +47,37 @@ fn read_entries(bytes: &[u8]) -> Read
     let mut i: usize = 0;
     let verdict = loop {
         if count <= i {
-            break Verdict::Accepted;
+            break Ok(());
         }
         if bytes.len() - at < ENTRY_BYTES {
-            break Verdict::Refused(Refusal::Short);
+            break Err(Refusal::Short);
         }
         let entry = entry_of(&bytes[at..]);
         let kind = check_kind(entry);
-        if let Verdict::Refused(refusal) = kind {
-            break Verdict::Refused(refusal);
+        if let Err(refusal) = kind {
+            break Err(refusal);
         }
         let set = check_set(entry, bytes[1]);
-        if let Verdict::Refused(refusal) = set {
-            break Verdict::Refused(refusal);
+        if let Err(refusal) = set {
+            break Err(refusal);
         }
         let length = check_length(entry);
-        if let Verdict::Refused(refusal) = length {
-            break Verdict::Refused(refusal);
+        if let Err(refusal) = length {
+            break Err(refusal);
         }
         entries[i] = entry;
         at += entry_size(entry);
         i += 1;
     };
-    match verdict {
-        Verdict::Accepted => whole(bytes, entries, at),
-        Verdict::Refused(refusal) => refused(refusal),
-    }
+    verdict?;
+    Ok(whole(bytes, entries, at))
 }
 
 // Clause 2.8: the plan and the number of bytes that it took, or the refusal. Bytes after the plan are ignored.
-pub fn read(bytes: &[u8]) -> Read
-    ensures outcome { outcome_as_numbers result.outcome ≡ read_as_numbers bytes.now }
-    ensures plan { result.plan ≡ plan_read bytes.now }
+pub fn read(bytes: &[u8]) -> Result<Read, Refusal>
+    ensures outcome { taken_as_numbers result ≡ read_as_numbers bytes.now }
+    ensures plan { plan_taken result ≡ plan_read bytes.now }
 {
-    let verdict = check_head(bytes);
-    match verdict {
-        Verdict::Accepted => read_entries(bytes),
-        Verdict::Refused(refusal) => refused(refusal),
-    }
+    check_head(bytes)?;
+    read_entries(bytes)
 }

@@ -8,13 +8,12 @@ ghost use Rattle.plans.specs.Acceptance.{plan_fault};
 
 use encoding::check_room;
 use plans::Plan;
-use refusals::{Verdict, first_of};
+use refusals::Refusal;
 
 // Clause 8.2: refuses first with 3 to 8 for the plan, then with 16 if the buffer has no room for the bytes needed.
-pub fn check_writing(plan: Plan, needed: usize, size: usize, at: usize) -> Verdict
+pub fn check_writing(plan: Plan, needed: usize, size: usize, at: usize) -> Result<(), Refusal>
     ensures { verdict_number result ≡ first_of (plan_fault plan) (room_fault needed size at) }
 {
-    let value = plan_checks::check(plan);
-    let room = check_room(needed, size, at);
-    first_of(value, room)
+    plan_checks::check(plan)?;
+    check_room(needed, size, at)
 }

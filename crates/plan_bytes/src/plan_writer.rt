@@ -7,9 +7,8 @@ ghost use Rattle.plans.specs.Writing.{section_bytes, plan_bytes, write_as_number
 
 use crate::entry_writer::write_entry;
 use crate::plan_room::check_writing;
-use encoding::Outcome;
 use plans::{Entry, MAX_ENTRIES, PLAN_COUNTS_BYTES, Plan, entry_size, plan_size};
-use refusals::Verdict;
+use refusals::Refusal;
 
 // Stores the first `count` entries from the start of the section.
 fn write_section(entries: [Entry; MAX_ENTRIES], count: usize, section: &mut [u8])
@@ -43,17 +42,17 @@ fn write_plan(plan: Plan, buffer: &mut [u8], at: usize)
 
 // Clause 2.12: writes the plan's bytes into the buffer from position `at`. Other bytes stay.
 // Refuses with 3 to 8 a plan value that the reader would refuse, then with 16. A refusal writes nothing.
-pub fn write(plan: Plan, buffer: &mut [u8], at: usize) -> Outcome
+pub fn write(plan: Plan, buffer: &mut [u8], at: usize) -> Result<usize, Refusal>
     ensures outcome { outcome_as_numbers result ≡ write_as_numbers plan buffer.old at }
     ensures bytes { buffer.new ≡ written_buffer plan buffer.old at }
 {
     let size = plan_size(plan);
     let verdict = check_writing(plan, size, buffer.len(), at);
     match verdict {
-        Verdict::Accepted => {
+        Ok(()) => {
             write_plan(plan, buffer, at);
-            Outcome::Bytes(size)
+            Ok(size)
         }
-        Verdict::Refused(refusal) => Outcome::Refused(refusal),
+        Err(refusal) => Err(refusal),
     }
 }

@@ -7,35 +7,23 @@ ghost use Rattle.plans.specs.Acceptance.{entries_fault, plan_fault};
 use crate::plan_counts::check_counts;
 use crate::plan_entries::check_entry;
 use plans::{Entry, MAX_ENTRIES, Plan};
-use refusals::Verdict;
+use refusals::Refusal;
 
 // The first fault of the counted entries, in their order.
-fn check_entries(entries: [Entry; MAX_ENTRIES], count: u8, resources: u8) -> Verdict
+fn check_entries(entries: [Entry; MAX_ENTRIES], count: u8, resources: u8) -> Result<(), Refusal>
     requires { count ≤ max_entries }
     ensures { verdict_number result ≡ entries_fault resources (take count entries) }
 {
-    let mut i: u8 = 0;
-    loop {
-        if count <= i {
-            break Verdict::Accepted;
-        }
-        let verdict = check_entry(entries[i as usize], resources);
-        match verdict {
-            Verdict::Accepted => {}
-            Verdict::Refused(refusal) => break Verdict::Refused(refusal),
-        }
-        i += 1;
+    for entry in &entries[..count as usize] {
+        check_entry(*entry, resources)?;
     }
+    Ok(())
 }
 
 // Clause 2.10: refuses a plan value with the reader's number. A count above 64 is refused before any entry is checked.
-pub fn check(plan: Plan) -> Verdict
+pub fn check(plan: Plan) -> Result<(), Refusal>
     ensures { verdict_number result ≡ plan_fault plan }
 {
-    let entries = plan.entries;
-    let verdict = check_counts(plan.processors, plan.resources, plan.count);
-    match verdict {
-        Verdict::Accepted => check_entries(entries, plan.count, plan.resources),
-        Verdict::Refused(refusal) => Verdict::Refused(refusal),
-    }
+    check_counts(plan.processors, plan.resources, plan.count)?;
+    check_entries(plan.entries, plan.count, plan.resources)
 }

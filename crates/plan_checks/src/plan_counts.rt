@@ -5,10 +5,10 @@ ghost use Rattle.refusals.specs.Number.{verdict_number};
 ghost use Rattle.plans.specs.Acceptance.{processors_fault, resources_fault, count_fault, counts_fault};
 
 use plans::{MAX_ENTRIES, MAX_PROCESSORS, MAX_RESOURCES};
-use refusals::{Refusal, Verdict, first_of, refuse_unless};
+use refusals::{Refusal, refuse_unless};
 
 // Clause 2.3: refuses with 3.
-pub fn check_processors(count: u8) -> Verdict
+pub fn check_processors(count: u8) -> Result<(), Refusal>
     ensures { verdict_number result ≡ processors_fault count }
 {
     refuse_unless(
@@ -18,7 +18,7 @@ pub fn check_processors(count: u8) -> Verdict
 }
 
 // Clause 2.4: refuses with 4.
-pub fn check_resources(count: u8) -> Verdict
+pub fn check_resources(count: u8) -> Result<(), Refusal>
     ensures { verdict_number result ≡ resources_fault count }
 {
     refuse_unless(
@@ -28,7 +28,7 @@ pub fn check_resources(count: u8) -> Verdict
 }
 
 // Clause 2.5: refuses with 5.
-pub fn check_entry_count(count: u8) -> Verdict
+pub fn check_entry_count(count: u8) -> Result<(), Refusal>
     ensures { verdict_number result ≡ count_fault count }
 {
     refuse_unless(
@@ -38,11 +38,11 @@ pub fn check_entry_count(count: u8) -> Verdict
 }
 
 // The three counts in the order of their bytes.
-pub fn check_counts(processors: u8, resources: u8, count: u8) -> Verdict
+#[tactic(auto, using(refusals::proofs::Numbers::first_refuses_verdict, refusals::proofs::Numbers::first_accepts_verdict), unfolding(plans::specs::Acceptance::counts_fault))]
+pub fn check_counts(processors: u8, resources: u8, count: u8) -> Result<(), Refusal>
     ensures { verdict_number result ≡ counts_fault processors resources count }
 {
-    let first = check_processors(processors);
-    let second = check_resources(resources);
-    let third = check_entry_count(count);
-    first_of(first, first_of(second, third))
+    check_processors(processors)?;
+    check_resources(resources)?;
+    check_entry_count(count)
 }

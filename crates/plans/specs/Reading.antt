@@ -1,6 +1,8 @@
 -- What reading a plan means, and when it is refused: 1 and 3 to 8. Specification, section 2.
-use Rattle.std.specs.Prelude.{ℕ, zero, suc, ◌-◌, cond, List, [], ◌∷◌, ◌++◌, eqb, get_or, drop, replicate}
+use Rattle.std.specs.Prelude.{ℕ, Result, Ok, Err, zero, suc, ◌-◌, cond, List, [], ◌∷◌, ◌++◌, eqb, get_or, drop, replicate}
 use Rattle.std.proofs.Math.Seq.{slice}
+use Rattle.refusals.specs.declared.Refusal.{Refusal}
+use Rattle.refusals.specs.Number.{number_of}
 use Rattle.refusals.specs.Due.{AsNumbers, first_of, as_numbers}
 use Rattle.encoding.specs.Numbers.{number}
 use Rattle.encoding.specs.Buffers.{short_fault}
@@ -8,6 +10,7 @@ use Rattle.plans.specs.Entries.{max_entries, counts_size, entry_size, entry_size
 use Rattle.plans.specs.Acceptance.{processors_fault, resources_fault, count_fault, entry_fault}
 use Rattle.plans.specs.declared.Entry.{Entry}
 use Rattle.plans.specs.declared.Plan.{Plan}
+use Rattle.plans.specs.declared.Read.{Read}
 
 -- Clause 2.6: the entry at the start of the bytes s.
 unfoldable pub entry_in : List ℕ → Entry
@@ -56,3 +59,13 @@ read_as_numbers s = as_numbers (read_fault s) (plan_size (plan_in s))
 -- Clause 2.9: the plan that is returned with it. It is blank if the bytes are refused.
 unfoldable pub plan_read : List ℕ → Plan
 plan_read s = cond (eqb (read_fault s) 0) (plan_in s) blank_plan
+
+-- What a reading returns, in numbers: how many bytes the plan took, or the refusal.
+abbrev pub taken_as_numbers : Result Read Refusal → AsNumbers
+taken_as_numbers (Ok read) = record { number = 0; value = read.bytes }
+taken_as_numbers (Err r) = record { number = number_of r; value = 0 }
+
+-- The plan of a reading. Clause 2.9: it is blank for a refusal.
+abbrev pub plan_taken : Result Read Refusal → Plan
+plan_taken (Ok read) = read.plan
+plan_taken (Err r) = blank_plan

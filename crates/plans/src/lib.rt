@@ -3,10 +3,11 @@
 // two figures, and `plan_bytes` reads and writes plans.
 #![tactic(auto)]
 
+use refusals::Refusal;
+
 mod entry_kinds;
 mod plan_sizes;
 
-use encoding::Outcome;
 pub use entry_kinds::{counted_of, is_read, is_write};
 pub use plan_sizes::{entry_size, mask_size, plan_size};
 
@@ -48,11 +49,11 @@ pub struct Plan {
     pub entries: [Entry; MAX_ENTRIES],
 }
 
-// A plan that was read. If the outcome is a refusal, the plan is blank.
+// A plan that was read, and how many bytes it took.
 #[derive(Clone, Copy)]
 pub struct Read {
-    pub outcome: Outcome,
     pub plan: Plan,
+    pub bytes: usize,
 }
 
 // The longest lengths, Lr and Lw, and the two figures: the longest time that a read and a write wait.

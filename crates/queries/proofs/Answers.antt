@@ -1,4 +1,5 @@
 -- What follows when the checks of a query accept it, and the direct waits of a processor that counts. Assumes nothing.
+use Rattle.std.specs.Prelude.{Result, Ok, Err}
 use Prim.Native.Nat.{ℕ, ◌<◌, ◌≤◌}
 use mathlib.Core.Path.{◌≡◌, refl, ap, ◌∙◌}
 use mathlib.Core.List.{List}
@@ -8,7 +9,6 @@ use borrow.Author.Tests.{ltb-true, lt-ltb}
 use Rattle.masks.specs.Sets.{mask_of}
 use Rattle.masks.proofs.Truth.{and_left}
 use Rattle.refusals.specs.declared.Refusal.{Refusal}
-use Rattle.refusals.specs.declared.Verdict.{Verdict}
 use Rattle.refusals.specs.Number.{number_of, verdict_number}
 use Rattle.refusals.specs.Due.{AsNumbers, first_of, as_numbers}
 use Rattle.refusals.proofs.Numbers.{first_accepted, due_accepted, number_not_zero}
@@ -29,13 +29,13 @@ use Rattle.queries.specs.inner.Rows.{direct_rows}
 
 -- ---- an answer says what its check found
 
-pub accepted_says : (verdict : Verdict) (fault v x : ℕ) → verdict_number verdict ≡ fault → verdict ≡ Verdict.Accepted → v
+pub accepted_says : (verdict : Result Unit Refusal) (fault v x : ℕ) → verdict_number verdict ≡ fault → verdict ≡ Ok tt → v
     ≡ x
     → ◌≡◌ {A = AsNumbers} (record { number = 0; value = v }) (as_numbers fault x)
 accepted_says verdict fault v x checked accepted e = rw (← checked, accepted, e) refl
 
-pub refused_says : (verdict : Verdict) (fault x : ℕ) (r : Refusal) → verdict_number verdict ≡ fault → verdict
-    ≡ Verdict.Refused r
+pub refused_says : (verdict : Result Unit Refusal) (fault x : ℕ) (r : Refusal) → verdict_number verdict ≡ fault → verdict
+    ≡ Err r
     → ◌≡◌ {A = AsNumbers} (record { number = number_of r; value = 0 }) (as_numbers fault x)
 refused_says verdict fault x r checked refused = rw (← checked, refused, number_not_zero r) refl
 

@@ -1,10 +1,10 @@
 -- The answers of the queries of one processor, in numbers. Specification, section 7.
+use Rattle.std.specs.Prelude.{Result, Ok, Err}
+use Rattle.refusals.specs.declared.Refusal.{Refusal}
 use Rattle.std.specs.Prelude.{ℕ}
 use Rattle.refusals.specs.Number.{number_of}
 use Rattle.refusals.specs.Due.{AsNumbers}
 use Rattle.queries.specs.declared.query_answers.Phase.{Phase}
-use Rattle.queries.specs.declared.query_answers.PhaseAnswer.{PhaseAnswer}
-use Rattle.queries.specs.declared.query_answers.MaskAnswer.{MaskAnswer}
 
 -- Clause 7.1: the numbers of the states.
 abbrev pub phase_number : Phase → ℕ
@@ -14,10 +14,10 @@ phase_number Phase.Entitled = 2
 phase_number Phase.Holding = 3
 
 -- The answers of the queries in numbers.
-abbrev pub phase_as_numbers : PhaseAnswer → AsNumbers
-phase_as_numbers (PhaseAnswer.Is ph) = record { number = 0; value = phase_number ph }
-phase_as_numbers (PhaseAnswer.Refused r) = record { number = number_of r; value = 0 }
+abbrev pub phase_as_numbers : Result Phase Refusal → AsNumbers
+phase_as_numbers (Ok ph) = record { number = 0; value = phase_number ph }
+phase_as_numbers (Err r) = record { number = number_of r; value = 0 }
 
-abbrev pub mask_as_numbers : MaskAnswer → AsNumbers
-mask_as_numbers (MaskAnswer.Mask mask) = record { number = 0; value = mask }
-mask_as_numbers (MaskAnswer.Refused r) = record { number = number_of r; value = 0 }
+abbrev pub mask_as_numbers : Result ℕ Refusal → AsNumbers
+mask_as_numbers (Ok mask) = record { number = 0; value = mask }
+mask_as_numbers (Err r) = record { number = number_of r; value = 0 }

@@ -1,4 +1,6 @@
 -- What two entries of a board share. Specification, clauses 3.4 and 7.10.
+use Rattle.std.specs.Prelude.{Result, Ok, Err}
+use Rattle.refusals.specs.declared.Refusal.{Refusal}
 use Rattle.std.specs.Prelude.{ℕ, cond, not, ◌&&◌, List, eqb, ltb, get_or}
 use Rattle.std.specs.Int.Bits.{bit_and}
 use Rattle.masks.specs.Sets.{bit}
@@ -7,7 +9,6 @@ use Rattle.refusals.specs.Due.{due}
 use Rattle.conflicts.specs.Sharing.{shared_by, Over, no_conflict, conflict_as_numbers, over}
 use Rattle.rules.specs.declared.states.Terms.{Terms}
 use Rattle.rules.specs.declared.states.Board.{Board}
-use Rattle.queries.specs.declared.contention.SharedAnswer.{SharedAnswer}
 
 -- Clause 3.2: what entries i and j share, given which entries are writes and the names and widened sets of all entries.
 -- An entry past the lists shares nothing.
@@ -21,9 +22,9 @@ pub record SharedSaid : Type 0 where
   pub number : ℕ
   pub conflict : Over
 
-abbrev pub shared_as_numbers : SharedAnswer → SharedSaid
-shared_as_numbers (SharedAnswer.Is c) = record { number = 0; conflict = conflict_as_numbers c }
-shared_as_numbers (SharedAnswer.Refused r) = record { number = number_of r; conflict = no_conflict }
+abbrev pub shared_as_numbers : Result (Option Conflict) Refusal → SharedSaid
+shared_as_numbers (Ok c) = record { number = 0; conflict = conflict_as_numbers c }
+shared_as_numbers (Err r) = record { number = number_of r; conflict = no_conflict }
 
 -- Clauses 7.10 and 8.2: 12 if either entry is not one of the plan's.
 abbrev pub pair_fault : Terms → ℕ → ℕ → ℕ

@@ -5,11 +5,11 @@ ghost use Rattle.encoding.specs.Buffers.{outcome_as_numbers};
 ghost use Rattle.rules.specs.InPlace.{board_by, state_by};
 ghost use Rattle.queries.specs.WholeBoard.{board_query, board_buffer};
 
-use encoding::Outcome;
 use plans::{MAX_ENTRIES, MAX_PROCESSORS};
 use rules::{Board, Moment, State, Terms};
 use settling::clean;
 use waits::waits_of_all;
+use refusals::Refusal;
 
 // Fills the buffer with the list and returns how many bytes it took; bytes after it stay. The parts of a board and a
 // state are lent, as in a call in place. A buffer that is too short is refused with 16, and then nothing is written.
@@ -21,7 +21,7 @@ pub fn list_board_in_place(
     since: &[u64; MAX_PROCESSORS],
     earlier: &[u32; MAX_PROCESSORS],
     buffer: &mut [u8],
-) -> Outcome
+) -> Result<usize, Refusal>
     ensures outcome { outcome_as_numbers result
         ≡ board_query (board_by terms rows.now []) buffer.old }
     ensures bytes { buffer.new ≡ board_buffer
@@ -44,7 +44,7 @@ pub fn list_board_in_place(
 }
 
 // The same by value.
-pub fn list_board(board: Board, state: State, buffer: &mut [u8]) -> Outcome
+pub fn list_board(board: Board, state: State, buffer: &mut [u8]) -> Result<usize, Refusal>
     ensures outcome { outcome_as_numbers result ≡ board_query board buffer.old }
     ensures bytes { buffer.new ≡ board_buffer board state buffer.old }
 {

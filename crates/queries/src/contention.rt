@@ -24,7 +24,7 @@ fn conflict_in(
     widened: &[u64; MAX_ENTRIES],
     first: u8,
     second: u8,
-) -> Conflict
+) -> Option<Conflict>
     ensures { conflict_as_numbers result ≡ over (shared_in writes names.now widened.now first second) }
 {
     let e = first as u32;
@@ -50,20 +50,20 @@ pub fn shared_on(
     widened: &[u64; MAX_ENTRIES],
     first: u8,
     second: u8,
-) -> SharedAnswer
+) -> Result<Option<Conflict>, Refusal>
     ensures { shared_as_numbers result ≡ shared_of terms names.now widened.now first second }
 {
     if terms.count <= first {
-        return SharedAnswer::Refused(Refusal::Entry);
+        return Err(Refusal::Entry);
     }
     if terms.count <= second {
-        return SharedAnswer::Refused(Refusal::Entry);
+        return Err(Refusal::Entry);
     }
-    SharedAnswer::Is(conflict_in(terms.writes, names, widened, first, second))
+    Ok(conflict_in(terms.writes, names, widened, first, second))
 }
 
 // The same with the board by value.
-pub fn shared_by(board: Board, first: u8, second: u8) -> SharedAnswer
+pub fn shared_by(board: Board, first: u8, second: u8) -> Result<Option<Conflict>, Refusal>
     ensures { shared_as_numbers result ≡ shared_query board first second }
 {
     let terms = board.terms;

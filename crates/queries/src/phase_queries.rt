@@ -5,13 +5,13 @@ ghost use Rattle.queries.specs.Answers.{phase_number, phase_as_numbers};
 ghost use Rattle.queries.specs.Queries.{phase_query};
 ghost use Rattle.queries.specs.Parts.{board_with, state_with};
 
-use crate::query_answers::{Phase, PhaseAnswer};
+use crate::query_answers::Phase;
 use crate::query_checks::check_processor;
 use masks::has32;
 use plans::MAX_PROCESSORS;
-use refusals::Verdict;
 use rules::{Board, Phases, State, Terms};
 use settling::clean;
+use refusals::Refusal;
 
 // The phase of processor p, from the masks of the phases.
 fn phase_at(phases: Phases, p: u32) -> Phase
@@ -36,22 +36,22 @@ pub fn phase_in_place(
     requested: &[u8; MAX_PROCESSORS],
     phases: Phases,
     processor: u8,
-) -> PhaseAnswer
+) -> Result<Phase, Refusal>
     ensures { phase_as_numbers result
         ≡ phase_query (board_with terms []) (state_with requested.now [] phases) processor }
 {
     let verdict = check_processor(terms, processor);
     match verdict {
-        Verdict::Accepted => PhaseAnswer::Is(phase_at(
+        Ok(()) => Ok(phase_at(
             clean(terms, *requested, phases),
             processor as u32,
         )),
-        Verdict::Refused(refusal) => PhaseAnswer::Refused(refusal),
+        Err(refusal) => Err(refusal),
     }
 }
 
 // The same by value.
-pub fn phase_of(board: Board, state: State, processor: u8) -> PhaseAnswer
+pub fn phase_of(board: Board, state: State, processor: u8) -> Result<Phase, Refusal>
     ensures { phase_as_numbers result ≡ phase_query board state processor }
 {
     let terms = board.terms;

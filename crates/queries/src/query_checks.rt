@@ -4,11 +4,11 @@ ghost use Rattle.refusals.specs.Number.{verdict_number};
 ghost use Rattle.rules.specs.Faults.{processor_fault};
 
 use plans::MAX_PROCESSORS;
-use refusals::{Refusal, Verdict, refuse_unless};
+use refusals::{Refusal, refuse_unless};
 use rules::Terms;
 
 // Clause 7.5: refuses with 11 a processor that is not the plan's.
-pub fn check_processor(terms: Terms, processor: u8) -> Verdict
+pub fn check_processor(terms: Terms, processor: u8) -> Result<(), Refusal>
     ensures { verdict_number result ≡ processor_fault terms processor }
 {
     refuse_unless(

@@ -5,13 +5,12 @@ ghost use Rattle.queries.specs.Queries.{waits_query};
 ghost use Rattle.queries.specs.Parts.{board_with, state_with};
 ghost use Rattle.queries.specs.inner.Rows.{direct_rows};
 
-use crate::query_answers::MaskAnswer;
 use crate::query_checks::check_processor;
 use plans::{MAX_ENTRIES, MAX_PROCESSORS};
-use refusals::Verdict;
 use rules::{Board, Phases, State, Terms};
 use settling::clean;
 use waits::{waits_of, waits_of_all};
+use refusals::Refusal;
 
 // The direct waits of every processor.
 pub fn direct_rows(
@@ -37,7 +36,7 @@ pub fn direct_waits_in_place(
     earlier: &[u32; MAX_PROCESSORS],
     phases: Phases,
     processor: u8,
-) -> MaskAnswer
+) -> Result<u32, Refusal>
     ensures { mask_as_numbers result ≡ waits_query
         (board_with terms rows.now)
         (state_with requested.now earlier.now phases)
@@ -46,8 +45,8 @@ pub fn direct_waits_in_place(
     let verdict = check_processor(terms, processor);
     let counted = clean(terms, *requested, phases);
     match verdict {
-        Verdict::Accepted => {
-            MaskAnswer::Mask(waits_of(
+        Ok(()) => {
+            Ok(waits_of(
                 rows,
                 terms.writes,
                 requested,
@@ -56,12 +55,12 @@ pub fn direct_waits_in_place(
                 processor as u32,
             ))
         }
-        Verdict::Refused(refusal) => MaskAnswer::Refused(refusal),
+        Err(refusal) => Err(refusal),
     }
 }
 
 // The same by value.
-pub fn direct_waits(board: Board, state: State, processor: u8) -> MaskAnswer
+pub fn direct_waits(board: Board, state: State, processor: u8) -> Result<u32, Refusal>
     ensures { mask_as_numbers result ≡ waits_query board state processor }
 {
     let terms = board.terms;

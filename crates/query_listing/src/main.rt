@@ -10,11 +10,10 @@ mod scratch_line;
 mod text;
 
 use board_line::put_list;
-use encoding::Outcome;
 use input::{INPUT_ROOM, Input, after, opening};
 use listings::line_size;
 use log_input::{Source, due_size};
-use logs::{CALL_COUNT_BYTES, CountAnswer, RECORD_BYTES};
+use logs::{CALL_COUNT_BYTES, RECORD_BYTES};
 use plans::MAX_PROCESSORS;
 use query_line::query_line;
 use replay::{Begun, RanBlock};
@@ -22,6 +21,7 @@ use rules::{Board, State};
 use scratch_line::put_scratch;
 use std::io::Stdin;
 use text::{PAGE_ROOM, Page, front, print, put, put_line};
+use refusals::Refusal;
 
 // The processors that are asked for: all that have a place in a state, and one more.
 const ASKED: u8 = MAX_PROCESSORS as u8 + 1;
@@ -93,7 +93,7 @@ fn has_record(turn: Turn) -> bool {
 }
 
 // Writes the line at the start of `out`, if there is one and the replay has not ended.
-fn show(rt: &HostRuntime, line: Outcome, out: [u8; PAGE_ROOM], over: bool) {
+fn show(rt: &HostRuntime, line: Result<usize, Refusal>, out: [u8; PAGE_ROOM], over: bool) {
     let size = if over { 0 } else { line_size(line) };
     let page = Page {
         bytes: out,
@@ -131,7 +131,7 @@ fn print_calls(
     print_end(rt, left, rest);
 }
 
-fn print_count(rt: &HostRuntime, input: Input) -> CountAnswer {
+fn print_count(rt: &HostRuntime, input: Input) -> Result<u16, Refusal> {
     let mut out = [0u8; PAGE_ROOM];
     let bytes = input.bytes;
     let counted = replay::count(front(&bytes, input.have), &mut out);
@@ -149,7 +149,7 @@ fn print_rest(
     input: Input,
 ) {
     let calls = print_count(rt, input);
-    if let CountAnswer::Calls(left) = calls {
+    if let Ok(left) = calls {
         let rest = after(rt, source, input, CALL_COUNT_BYTES, due_size(left), false);
         print_calls(rt, source, board, state, left, rest);
     }
@@ -173,7 +173,7 @@ fn main(rt: HostRuntime) {
     let input = opening(&rt, &mut source);
     let begun = print_plan(&rt, input);
     let outcome = begun.outcome;
-    if let Outcome::Bytes(size) = outcome {
+    if let Ok(size) = outcome {
         let board = begun.board;
         let state = begun.state;
         let rest = after(&rt, &mut source, input, size, CALL_COUNT_BYTES, false);

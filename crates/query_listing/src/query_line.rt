@@ -1,19 +1,19 @@
 // The line of a processor: its number, state, direct waits and reach, or the refusal.
 use crate::text::{Line, empty, put, put_decimal, put_hex, put_word};
 use plans::mask_size;
-use queries::{MaskAnswer, PhaseAnswer, direct_waits, phase_number, phase_of};
+use queries::{direct_waits, phase_of};
 use reach::{MAX_SCRATCH_BYTES, reach};
 use refusals::Refusal;
 use rules::{Board, State};
 
 fn put_refusal(line: Line, refusal: Refusal) -> Line {
-    put_decimal(put_word(line, b" refused "), refusals::number(refusal))
+    put_decimal(put_word(line, b" refused "), u8::from(refusal))
 }
 
-fn put_mask(line: Line, answer: MaskAnswer, digits: usize) -> Line {
+fn put_mask(line: Line, answer: Result<u32, Refusal>, digits: usize) -> Line {
     match answer {
-        MaskAnswer::Mask(mask) => put_hex(put(line, 32), mask, digits),
-        MaskAnswer::Refused(refusal) => put_refusal(line, refusal),
+        Ok(mask) => put_hex(put(line, 32), mask, digits),
+        Err(refusal) => put_refusal(line, refusal),
     }
 }
 
@@ -29,10 +29,10 @@ pub fn query_line(board: Board, state: State, processor: u8) -> Line {
     let line = put_decimal(empty(), processor);
     let phase = phase_of(board, state, processor);
     match phase {
-        PhaseAnswer::Is(is) => {
+        Ok(is) => {
             let as_numbers = put_decimal(put(line, 32), phase_number(is));
             put_waits(as_numbers, board, state, processor)
         }
-        PhaseAnswer::Refused(refusal) => put_refusal(line, refusal),
+        Err(refusal) => put_refusal(line, refusal),
     }
 }

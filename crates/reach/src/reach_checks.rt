@@ -9,15 +9,14 @@ ghost use Rattle.queries.specs.Queries.{scratch_size};
 use crate::row_words::room_of;
 use encoding::check_room;
 use queries::check_processor;
-use refusals::{Verdict, first_of};
 use rules::Terms;
+use refusals::Refusal;
 
 // Refuses with 11, then with 16 a scratch that is too short.
-pub fn check_reach(terms: Terms, processor: u8, size: usize) -> Verdict
+pub fn check_reach(terms: Terms, processor: u8, size: usize) -> Result<(), Refusal>
     ensures { verdict_number result
         ≡ first_of (processor_fault terms processor) (room_fault (scratch_size terms.processors) size 0) }
 {
-    let counted = check_processor(terms, processor);
-    let room = check_room(room_of(terms.processors), size, 0);
-    first_of(counted, room)
+    check_processor(terms, processor)?;
+    check_room(room_of(terms.processors), size, 0)
 }

@@ -13,9 +13,9 @@ use crate::reach_checks::check_reach;
 use crate::reaching::reach_rows;
 use crate::row_words::write_rows;
 use plans::{MAX_ENTRIES, MAX_PROCESSORS};
-use queries::{MaskAnswer, direct_rows};
-use refusals::Verdict;
+use queries::direct_rows;
 use rules::{Board, Phases, State, Terms};
+use refusals::Refusal;
 
 // Writes the rows of all processors into the scratch, as words for a plan with this many processors, and returns the
 // row of one processor.
@@ -42,7 +42,7 @@ fn reach_from(
     direct: [u32; MAX_PROCESSORS],
     processor: u8,
     scratch: &mut [u8],
-) -> MaskAnswer
+) -> Result<u32, Refusal>
     ensures mask { (b : Board) (s : State) → terms ≡ b.terms → direct ≡ direct_rows b s
         → mask_as_numbers result ≡ reach_query b s processor scratch.old }
     ensures stored { (b : Board) (s : State) → terms ≡ b.terms → direct ≡ direct_rows b s
@@ -51,8 +51,8 @@ fn reach_from(
     let verdict = check_reach(terms, processor, scratch.len());
     let m = terms.processors;
     match verdict {
-        Verdict::Accepted => MaskAnswer::Mask(write_reach(m, direct, processor, scratch)),
-        Verdict::Refused(refusal) => MaskAnswer::Refused(refusal),
+        Ok(()) => Ok(write_reach(m, direct, processor, scratch)),
+        Err(refusal) => Err(refusal),
     }
 }
 
@@ -66,7 +66,7 @@ pub fn reach_in_place(
     phases: Phases,
     processor: u8,
     scratch: &mut [u8],
-) -> MaskAnswer
+) -> Result<u32, Refusal>
     ensures mask { mask_as_numbers result ≡ reach_query
         (board_with terms rows.now)
         (state_with requested.now earlier.now phases)
@@ -81,7 +81,7 @@ pub fn reach_in_place(
 }
 
 // The same by value.
-pub fn reach(board: Board, state: State, processor: u8, scratch: &mut [u8]) -> MaskAnswer
+pub fn reach(board: Board, state: State, processor: u8, scratch: &mut [u8]) -> Result<u32, Refusal>
     ensures mask { mask_as_numbers result ≡ reach_query board state processor scratch.old }
     ensures stored { scratch.new ≡ reach_scratch board state processor scratch.old }
 {

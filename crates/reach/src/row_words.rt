@@ -7,7 +7,7 @@ ghost use Rattle.encoding.specs.Buffers.{outcome_as_numbers};
 ghost use Rattle.plans.specs.Entries.{mask_size_for};
 ghost use Rattle.queries.specs.Words.{word_count, words_of, words_size, words_fault, words_scratch};
 
-use encoding::{Outcome, has_room, write_number};
+use encoding::{has_room, write_number};
 use plans::{MAX_PROCESSORS, mask_size};
 use refusals::Refusal;
 
@@ -41,7 +41,7 @@ fn store_rows(size: usize, rows: [u32; MAX_PROCESSORS], scratch: &mut [u8])
 
 // Clause 7.4: writes the rows into the scratch, a word for each, low byte first. The bytes after them stay. Refuses
 // with 16 a scratch that is too short, and then writes nothing.
-pub fn write_rows(processors: u8, rows: [u32; MAX_PROCESSORS], scratch: &mut [u8]) -> Outcome
+pub fn write_rows(processors: u8, rows: [u32; MAX_PROCESSORS], scratch: &mut [u8]) -> Result<usize, Refusal>
     ensures outcome { outcome_as_numbers result ≡ as_numbers
         (words_fault (mask_size_for processors) scratch.old)
         (words_size (mask_size_for processors)) }
@@ -51,8 +51,8 @@ pub fn write_rows(processors: u8, rows: [u32; MAX_PROCESSORS], scratch: &mut [u8
     let room = room_of(processors);
     if has_room(room, scratch.len(), 0) {
         store_rows(word, rows, scratch);
-        Outcome::Bytes(room)
+        Ok(room)
     } else {
-        Outcome::Refused(Refusal::Room)
+        Err(Refusal::Room)
     }
 }

@@ -1,5 +1,6 @@
 -- Numbers that are due: what follows for the parts if the number is 0, the number for a known test or verdict, and the
 -- order of several numbers. Assumes nothing.
+use Rattle.std.specs.Prelude.{Result, Ok, Err}
 use Prim.Native.Nat.{ℕ, zero, suc, ◌<◌}
 use mathlib.Core.Path.{◌≡◌, refl, sym, ap, ◌∙◌}
 use mathlib.Core.Bool.{Bool, true, false}
@@ -10,7 +11,6 @@ use Rattle.refusals.specs.declared.Refusal.{Refusal}
 use Rattle.refusals.specs.declared.Refusal.TheVariants.{Short, Tail, Processors, Resources, Entries, Kind, Set}
 use Rattle.refusals.specs.declared.Refusal.TheVariants.{Length, Verb, Tick, Processor, Entry, Busy, Idle, Unheld}
 use Rattle.refusals.specs.declared.Refusal.TheVariants.{Room, Held, Register}
-use Rattle.refusals.specs.declared.Verdict.{Verdict}
 use Rattle.refusals.specs.Number.{number_of, verdict_number}
 use Rattle.refusals.specs.Due.{due, first_of, as_numbers}
 
@@ -46,9 +46,9 @@ number_not_zero r = positive_not_zero (number_of r) (number_positive r)
 pub refused_not_zero : (r : Refusal) → number_of r ≡ 0 → ⊥
 refused_not_zero r e = omega (arith, number_positive r)
 
-pub verdict_accepted : (v : Verdict) → verdict_number v ≡ 0 → v ≡ Verdict.Accepted
-verdict_accepted Verdict.Accepted e = refl
-verdict_accepted (Verdict.Refused r) e = absurd (refused_not_zero r e)
+pub verdict_accepted : (v : Result Unit Refusal) → verdict_number v ≡ 0 → v ≡ Ok tt
+verdict_accepted (Ok tt) e = refl
+verdict_accepted (Err r) e = absurd (refused_not_zero r e)
 
 -- ---- the earlier of two
 
@@ -67,10 +67,10 @@ pub first_passes : (v w : ℕ) → v ≡ 0 → first_of v w ≡ w
 first_passes v w e = rw e
 
 -- The same for a known verdict.
-pub first_accepts_verdict : (v : Verdict) (w : ℕ) → v ≡ Verdict.Accepted → first_of (verdict_number v) w ≡ w
+pub first_accepts_verdict : (v : Result Unit Refusal) (w : ℕ) → v ≡ Ok tt → first_of (verdict_number v) w ≡ w
 first_accepts_verdict v w e = rw e
 
-pub first_refuses_verdict : (v : Verdict) (w : ℕ) (r : Refusal) → v ≡ Verdict.Refused r → first_of (verdict_number v) w
+pub first_refuses_verdict : (v : Result Unit Refusal) (w : ℕ) (r : Refusal) → v ≡ Err r → first_of (verdict_number v) w
     ≡ number_of r
 first_refuses_verdict v w r e = rw e (first_refuses (number_of r) w (number_positive r))
 

@@ -1,10 +1,10 @@
 -- The number of each refusal word. Specification, section 8.
+use Rattle.std.specs.Prelude.{Result, Ok, Err}
 use Rattle.std.specs.Prelude.{ℕ}
 use Rattle.refusals.specs.declared.Refusal.{Refusal}
 use Rattle.refusals.specs.declared.Refusal.TheVariants.{Short, Tail, Processors, Resources, Entries, Kind, Set}
 use Rattle.refusals.specs.declared.Refusal.TheVariants.{Length, Verb, Tick, Processor, Entry, Busy, Idle, Unheld}
 use Rattle.refusals.specs.declared.Refusal.TheVariants.{Room, Held, Register}
-use Rattle.refusals.specs.declared.Verdict.{Verdict}
 
 -- Clause 8.1: one number for each word of the table.
 abbrev pub number_of : Refusal → ℕ
@@ -28,6 +28,6 @@ number_of Held = 17
 number_of Register = 18
 
 -- A verdict as a number: 0 if accepted, else the refusal's number.
-abbrev pub verdict_number : Verdict → ℕ
-verdict_number Verdict.Accepted = 0
-verdict_number (Verdict.Refused r) = number_of r
+abbrev pub verdict_number : Result Unit Refusal → ℕ
+verdict_number (Ok tt) = 0
+verdict_number (Err r) = number_of r

@@ -1,102 +1,65 @@
 // Why a plan, a log record, a query, a call or a register access is refused: a variant and a number for each word of
-// clause 8.1. Every crate that refuses something uses it.
+// clause 8.1. What is checked or answered is a `Result` whose error is a refusal, so `?` gives the first refusal that is
+// due. Every crate that refuses something uses it.
 #![tactic(auto)]
 
 ghost use Rattle.std.specs.Prelude.{◌≡◌};
 ghost use Rattle.refusals.specs.Number.{number_of, verdict_number};
-ghost use Rattle.refusals.specs.Due.{due, first_of};
+ghost use Rattle.refusals.specs.Due.{due};
 
-#[derive(Clone, Copy)]
+#[derive(Clone, Copy, Debug, PartialEq, Eq)]
 pub enum Refusal {
     // The bytes end before a count, an entry or a call that is due.
-    Short,
+    Short = 1,
     // There are bytes after the last call of a log.
-    Tail,
+    Tail = 2,
     // A count of processors that is not 1 to 32.
-    Processors,
+    Processors = 3,
     // A count of resources that is not 1 to 64.
-    Resources,
+    Resources = 4,
     // A count of entries that is not 1 to 64.
-    Entries,
+    Entries = 5,
     // A kind that is neither 0 nor 1.
-    Kind,
+    Kind = 6,
     // An entry without names, or with one that is not counted.
-    Set,
+    Set = 7,
     // A length of 0.
-    Length,
+    Length = 8,
     // A verb above 3, or a completion or a withdrawal with an entry.
-    Verb,
+    Verb = 9,
     // A tick below the last accepted one, or above the largest.
-    Tick,
+    Tick = 10,
     // A processor that is not one of the plan's.
-    Processor,
+    Processor = 11,
     // An entry that is not one of the plan's.
-    Entry,
+    Entry = 12,
     // An issue while the processor's request is active.
-    Busy,
+    Busy = 13,
     // A completion, a withdrawal or a handover with no active request.
-    Idle,
+    Idle = 14,
     // A completion or a handover while the request is unsatisfied.
-    Unheld,
+    Unheld = 15,
     // Too few bytes from the position on, a position past the end, or a scratch or a buffer for a list that is too
     // short.
-    Room,
+    Room = 16,
     // A withdrawal of a request that holds.
-    Held,
+    Held = 17,
     // An offset that is not listed, one that may not be written, or a command above 4.
-    Register,
-}
-
-// Whether something is accepted: a plan, an entry, a record, a call.
-#[derive(Clone, Copy)]
-pub enum Verdict {
-    Accepted,
-    Refused(Refusal),
+    Register = 18,
 }
 
 // Clause 8.1: the number of a refusal.
-pub fn number(refusal: Refusal) -> u8
-    ensures { result ≡ number_of refusal }
-{
-    match refusal {
-        Refusal::Short => 1,
-        Refusal::Tail => 2,
-        Refusal::Processors => 3,
-        Refusal::Resources => 4,
-        Refusal::Entries => 5,
-        Refusal::Kind => 6,
-        Refusal::Set => 7,
-        Refusal::Length => 8,
-        Refusal::Verb => 9,
-        Refusal::Tick => 10,
-        Refusal::Processor => 11,
-        Refusal::Entry => 12,
-        Refusal::Busy => 13,
-        Refusal::Idle => 14,
-        Refusal::Unheld => 15,
-        Refusal::Room => 16,
-        Refusal::Held => 17,
-        Refusal::Register => 18,
+impl From<Refusal> for u8 {
+    ghost from_gives = { λ refusal number. number ≡ number_of refusal };
+
+    fn from(refusal: Refusal) -> u8 {
+        refusal as u8
     }
 }
 
 // Refuses unless the test holds.
-pub fn refuse_unless(holds: bool, refusal: Refusal) -> Verdict
+pub fn refuse_unless(holds: bool, refusal: Refusal) -> Result<(), Refusal>
     ensures { verdict_number result ≡ due holds (number_of refusal) }
 {
-    if holds {
-        Verdict::Accepted
-    } else {
-        Verdict::Refused(refusal)
-    }
-}
-
-// Of two checks, the earlier one decides if it refuses.
-pub fn first_of(earlier: Verdict, later: Verdict) -> Verdict
-    ensures { verdict_number result ≡ first_of (verdict_number earlier) (verdict_number later) }
-{
-    match earlier {
-        Verdict::Accepted => later,
-        Verdict::Refused(refusal) => Verdict::Refused(refusal),
-    }
+    if holds { Ok(()) } else { Err(refusal) }
 }

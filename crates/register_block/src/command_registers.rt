@@ -5,9 +5,8 @@ ghost use Rattle.rules.specs.Replies.{reply_as_numbers};
 ghost use Rattle.register_block.specs.Registers.{with_mask, accepted_block, replied_block};
 
 use encoding::write_number;
-use refusals::number;
 use registers::{BLOCK, Block, pending_in, with_line};
-use rules::Reply;
+use rules::{Done, Reply};
 
 // The bytes with a mask stored in four of them.
 fn put_mask(bytes: [u8; BLOCK], place: usize, mask: u64) -> [u8; BLOCK]
@@ -46,11 +45,11 @@ pub fn show(bytes: [u8; BLOCK], reply: Reply) -> Block
     ensures { result ≡ replied_block bytes (reply_as_numbers reply) }
 {
     match reply {
-        Reply::Done {
+        Ok(Done {
             granted,
             entitled,
             late,
-        } => accept(bytes, granted, entitled, late),
-        Reply::Refused(refusal) => refuse(bytes, number(refusal)),
+        }) => accept(bytes, granted, entitled, late),
+        Err(refusal) => refuse(bytes, u8::from(refusal)),
     }
 }

@@ -7,14 +7,14 @@ use crate::command_calls::call_of;
 use crate::command_registers::show;
 use arbiter::answer_on;
 use plans::MAX_ENTRIES;
-use refusals::{Refusal, Verdict};
+use refusals::Refusal;
 use registers::Block;
 use rules::{State, Terms};
 
 // Whether a write is accepted, and the state after it.
 #[derive(Clone, Copy)]
 pub struct Written {
-    pub verdict: Verdict,
+    pub verdict: Result<(), Refusal>,
     pub state: State,
 }
 
@@ -26,7 +26,7 @@ pub struct Change {
 }
 
 // A verdict, with the block and the state unchanged.
-pub fn unmoved(verdict: Verdict, block: Block, state: State) -> Change
+pub fn unmoved(verdict: Result<(), Refusal>, block: Block, state: State) -> Change
     ensures { result ≡ record { block = block; written = record { verdict = verdict; state = state } } }
 {
     Change {
@@ -52,14 +52,14 @@ pub fn command(
         ≡ commanded (board_by terms rows.now lengths.now) state block command }
 {
     if command == 0 {
-        return unmoved(Verdict::Accepted, block, state);
+        return unmoved(Ok(()), block, state);
     }
     if 4 < command {
-        return unmoved(Verdict::Refused(Refusal::Register), block, state);
+        return unmoved(Err(Refusal::Register), block, state);
     }
     let bytes = block.bytes;
     let answered = answer_on(terms, rows, lengths, state, call_of(bytes, command));
     let reply = answered.reply;
     let after = answered.state;
-    unmoved(Verdict::Accepted, show(bytes, reply), after)
+    unmoved(Ok(()), show(bytes, reply), after)
 }

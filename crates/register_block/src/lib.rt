@@ -16,11 +16,12 @@ ghost use Rattle.register_block.specs.Commands.{register_write, written_as_numbe
 pub use commands::{Change, Written};
 use plans::MAX_ENTRIES;
 pub use register_writes::write;
-use registers::{Block, ReadAnswer, read};
+use registers::{Block, read};
 use rules::{State, Terms};
+use refusals::Refusal;
 
 // Reads an offset of the block. Refused with 18.
-pub fn read_register(block: &Block, offset: u8) -> ReadAnswer
+pub fn read_register(block: &Block, offset: u8) -> Result<u8, Refusal>
     ensures { register_as_numbers result ≡ register_read block.now offset }
 {
     read(*block, offset)

@@ -5,7 +5,7 @@ ghost use Rattle.register_block.specs.Commands.{register_write, change_as_number
 
 use crate::commands::{Change, command, unmoved};
 use plans::MAX_ENTRIES;
-use refusals::{Refusal, Verdict};
+use refusals::Refusal;
 use registers::{Block, Register, register_at, store};
 use rules::{State, Terms};
 
@@ -25,11 +25,11 @@ pub fn write(
     let register = register_at(offset);
     match register {
         Register::Command => command(terms, rows, lengths, state, block, value),
-        Register::Argument => unmoved(Verdict::Accepted, store(block, offset, value), state),
-        Register::Answer => unmoved(Verdict::Refused(Refusal::Register), block, state),
-        Register::Pending => unmoved(Verdict::Accepted, store(block, offset, value), state),
-        Register::Enabled => unmoved(Verdict::Accepted, store(block, offset, value), state),
-        Register::Line => unmoved(Verdict::Refused(Refusal::Register), block, state),
-        Register::Unlisted => unmoved(Verdict::Refused(Refusal::Register), block, state),
+        Register::Argument => unmoved(Ok(()), store(block, offset, value), state),
+        Register::Answer => unmoved(Err(Refusal::Register), block, state),
+        Register::Pending => unmoved(Ok(()), store(block, offset, value), state),
+        Register::Enabled => unmoved(Ok(()), store(block, offset, value), state),
+        Register::Line => unmoved(Err(Refusal::Register), block, state),
+        Register::Unlisted => unmoved(Err(Refusal::Register), block, state),
     }
 }

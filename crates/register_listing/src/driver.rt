@@ -6,8 +6,9 @@ ghost use Rattle.register_block.specs.Commands.{register_write, change_as_number
 
 use plans::MAX_ENTRIES;
 use register_block::{Change, read_register, write_register};
-use registers::{Block, ReadAnswer};
+use registers::Block;
 use rules::{State, Terms};
+use refusals::Refusal;
 
 pub fn write_lent(
     terms: Terms,
@@ -29,7 +30,7 @@ pub fn write_lent(
     }
 }
 
-pub fn read_lent(block: Block, offset: u8) -> ReadAnswer
+pub fn read_lent(block: Block, offset: u8) -> Result<u8, Refusal>
     ensures { register_as_numbers result ≡ register_read block offset }
 {
     let kept = block;

@@ -8,11 +8,10 @@ mod driver;
 mod text;
 
 use driver::{read_lent, write_lent};
-use encoding::Outcome;
 use log_input::{Source, bring_to_front, fill_plan, fill_to, tell};
 use plans::Plan;
-use refusals::{Refusal, Verdict};
-use registers::{BLOCK, Block, ReadAnswer};
+use refusals::Refusal;
+use registers::{BLOCK, Block};
 use rules::{Board, State};
 use std::io::Stdin;
 use text::{Line, empty_line, print, put, put_block, put_number, put_word};
@@ -41,22 +40,22 @@ struct Input {
 }
 
 fn put_refusal(line: Line, refusal: Refusal) -> Line {
-    put_number(put_word(line, b"refused"), refusals::number(refusal))
+    put_number(put_word(line, b"refused"), u8::from(refusal))
 }
 
-fn read_line(offset: u8, answer: ReadAnswer) -> Line {
+fn read_line(offset: u8, answer: Result<u8, Refusal>) -> Line {
     let lead = put_number(put(empty_line(), b'r'), offset);
     match answer {
-        ReadAnswer::Value(value) => put_number(lead, value),
-        ReadAnswer::Refused(refusal) => put_refusal(put(lead, 32), refusal),
+        Ok(value) => put_number(lead, value),
+        Err(refusal) => put_refusal(put(lead, 32), refusal),
     }
 }
 
-fn write_line(offset: u8, value: u8, verdict: Verdict) -> Line {
+fn write_line(offset: u8, value: u8, verdict: Result<(), Refusal>) -> Line {
     let lead = put_number(put_number(put(empty_line(), b'w'), offset), value);
     match verdict {
-        Verdict::Accepted => lead,
-        Verdict::Refused(refusal) => put_refusal(put(lead, 32), refusal),
+        Ok(()) => lead,
+        Err(refusal) => put_refusal(put(lead, 32), refusal),
     }
 }
 
@@ -153,12 +152,12 @@ fn print_listing(rt: &HostRuntime, source: &mut Source<Stdin>, input: Input) {
     let read = plan_bytes::read(&bytes[..end]);
     let outcome = read.outcome;
     match outcome {
-        Outcome::Bytes(size) => {
+        Ok(size) => {
             let plan = read.plan;
             let rest = after(rt, source, input, size);
             take_turns(rt, source, opened(plan), rest);
         }
-        Outcome::Refused(refusal) => print(rt, put(put_refusal(empty_line(), refusal), 10)),
+        Err(refusal) => print(rt, put(put_refusal(empty_line(), refusal), 10)),
     }
 }
 

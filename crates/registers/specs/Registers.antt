@@ -1,4 +1,6 @@
 -- The register block: which register is at which offset, and what a read returns. Specification, section 10.
+use Rattle.std.specs.Prelude.{Result, Ok, Err}
+use Rattle.refusals.specs.declared.Refusal.{Refusal}
 use Rattle.std.specs.Prelude.{ℕ, Bool, cond, ◌&&◌, ◌||◌, List, eqb, leb, get_or, set}
 use Rattle.std.proofs.Math.Seq.{slice}
 use Rattle.masks.specs.Sets.{bit, some}
@@ -9,7 +11,6 @@ use Rattle.registers.specs.declared.Register.{Register}
 use Rattle.registers.specs.declared.Register.TheVariants.{Command, Argument, Answer, Pending, Enabled, Line}
 use Rattle.registers.specs.declared.Register.TheVariants.{Unlisted}
 use Rattle.registers.specs.declared.Block.{Block}
-use Rattle.registers.specs.declared.ReadAnswer.{ReadAnswer}
 
 abbrev between : ℕ → ℕ → ℕ → Bool
 between first last offset = leb first offset && leb offset last
@@ -90,6 +91,6 @@ register_read block offset = as_numbers (register_fault (register_at offset))
     (shown_at (register_at offset) block.bytes offset)
 
 -- The answer to a read as numbers: the value, or the refusal.
-abbrev pub register_as_numbers : ReadAnswer → AsNumbers
-register_as_numbers (ReadAnswer.Value value) = record { number = 0; value = value }
-register_as_numbers (ReadAnswer.Refused r) = record { number = number_of r; value = 0 }
+abbrev pub register_as_numbers : Result ℕ Refusal → AsNumbers
+register_as_numbers (Ok value) = record { number = 0; value = value }
+register_as_numbers (Err r) = record { number = number_of r; value = 0 }

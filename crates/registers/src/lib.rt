@@ -10,7 +10,6 @@ ghost use Rattle.registers.specs.Registers.{tick_in, pending_in, enabled_in, lin
 
 use encoding::read_number;
 use masks::meet64;
-use refusals::Refusal;
 pub use register_reads::{read, register_at};
 pub use register_stores::store;
 
@@ -40,13 +39,6 @@ pub enum Register {
     Line,
     // Every other offset.
     Unlisted,
-}
-
-// The value of a register, or the refusal.
-#[derive(Clone, Copy)]
-pub enum ReadAnswer {
-    Value(u8),
-    Refused(Refusal),
 }
 
 // The tick of the next command.

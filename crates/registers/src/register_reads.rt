@@ -2,7 +2,7 @@
 ghost use Rattle.std.specs.Prelude.{◌≡◌};
 ghost use Rattle.registers.specs.Registers.{register_at, register_read, register_as_numbers};
 
-use crate::{Block, ReadAnswer, Register, line_of};
+use crate::{Block, Register, line_of};
 use encoding::byte_at;
 use refusals::Refusal;
 
@@ -32,19 +32,19 @@ pub fn register_at(offset: u8) -> Register
 }
 
 // Reads an offset of a block. Refuses with 18 if the offset is not listed.
-pub fn read(block: Block, offset: u8) -> ReadAnswer
+pub fn read(block: Block, offset: u8) -> Result<u8, Refusal>
     ensures { register_as_numbers result ≡ register_read block offset }
 {
     let bytes = block.bytes;
     let byte = byte_at(&bytes, offset as usize);
     let register = register_at(offset);
     match register {
-        Register::Command => ReadAnswer::Value(0),
-        Register::Argument => ReadAnswer::Value(byte),
-        Register::Answer => ReadAnswer::Value(byte),
-        Register::Pending => ReadAnswer::Value(byte),
-        Register::Enabled => ReadAnswer::Value(byte),
-        Register::Line => ReadAnswer::Value(line_of(bytes)),
-        Register::Unlisted => ReadAnswer::Refused(Refusal::Register),
+        Register::Command => Ok(0),
+        Register::Argument => Ok(byte),
+        Register::Answer => Ok(byte),
+        Register::Pending => Ok(byte),
+        Register::Enabled => Ok(byte),
+        Register::Line => Ok(line_of(bytes)),
+        Register::Unlisted => Err(Refusal::Register),
     }
 }

@@ -7,37 +7,36 @@ ghost use Rattle.logs.specs.Records.{count_as_numbers, read_count};
 ghost use Rattle.listings.specs.PlainLines.{line_as_numbers, line_buffer};
 ghost use Rattle.replay.specs.Ends.{fault_line, count_line, end_fault, end_line};
 
-use encoding::Outcome;
 use listings::refusal_line;
-use logs::{CountAnswer, RecordAnswer, check_tail, read_count, read_record};
-use refusals::Verdict;
+use logs::{check_tail, read_count, read_record};
+use refusals::Refusal;
 
 // How many calls follow, or the refusal; and the line of the refusal.
 #[derive(Clone, Copy)]
 pub struct CallCount {
-    pub calls: CountAnswer,
-    pub line: Outcome,
+    pub calls: Result<u16, Refusal>,
+    pub line: Result<usize, Refusal>,
 }
 
 // ---- before the calls
 
 // The line of a refusal, and no line if there is no refusal.
-fn verdict_line(verdict: Verdict, out: &mut [u8]) -> Outcome
+fn verdict_line(verdict: Result<(), Refusal>, out: &mut [u8]) -> Result<usize, Refusal>
     ensures outcome { outcome_as_numbers result ≡ line_as_numbers (fault_line (verdict_number verdict)) (length out.old) 0 }
     ensures written { out.new ≡ line_buffer (fault_line (verdict_number verdict)) out.old 0 }
 {
     match verdict {
-        Verdict::Accepted => Outcome::Bytes(0),
-        Verdict::Refused(refusal) => refusal_line(refusal, out, 0),
+        Ok(()) => Ok(0),
+        Err(refusal) => refusal_line(refusal, out, 0),
     }
 }
 
-fn count_verdict(calls: CountAnswer) -> Verdict
+fn count_verdict(calls: Result<u16, Refusal>) -> Result<(), Refusal>
     ensures { verdict_number result ≡ (count_as_numbers calls).number }
 {
     match calls {
-        CountAnswer::Calls(_) => Verdict::Accepted,
-        CountAnswer::Refused(refusal) => Verdict::Refused(refusal),
+        Ok(_) => Ok(()),
+        Err(refusal) => Err(refusal),
     }
 }
 
@@ -60,7 +59,7 @@ pub fn count(bytes: &[u8], out: &mut [u8]) -> CallCount
 // ---- after the calls
 
 // The refusal of the bytes at the end of the input: a call is due, or there is a byte after the last call.
-fn end_fault(left: u16, bytes: &[u8]) -> Verdict
+fn end_fault(left: u16, bytes: &[u8]) -> Result<(), Refusal>
     ensures { verdict_number result ≡ end_fault left bytes.now }
 {
     if left == 0 {
@@ -68,13 +67,13 @@ fn end_fault(left: u16, bytes: &[u8]) -> Verdict
     }
     let found = read_record(bytes);
     match found {
-        RecordAnswer::Is(_) => Verdict::Accepted,
-        RecordAnswer::Refused(refusal) => Verdict::Refused(refusal),
+        Ok(_) => Ok(()),
+        Err(refusal) => Err(refusal),
     }
 }
 
 // The line that ends the listing, if any. The input has ended with less than a record left over, or no call is left.
-pub fn finish(left: u16, bytes: &[u8], out: &mut [u8]) -> Outcome
+pub fn finish(left: u16, bytes: &[u8], out: &mut [u8]) -> Result<usize, Refusal>
     ensures outcome { outcome_as_numbers result ≡ line_as_numbers (end_line left bytes.now) (length out.old) 0 }
     ensures written { out.new ≡ line_buffer (end_line left bytes.now) out.old 0 }
 {

@@ -10,29 +10,29 @@ ghost use Rattle.replay.specs.Openings.{opening_line};
 ghost use Rattle.replay.specs.inner.Opening.{opening_by};
 
 use boards::fresh_of;
-use encoding::Outcome;
 use listings::{first_line, refusal_line};
 use plans::Plan;
 use rules::{Board, State};
+use refusals::Refusal;
 
 // The plan's outcome, the fresh arbiter of its plan, and the line that opens the listing.
 #[derive(Clone, Copy)]
 pub struct Begun {
-    pub outcome: Outcome,
+    pub outcome: Result<usize, Refusal>,
     pub board: Board,
     pub state: State,
-    pub line: Outcome,
+    pub line: Result<usize, Refusal>,
 }
 
 // The first line of an accepted plan, or the line of the plan's refusal.
-fn opening_line(outcome: Outcome, plan: Plan, out: &mut [u8]) -> Outcome
+fn opening_line(outcome: Result<usize, Refusal>, plan: Plan, out: &mut [u8]) -> Result<usize, Refusal>
     ensures outcome { outcome_as_numbers result
         ≡ line_as_numbers (opening_by (outcome_as_numbers outcome).number plan) (length out.old) 0 }
     ensures written { out.new ≡ line_buffer (opening_by (outcome_as_numbers outcome).number plan) out.old 0 }
 {
     match outcome {
-        Outcome::Bytes(_) => first_line(plan, out, 0),
-        Outcome::Refused(refusal) => refusal_line(refusal, out, 0),
+        Ok(_) => first_line(plan, out, 0),
+        Err(refusal) => refusal_line(refusal, out, 0),
     }
 }
 

@@ -8,7 +8,7 @@ ghost use Rattle.replay.specs.Records.{record_step};
 
 use crate::carrying_out::{Replayed, carry_out};
 use listings::{line_size, refusal_line};
-use logs::{RecordAnswer, read_record};
+use logs::read_record;
 use plans::{MAX_ENTRIES, MAX_PROCESSORS};
 use rules::{Moment, Terms};
 
@@ -41,10 +41,10 @@ pub fn replay_record(
 {
     let found = read_record(bytes);
     match found {
-        RecordAnswer::Is(call) => carry_out(
+        Ok(call) => carry_out(
             terms, rows, lengths, pairs, moment, requested, since, earlier, call, out, at,
         ),
-        RecordAnswer::Refused(refusal) => {
+        Err(refusal) => {
             let written = line_size(refusal_line(refusal, out, at));
             Replayed {
                 moment: moment,

@@ -12,16 +12,16 @@ pub enum Call {
     Handover { processor: u8, entry: u8, tick: u64 },
 }
 
-// An accepted call's masks and late mark, or the refusal. Bit p of a mask is processor p.
+// An accepted call's masks and late mark. Bit p of a mask is processor p.
 #[derive(Clone, Copy)]
-pub enum Reply {
-    Done {
-        granted: u32,
-        entitled: u32,
-        late: u8,
-    },
-    Refused(Refusal),
+pub struct Done {
+    pub granted: u32,
+    pub entitled: u32,
+    pub late: u8,
 }
+
+// What a call returns: what it did, or the refusal.
+pub type Reply = Result<Done, Refusal>;
 
 // What a call in place returns: the reply, and the moment after it.
 #[derive(Clone, Copy)]

@@ -6,5 +6,5 @@
 mod calls;
 mod states;
 
-pub use calls::{Call, Changed, Reply};
-pub use states::{Board, Moment, Phases, State, Terms};
+pub use calls::{Call, Changed, Done, Reply};
+pub use states::{Board, LentArrays, LentBoard, LentFacts, Moment, Phases, State, Terms};

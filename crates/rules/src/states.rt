@@ -46,3 +46,30 @@ pub struct Moment {
     pub last: u64,
     pub phases: Phases,
 }
+
+// ---- what is lent to a call or a query
+
+// What a call reads of a board.
+#[derive(Clone, Copy)]
+pub struct LentBoard<'a> {
+    pub terms: Terms,
+    pub rows: &'a [u64; MAX_ENTRIES],
+    pub lengths: &'a [u16; MAX_ENTRIES],
+}
+
+// What settling, the direct waits and the queries read of a board and of a state's arrays.
+#[derive(Clone, Copy)]
+pub struct LentFacts<'a> {
+    pub terms: Terms,
+    pub rows: &'a [u64; MAX_ENTRIES],
+    pub requested: &'a [u8; MAX_PROCESSORS],
+    pub earlier: &'a [u32; MAX_PROCESSORS],
+}
+
+// The three arrays of a state, which a call changes in place.
+#[derive(Drop)]
+pub struct LentArrays<'a> {
+    pub requested: &'a mut [u8; MAX_PROCESSORS],
+    pub since: &'a mut [u64; MAX_PROCESSORS],
+    pub earlier: &'a mut [u32; MAX_PROCESSORS],
+}

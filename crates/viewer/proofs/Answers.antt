@@ -1,11 +1,11 @@
 -- From the contracts of the reader and of the figures to those of the viewer. Assumes nothing.
+use Rattle.std.specs.Prelude.{Result, Ok, Err}
 use Prim.Native.Nat.{ℕ}
 use mathlib.Core.Path.{◌≡◌, ap, ◌∙◌}
 use mathlib.Core.List.{List}
 use Rattle.refusals.specs.declared.Refusal.{Refusal}
 use Rattle.refusals.specs.Due.{as_numbers}
 use Rattle.refusals.proofs.Numbers.{number_not_zero}
-use Rattle.encoding.specs.declared.Outcome.{Outcome}
 use Rattle.encoding.specs.Buffers.{outcome_as_numbers}
 use Rattle.plans.specs.Figures.{figures_of}
 use Rattle.plans.specs.Reading.{read_fault, read_as_numbers, plan_read}
@@ -13,10 +13,10 @@ use Rattle.plans.specs.declared.Figures.{Figures}
 use Rattle.plans.specs.declared.Read.{Read}
 
 -- The value for a known outcome.
-pub value_read : (o : Outcome) (n x : ℕ) → o ≡ Outcome.Bytes n → x ≡ (as_numbers (outcome_as_numbers o).number x).value
+pub value_read : (o : Result ℕ Refusal) (n x : ℕ) → o ≡ Ok n → x ≡ (as_numbers (outcome_as_numbers o).number x).value
 value_read o n x e = rw e
 
-pub value_refused : (o : Outcome) (r : Refusal) (x : ℕ) → o ≡ Outcome.Refused r → 0
+pub value_refused : (o : Result ℕ Refusal) (r : Refusal) (x : ℕ) → o ≡ Err r → 0
     ≡ (as_numbers (outcome_as_numbers o).number x).value
 value_refused o r x e = rw (e, number_not_zero r)
 

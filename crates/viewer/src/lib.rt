@@ -8,25 +8,26 @@ ghost use Rattle.refusals.specs.Due.{as_numbers};
 ghost use Rattle.encoding.specs.Buffers.{outcome_as_numbers};
 ghost use Rattle.viewer.specs.Viewer.{plan_refusal, plan_read_figure, plan_write_figure};
 
-use encoding::Outcome;
+use refusals::Refusal;
+
 
 // 0 if the plan was read, else the refusal's number.
-fn number_of(outcome: Outcome) -> u32
+fn number_of(outcome: Result<usize, Refusal>) -> u32
     ensures { result ≡ (outcome_as_numbers outcome).number }
 {
     match outcome {
-        Outcome::Bytes(_) => 0,
-        Outcome::Refused(refusal) => refusals::number(refusal) as u32,
+        Ok(_) => 0,
+        Err(refusal) => u8::from(refusal) as u32,
     }
 }
 
 // The figure if the plan was read, else 0.
-fn figure_or_zero(outcome: Outcome, figure: u32) -> u32
+fn figure_or_zero(outcome: Result<usize, Refusal>, figure: u32) -> u32
     ensures { result ≡ (as_numbers (outcome_as_numbers outcome).number figure).value }
 {
     match outcome {
-        Outcome::Bytes(_) => figure,
-        Outcome::Refused(_) => 0,
+        Ok(_) => figure,
+        Err(_) => 0,
     }
 }
 

@@ -1,4 +1,6 @@
 -- What a block returns is within the block, the calls that are left and the buffer. Assumes nothing.
+use Rattle.std.specs.Prelude.{Result, Ok}
+use Rattle.refusals.specs.declared.Refusal.{Refusal}
 use Prim.Native.Nat.{ℕ, zero, suc, ◌+◌, ◌*◌, ◌≤◌}
 use mathlib.Core.Path.{◌≡◌, refl, ap, ◌∙◌}
 use mathlib.Core.Bool.{Bool, true, false, cond}
@@ -9,7 +11,6 @@ use lib.Dec.{eqb}
 use lib.ListN.{length, take, drop, length-append}
 use lib.Seq.{length-take-le}
 use Rattle.refusals.specs.Due.{AsNumbers}
-use Rattle.encoding.specs.declared.Outcome.{Outcome}
 use Rattle.encoding.specs.Buffers.{room_fault, overwritten, outcome_as_numbers}
 use Rattle.encoding.proofs.Room.{room_fits}
 use Rattle.encoding.proofs.Outcomes.{bytes_said}
@@ -34,7 +35,7 @@ calls_within b (suc k) st s =
     ]
 
 -- A line takes no more bytes than the buffer has.
-pub line_within : (bytes : List ℕ) (size at : ℕ) (la : Outcome) → outcome_as_numbers la ≡ line_as_numbers bytes size at
+pub line_within : (bytes : List ℕ) (size at : ℕ) (la : Result ℕ Refusal) → outcome_as_numbers la ≡ line_as_numbers bytes size at
     → (outcome_as_numbers la).value ≤ size
 line_within bytes size at la e = rw (ap (λ (x : AsNumbers). x.value) e)
     (go (eqb (room_fault (length bytes) size at) 0) refl)
@@ -68,9 +69,9 @@ module _ (b : Board) (st : State) (left size : ℕ) (s : List ℕ) (r : RanBlock
       )
 
 -- A plan ends within the bytes that were lent.
-pub plan_filled : (plan : List ℕ) (filled n : ℕ) (o : Outcome) → outcome_as_numbers o ≡ read_as_numbers (take filled plan)
+pub plan_filled : (plan : List ℕ) (filled n : ℕ) (o : Result ℕ Refusal) → outcome_as_numbers o ≡ read_as_numbers (take filled plan)
     → filled ≤ length plan
-    → o ≡ Outcome.Bytes n
+    → o ≡ Ok n
     → n ≤ filled
 plan_filled plan filled n o says h e =
     let read = bytes_said o _ _ says n e in

@@ -5,14 +5,14 @@ use Rattle.refusals.proofs.Numbers.{number_not_zero}
 use Rattle.boards.specs.Fresh.{fresh_board}
 use Rattle.boards.proofs.fresh_of.Goals as goal
 
-pub returns-in-Accepted-clause-board : goal.returns-in-Accepted-clause-board
+pub returns-in-Ok-clause-board : goal.returns-in-Ok-clause-board
 unfolding fresh_board
-returns-in-Accepted-clause-board c =
-    let none = ap verdict_number (sym c.in-Accepted.is) ∙ c.check-verdict.ensures in
+returns-in-Ok-clause-board c =
+    let none = ap verdict_number (sym c.in-Ok.is) ∙ c.check-verdict.ensures in
     rw (← none) c.board_of-board.ensures
 
-pub returns-in-Refused-clause-board : goal.returns-in-Refused-clause-board
+pub returns-in-Err-clause-board : goal.returns-in-Err-clause-board
 unfolding fresh_board
-returns-in-Refused-clause-board c =
-    let fault = ap verdict_number (sym c.in-Refused.is) ∙ c.check-verdict.ensures in
+returns-in-Err-clause-board c =
+    let fault = ap verdict_number (sym c.in-Err.is) ∙ c.check-verdict.ensures in
     rw (← fault, number_not_zero _) c.blank_board-board.ensures

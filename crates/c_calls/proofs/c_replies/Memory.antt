@@ -1,5 +1,6 @@
 -- A call in place whose reply is returned in numbers leaves the same answer: its moment is stored if it was carried
 -- out, and nothing is stored if it was refused. Assumes nothing.
+use Rattle.std.specs.Prelude.{Result, Ok, Err}
 use Prim.Native.Nat.{ℕ}
 use mathlib.Core.Bool.{Bool, true, false, cond}
 use mathlib.Core.List.{List}
@@ -8,7 +9,6 @@ use lib.Dec.{eqb}
 use Rattle.refusals.specs.declared.Refusal.{Refusal}
 use Rattle.refusals.specs.Number.{number_of}
 use Rattle.refusals.proofs.Numbers.{refused_not_zero}
-use Rattle.rules.specs.declared.calls.Reply.{Reply}
 use Rattle.rules.specs.Replies.{reply_as_numbers, refused_with}
 use Rattle.rules.specs.declared.calls.Changed.{Changed}
 use Rattle.rules.specs.Calls.{Answer, ruled}
@@ -47,10 +47,10 @@ ruled_stays n s a zero = state_kept (eqb n 0) n s a zero
 
 -- The moment that is left is the one after the call; after a refused call it is the one before.
 moment_after : (x : Answer) (s : State) → Stays x s → (changed : Changed) (entry since earlier : List ℕ)
-    → answer_by changed entry since earlier ≡ x → (r : Reply) → changed.reply ≡ r
+    → answer_by changed entry since earlier ≡ x → (r : Result Done Refusal) → changed.reply ≡ r
     → moment_left r changed.moment (record { last = s.last; phases = s.phases }) ≡ changed.moment
-moment_after x s stays changed entry since earlier is (Reply.Done granted entitled late) e = refl
-moment_after x s stays changed entry since earlier is (Reply.Refused r) e =
+moment_after x s stays changed entry since earlier is (Ok d) e = refl
+moment_after x s stays changed entry since earlier is (Err r) e =
     sym
     (ap (λ a. record { last = a.state.last; phases = a.state.phases }) is
     ∙ ap (λ a. record { last = a.last; phases = a.phases })

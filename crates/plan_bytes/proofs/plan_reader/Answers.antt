@@ -1,4 +1,5 @@
 -- What a refusal returns: its number, and the blank plan. Assumes nothing.
+use Rattle.std.specs.Prelude.{Err}
 use Prim.Native.Nat.{ℕ}
 use mathlib.Core.Path.{◌≡◌, sym, ap, ◌∙◌}
 use mathlib.Core.Bool.{cond}
@@ -7,13 +8,12 @@ use Rattle.refusals.specs.declared.Refusal.{Refusal}
 use Rattle.refusals.specs.Number.{number_of}
 use Rattle.refusals.specs.Due.{as_numbers}
 use Rattle.refusals.proofs.Numbers.{number_positive, number_not_zero, said_refusal}
-use Rattle.encoding.specs.declared.Outcome.{Outcome}
 use Rattle.encoding.specs.Buffers.{outcome_as_numbers}
 use Rattle.plans.specs.declared.Plan.{Plan}
 use Rattle.plans.specs.declared.Read.{Read}
 use Rattle.plans.specs.Reading.{blank_plan}
 
-pub refused_only : (read : Read) (r : Refusal) → read ≡ record { outcome = Outcome.Refused r; plan = blank_plan }
+pub refused_only : (read : Read) (r : Refusal) → read ≡ record { outcome = Err r; plan = blank_plan }
     → (fault : ℕ) → fault ≡ number_of r → (n : ℕ) (p : Plan)
     → (outcome_as_numbers read.outcome ≡ as_numbers fault n) × (read.plan ≡ cond (eqb fault 0) p blank_plan)
 refused_only read r e fault f n p = (

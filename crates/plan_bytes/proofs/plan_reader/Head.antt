@@ -1,11 +1,11 @@
 -- The counts of a plan and then its entries: the fault of the whole. If the counts have no fault, they are there.
 -- Assumes nothing.
+use Rattle.std.specs.Prelude.{Result, Ok, Err}
 use Prim.Native.Nat.{ℕ}
 use mathlib.Core.Path.{◌≡◌, sym, ap, ◌∙◌}
 use mathlib.Core.List.{List}
 use lib.ListN.{get_or}
 use Rattle.refusals.specs.declared.Refusal.{Refusal}
-use Rattle.refusals.specs.declared.Verdict.{Verdict}
 use Rattle.refusals.specs.Number.{number_of, verdict_number}
 use Rattle.refusals.specs.Due.{first_of}
 use Rattle.refusals.proofs.Numbers.{first_accepted, first_assoc, first_of_four, first_accepts_verdict}
@@ -34,14 +34,14 @@ module _ (s : List ℕ) where
       (second ∙ ap (λ k. first_of (short_fault 2 s) (first_of (resources_fault (get_or s 1 0)) k)) third))
 
   -- What the check of the counts found.
-  module _ (v : Verdict) (is : verdict_number v ≡ head_fault s) where
-    pub fault_of_entries : v ≡ Verdict.Accepted → read_fault s ≡ body_fault s
+  module _ (v : Result Unit Refusal) (is : verdict_number v ≡ head_fault s) where
+    pub fault_of_entries : v ≡ Ok tt → read_fault s ≡ body_fault s
     fault_of_entries e = head_then_body ∙ rw (← is) (first_accepts_verdict v (body_fault s) e)
 
-    pub fault_of_counts : (r : Refusal) → v ≡ Verdict.Refused r → read_fault s ≡ number_of r
+    pub fault_of_counts : (r : Refusal) → v ≡ Err r → read_fault s ≡ number_of r
     fault_of_counts r e = head_then_body ∙ rw (← is) (first_refuses_verdict v (body_fault s) r e)
 
-    pub counts_there : v ≡ Verdict.Accepted → CountsThere s
+    pub counts_there : v ≡ Ok tt → CountsThere s
     unfolding head_fault
     counts_there e =
         let rest = (first_accepted (first_count s) (first_of (second_count s) (third_count s))

@@ -1,5 +1,6 @@
 -- One turn of the loop over the entries of a plan: what was read so far, and what each branch makes of it. Assumes
 -- nothing.
+use Rattle.std.specs.Prelude.{Result, Ok, Err}
 use Prim.Native.Nat.{ℕ, zero, suc, ◌+◌, ◌-◌, ◌≤◌, ◌<◌}
 use native.Mathlib.Nat.{le_refl}
 use native.Mathlib.Numerals.{add-one}
@@ -12,7 +13,6 @@ use lib.Dec.{eqb}
 use lib.ListN.{length, get_or, take, drop, set, replicate, length-drop}
 use lib.Seq.{drop-drop, set_at, take_all}
 use Rattle.refusals.specs.declared.Refusal.{Refusal}
-use Rattle.refusals.specs.declared.Verdict.{Verdict}
 use Rattle.refusals.specs.Number.{number_of, verdict_number}
 use Rattle.refusals.specs.Due.{first_of, as_numbers}
 use Rattle.refusals.proofs.Numbers.{first_of_four, first_accepts_verdict, first_refuses_verdict}
@@ -78,14 +78,14 @@ pub rest_length : (at : ℕ) (bytes : List ℕ) → length (take (length bytes -
 rest_length at bytes = rw (take_all (length bytes - at) (drop at bytes) (rw length-drop (le_refl _)), length-drop)
 
 -- A verdict is not both accepted and refused.
-pub not_both : (v : Verdict) (r : Refusal) → v ≡ Verdict.Refused r → v ≡ Verdict.Accepted → ⊥
+pub not_both : (v : Result Unit Refusal) (r : Refusal) → v ≡ Err r → v ≡ Ok tt → ⊥
 not_both v r f a =
     let z : ◌≡◌ {A = ℕ} 0 1 = cc in
     omega arith
 
 -- The loop ends with the refusal that a check returned.
-pub left_with : (v : Verdict) (r q : Refusal) → v ≡ Verdict.Refused r → (fault : ℕ) → fault ≡ number_of q
-    → v ≡ Verdict.Refused q → fault ≡ number_of r
+pub left_with : (v : Result Unit Refusal) (r q : Refusal) → v ≡ Err r → (fault : ℕ) → fault ≡ number_of q
+    → v ≡ Err q → fault ≡ number_of r
 left_with v r q e fault f found = f ∙ sym (ap verdict_number found) ∙ ap verdict_number e
 
 module _
@@ -103,7 +103,7 @@ module _
     module _
         (more : i < n) (there : entry_size ≤ length bytes - at) (e : Entry)
         (read : e ≡ entry_in (take (length bytes - at) (drop at bytes)))
-        (kind : Verdict) (k : verdict_number kind ≡ kind_fault e)
+        (kind : Result Unit Refusal) (k : verdict_number kind ≡ kind_fault e)
       where
         entry_read : e ≡ entry_in (drop at bytes)
         entry_read = rw (take_all (length bytes - at) (drop at bytes) (rw length-drop (le_refl _))) at read
@@ -122,33 +122,33 @@ module _
             ∙ rw (turn, enough_at entry_size (drop at bytes) due, ← entry_read, drop-drop (entry_size_of e) at bytes, k)
             (sym (first_of_four (kind_fault e) (set_fault resources e) (length_fault e) later))
 
-        pub kind_refused : (r : Refusal) → kind ≡ Verdict.Refused r
+        pub kind_refused : (r : Refusal) → kind ≡ Err r
             → section_fault resources n (drop counts_size bytes) ≡ number_of r
         kind_refused r f = entry_first ∙ first_refuses_verdict kind _ r f
 
         module _
-            (kind-passes : kind ≡ Verdict.Accepted) (names : Verdict) (s : verdict_number names ≡ set_fault resources e)
+            (kind-passes : kind ≡ Ok tt) (names : Result Unit Refusal) (s : verdict_number names ≡ set_fault resources e)
           where
             names_first : section_fault resources n (drop counts_size bytes)
                 ≡ first_of (verdict_number names) (first_of (length_fault e) later)
             names_first = entry_first ∙ first_accepts_verdict kind _ kind-passes ∙ rw s
 
-            pub names_refused : (r : Refusal) → names ≡ Verdict.Refused r
+            pub names_refused : (r : Refusal) → names ≡ Err r
                 → section_fault resources n (drop counts_size bytes) ≡ number_of r
             names_refused r f = names_first ∙ first_refuses_verdict names _ r f
 
             module _
-                (names-pass : names ≡ Verdict.Accepted) (ticks : Verdict) (l : verdict_number ticks ≡ length_fault e)
+                (names-pass : names ≡ Ok tt) (ticks : Result Unit Refusal) (l : verdict_number ticks ≡ length_fault e)
               where
                 ticks_first : section_fault resources n (drop counts_size bytes) ≡ first_of (verdict_number ticks) later
                 ticks_first = names_first ∙ first_accepts_verdict names _ names-pass ∙ rw l
 
-                pub ticks_refused : (r : Refusal) → ticks ≡ Verdict.Refused r
+                pub ticks_refused : (r : Refusal) → ticks ≡ Err r
                     → section_fault resources n (drop counts_size bytes) ≡ number_of r
                 ticks_refused r f = ticks_first ∙ first_refuses_verdict ticks _ r f
 
                 -- The entry has no fault and is stored.
-                pub entry_passes : ticks ≡ Verdict.Accepted → n ≤ max_entries → (size : ℕ) → size ≡ entry_size_of e
+                pub entry_passes : ticks ≡ Ok tt → n ≤ max_entries → (size : ℕ) → size ≡ entry_size_of e
                     → SoFar resources n bytes (set entries i e) (at + size) (i + 1)
                 entry_passes a most size sized =
                     let small : i < max_entries = omega arith in

@@ -1,6 +1,5 @@
 -- The entries of a plan in its bytes, after the three counts.
 use Rattle.std.specs.Prelude.{ℕ, ◌≤◌, List, length, get_or, drop}
-use Rattle.encoding.specs.declared.Outcome.{Outcome}
 use Rattle.plans.specs.declared.Entry.{Entry}
 use Rattle.plans.specs.declared.Read.{Read}
 use Rattle.plans.specs.Entries.{max_entries, counts_size}
@@ -19,6 +18,6 @@ pub record CountsThere (s : List ℕ) : Type 0 where
 abbrev pub whole_read : List ℕ → List Entry → ℕ → Read
 whole_read s entries taken =
     record {
-      outcome = Outcome.Bytes taken;
       plan = record { processors = get_or s 0 0; resources = get_or s 1 0; count = get_or s 2 0; entries = entries };
+      bytes = taken;
     }

@@ -1,8 +1,9 @@
 -- Commands and other writes, in terms of what the code returns. Assumes nothing.
+use Rattle.std.specs.Prelude.{Result, Ok}
+use Rattle.refusals.specs.declared.Refusal.{Refusal}
 use Prim.Native.Nat.{ℕ, ◌≤◌}
 use mathlib.Core.Path.{◌≡◌, sym, ap, ◌∙◌}
 use borrow.Author.Tests.{ne_eqb, le-ltb}
-use Rattle.refusals.specs.declared.Verdict.{Verdict}
 use Rattle.rules.specs.declared.calls.Call.{Call}
 use Rattle.rules.specs.Replies.{reply_as_numbers}
 use Rattle.rules.specs.declared.states.Board.{Board}
@@ -21,25 +22,25 @@ use Rattle.register_block.specs.Commands.{change_as_numbers}
 
 -- ---- a command
 
-abbrev changed : Block → Verdict → State → Change
+abbrev changed : Block → Result Unit Refusal → State → Change
 changed block verdict state = record { block = block; written = record { verdict = verdict; state = state } }
 
 module _ (board : Board) (state : State) (block : Block) (command : ℕ) (change : Change) where
   pub command_answered : (call : Call) (a : Answered) (shown : Block) → (command ≡ 0 → ⊥) → command ≤ 4 → call
       ≡ command_call block.bytes command
       → answer_of a ≡ answered board state call → shown ≡ replied_block block.bytes (reply_as_numbers a.reply)
-      → change ≡ changed shown Verdict.Accepted a.state → change_as_numbers change
+      → change ≡ changed shown (Ok tt) a.state → change_as_numbers change
       ≡ commanded board state block command
   unfolding commanded
   command_answered call a shown z most says replies shows e =
       rw (ne_eqb _ _ z, le-ltb _ _ most)
       (ap change_as_numbers e
-      ∙ ap (λ b. change_as_numbers (changed b Verdict.Accepted a.state)) shows
+      ∙ ap (λ b. change_as_numbers (changed b (Ok tt) a.state)) shows
       ∙ ap (carried_out block) (replies ∙ ap (answered board state) says))
 
 -- ---- by register
 
-pub kept_store : (change : Change) (block kept : Block) (state : State) → change ≡ changed block Verdict.Accepted state
+pub kept_store : (change : Change) (block kept : Block) (state : State) → change ≡ changed block (Ok tt) state
     → block ≡ kept
     → change_as_numbers change ≡ unmoved 0 kept state
 kept_store change block kept state e b = ap change_as_numbers e ∙ ap (λ x. unmoved 0 x state) b

@@ -1,10 +1,11 @@
 -- A call that was answered and whose line was written is the step of the call. Assumes nothing.
+use Rattle.std.specs.Prelude.{Result}
+use Rattle.refusals.specs.declared.Refusal.{Refusal}
 use Prim.Native.Nat.{ℕ}
 use mathlib.Core.Path.{◌≡◌, ap, ◌∙◌}
 use mathlib.Core.Bool.{false}
 use mathlib.Core.List.{List}
 use lib.ListN.{length}
-use Rattle.encoding.specs.declared.Outcome.{Outcome}
 use Rattle.encoding.specs.Buffers.{outcome_as_numbers}
 use Rattle.rules.specs.declared.calls.Call.{Call}
 use Rattle.rules.specs.declared.states.Board.{Board}
@@ -15,7 +16,7 @@ use Rattle.listings.specs.Lines.{call_line_by}
 use Rattle.replay.specs.Steps.{Stands, call_step, stands}
 
 pub call_carried : (pairs : List ℕ) (b : Board) (st : State) (c : Call) (out : List ℕ) (at : ℕ) (a : Answer)
-    (la : Outcome) (out' : List ℕ) (n : ℕ)
+    (la : Result ℕ Refusal) (out' : List ℕ) (n : ℕ)
     → a ≡ answered b st c
     → outcome_as_numbers la ≡ line_as_numbers (call_line_by pairs b.terms.processors c a.reply) (length out) at
     → out' ≡ line_buffer (call_line_by pairs b.terms.processors c a.reply) out at

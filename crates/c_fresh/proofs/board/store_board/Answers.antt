@@ -2,8 +2,8 @@
 use Rattle.c_fresh.proofs.StoreOutcomes.{board_read, board_refused}
 use Rattle.c_fresh.proofs.board.store_board.Goals as goal
 
-pub returns-in-Bytes : goal.returns-in-Bytes
-returns-in-Bytes c = board_read _ _ _ _ _ c.in-Bytes.is c.fresh_of-fresh.ensures.board
+pub returns-in-Ok : goal.returns-in-Ok
+returns-in-Ok c = board_read _ _ _ _ _ c.in-Ok.is c.fresh_of-fresh.ensures.board
 
-pub returns-in-Refused : goal.returns-in-Refused
-returns-in-Refused c = board_refused _ _ _ _ c.in-Refused.is
+pub returns-in-Err : goal.returns-in-Err
+returns-in-Err c = board_refused _ _ _ _ c.in-Err.is

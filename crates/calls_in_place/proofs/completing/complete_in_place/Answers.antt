@@ -3,23 +3,23 @@ use mathlib.Core.Path.{◌∙◌}
 use Rattle.calls_in_place.proofs.Verdicts.{complete_refused, complete_counted, complete_done}
 use Rattle.calls_in_place.proofs.completing.complete_in_place.Goals as goal
 
-pub returns-in-Refused : goal.returns-in-Refused
-returns-in-Refused c =
+pub returns-in-Err : goal.returns-in-Err
+returns-in-Err c =
     c.refused.ensures _ _ _
     ∙ complete_refused _ _ _ c.clean-before.ensures _ _ _ c.check_complete-verdict.ensures _
-    c.in-Refused.is
+    c.in-Err.is
 
 pub bounds-requested-processor : goal.bounds-requested-processor
 bounds-requested-processor c =
-    complete_counted _ _ _ _ _ _ c.in-Accepted.is c.check_complete-verdict.ensures
+    complete_counted _ _ _ _ _ _ c.in-Ok.is c.check_complete-verdict.ensures
 
 pub bounds-since-processor : goal.bounds-since-processor
 bounds-since-processor c =
-    complete_counted _ _ _ _ _ _ c.in-Accepted.is c.check_complete-verdict.ensures
+    complete_counted _ _ _ _ _ _ c.in-Ok.is c.check_complete-verdict.ensures
 
 pub returns : goal.returns
 returns c =
     c.accepted.ensures _ _ _
     ∙ complete_done _ _ _ c.clean-before.ensures _ _ _ c.check_complete-verdict.ensures
-    c.in-Accepted.is _ _ _
+    c.in-Ok.is _ _ _
     c.length_at-length.ensures c.late_mark-late.ensures c.leave-carried.ensures

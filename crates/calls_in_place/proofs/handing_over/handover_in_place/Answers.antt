@@ -5,25 +5,25 @@ use mathlib.Core.Path.{◌∙◌}
 use Rattle.calls_in_place.proofs.Verdicts.{handover_refused, handover_counted, handover_done}
 use Rattle.calls_in_place.proofs.handing_over.handover_in_place.Goals as goal
 
-pub returns-in-Refused : goal.returns-in-Refused
-returns-in-Refused c =
+pub returns-in-Err : goal.returns-in-Err
+returns-in-Err c =
     c.refused.ensures _ _ _
     ∙ handover_refused _ _ _ c.clean-before.ensures _ _ _ _ c.check_handover-verdict.ensures _
-    c.in-Refused.is
+    c.in-Err.is
 
 pub bounds-requested-processor : goal.bounds-requested-processor
 bounds-requested-processor c =
-    handover_counted _ _ _ _ _ _ c.in-Accepted.is _ c.check_handover-verdict.ensures
+    handover_counted _ _ _ _ _ _ c.in-Ok.is _ c.check_handover-verdict.ensures
 
 pub bounds-since-processor : goal.bounds-since-processor
 bounds-since-processor c =
-    handover_counted _ _ _ _ _ _ c.in-Accepted.is _ c.check_handover-verdict.ensures
+    handover_counted _ _ _ _ _ _ c.in-Ok.is _ c.check_handover-verdict.ensures
 
 pub returns : goal.returns
 returns c =
     c.accepted.ensures _ _ _
     ∙ handover_done _ _ _ c.clean-before.ensures _ _ _ _ c.check_handover-verdict.ensures
-    c.in-Accepted.is _ _
+    c.in-Ok.is _ _
     c.length_at-length.ensures c.late_mark-late.ensures _ c.leave-first.ensures _
     c.clean-ready.ensures _
     c.put_last.ensures _ c.enter-second.ensures _ (c.merge.ensures _ _ _ _ _ _ _)

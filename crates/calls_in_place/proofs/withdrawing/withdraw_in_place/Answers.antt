@@ -3,12 +3,12 @@ use mathlib.Core.Path.{◌∙◌}
 use Rattle.calls_in_place.proofs.Verdicts.{withdraw_refused, withdraw_done}
 use Rattle.calls_in_place.proofs.withdrawing.withdraw_in_place.Goals as goal
 
-pub returns-in-Refused : goal.returns-in-Refused
-returns-in-Refused c =
+pub returns-in-Err : goal.returns-in-Err
+returns-in-Err c =
     let found = c in
     c.refused.ensures _ _ _
     ∙ withdraw_refused _ _ _ found.clean-before.ensures _ _ _ found.check_withdraw-verdict.ensures _
-    c.in-Refused.is
+    c.in-Err.is
 
 pub returns : goal.returns
 returns c =
@@ -17,5 +17,5 @@ returns c =
     let found = told in
     c.accepted.ensures _ _ _
     ∙ withdraw_done _ _ _ found.clean-before.ensures _ _ _ found.check_withdraw-verdict.ensures
-    told.in-Accepted.is _
+    told.in-Ok.is _
     gone.leave-carried.ensures

@@ -5,21 +5,21 @@ use Rattle.plan_bytes.proofs.plan_reader.Head.{fault_of_entries, fault_of_counts
 use Rattle.plan_bytes.proofs.plan_reader.read.Goals as goal
 
 pub read_entries-requires : goal.read_entries-requires
-read_entries-requires c = counts_there _ _ c.check_head-verdict.ensures c.in-Accepted.is
+read_entries-requires c = counts_there _ _ c.check_head-verdict.ensures c.in-Ok.is
 
-pub returns-in-Accepted : goal.returns-in-Accepted
+pub returns-in-Ok : goal.returns-in-Ok
 unfolding plan_read
-returns-in-Accepted c =
-    let whole = fault_of_entries _ _ c.check_head-verdict.ensures c.in-Accepted.is in
+returns-in-Ok c =
+    let whole = fault_of_entries _ _ c.check_head-verdict.ensures c.in-Ok.is in
     record {
       outcome = rw whole c.read_entries.ensures.outcome;
       plan = rw whole c.read_entries.ensures.plan;
     }
 
-pub returns-in-Refused : goal.returns-in-Refused
+pub returns-in-Err : goal.returns-in-Err
 unfolding plan_read
-returns-in-Refused c =
+returns-in-Err c =
     let both = refused_only _ _ c.refused.ensures _
     (fault_of_counts _ _ c.check_head-verdict.ensures _
-    c.in-Refused.is) _ _ in
+    c.in-Err.is) _ _ in
     record { outcome = both.0; plan = both.1 }

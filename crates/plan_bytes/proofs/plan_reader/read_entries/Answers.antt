@@ -28,18 +28,18 @@ loop-i-preserved c =
     _ c.entry_size-at.ensures
 
 -- The loop ends after the last entry. The other exits return a refusal.
-pub returns-in-Accepted : goal.returns-in-Accepted
-returns-in-Accepted c =
-    let accepted = c.in-Accepted.is in
+pub returns-in-Ok : goal.returns-in-Ok
+returns-in-Ok c =
+    let accepted = c.in-Ok.is in
     let both =
     read_whole _ _ _ _ c.loop-i.invariant
     (elim c.if-count-i.branch [
       | then-count-i w ↦ w.if-count-i.true
       | else-count-i+then-bytes-at-lt-ENTRY_BYTES w ↦ absurd (not_both _ _ w.verdict-is accepted)
-      | else-count-i+else-bytes-at-lt-ENTRY_BYTES+in-Refused w ↦ absurd (not_both _ _ w.verdict-is accepted)
-      | else-count-i+else-bytes-at-lt-ENTRY_BYTES+in_default+in-Refused-set w ↦
+      | else-count-i+else-bytes-at-lt-ENTRY_BYTES+in-Err w ↦ absurd (not_both _ _ w.verdict-is accepted)
+      | else-count-i+else-bytes-at-lt-ENTRY_BYTES+in_default+in-Err-set w ↦
           absurd (not_both _ _ w.verdict-is accepted)
-      | else-count-i+else-bytes-at-lt-ENTRY_BYTES+in_default+in_default-set+in-Refused-length w ↦
+      | else-count-i+else-bytes-at-lt-ENTRY_BYTES+in_default+in_default-set+in-Err-length w ↦
           absurd (not_both _ _ w.verdict-is accepted)
     ])
     _ c.whole.ensures
@@ -47,34 +47,34 @@ returns-in-Accepted c =
     record { outcome = both.0; plan = both.1 }
 
 -- The loop ends with a refusal: of the bytes, of a kind, of names or of a length.
-pub returns-in-Refused-verdict : goal.returns-in-Refused-verdict
-returns-in-Refused-verdict c =
-    let refused = c.in-Refused-verdict.is in
+pub returns-in-Err-verdict : goal.returns-in-Err-verdict
+returns-in-Err-verdict c =
+    let refused = c.in-Err-verdict.is in
     let inv = c.loop-i.invariant in
-    let fault : body_fault c.args.bytes.now ≡ number_of c.in-Refused-verdict.refusal =
+    let fault : body_fault c.args.bytes.now ≡ number_of c.in-Err-verdict.refusal =
     elim c.if-count-i.branch [
       | then-count-i w ↦ absurd (not_both _ _ refused w.verdict-is)
       | else-count-i+then-bytes-at-lt-ENTRY_BYTES w ↦
           left_with _ _ _ refused _
           (entry_missing _ _ _ _ _ _ inv w.if-count-i.false w.if-bytes-at-lt-ENTRY_BYTES.true)
           w.verdict-is
-      | else-count-i+else-bytes-at-lt-ENTRY_BYTES+in-Refused w ↦
+      | else-count-i+else-bytes-at-lt-ENTRY_BYTES+in-Err w ↦
           left_with _ _ _ refused _
           (kind_refused _ _ _ _ _ _ inv w.if-count-i.false w.if-bytes-at-lt-ENTRY_BYTES.false
-          _ w.entry_of-entry.ensures _ w.check_kind-kind.ensures _ w.in-Refused.is)
+          _ w.entry_of-entry.ensures _ w.check_kind-kind.ensures _ w.in-Err.is)
           w.verdict-is
-      | else-count-i+else-bytes-at-lt-ENTRY_BYTES+in_default+in-Refused-set w ↦
+      | else-count-i+else-bytes-at-lt-ENTRY_BYTES+in_default+in-Err-set w ↦
           left_with _ _ _ refused _
           (names_refused _ _ _ _ _ _ inv w.if-count-i.false w.if-bytes-at-lt-ENTRY_BYTES.false
           _ w.entry_of-entry.ensures _ w.check_kind-kind.ensures w.in_default.is
-          _ w.check_set-set.ensures _ w.in-Refused-set.is)
+          _ w.check_set-set.ensures _ w.in-Err-set.is)
           w.verdict-is
-      | else-count-i+else-bytes-at-lt-ENTRY_BYTES+in_default+in_default-set+in-Refused-length w ↦
+      | else-count-i+else-bytes-at-lt-ENTRY_BYTES+in_default+in_default-set+in-Err-length w ↦
           left_with _ _ _ refused _
           (ticks_refused _ _ _ _ _ _ inv w.if-count-i.false w.if-bytes-at-lt-ENTRY_BYTES.false
           _ w.entry_of-entry.ensures _ w.check_kind-kind.ensures w.in_default.is
           _ w.check_set-set.ensures w.in_default-set.is
-          _ w.check_length-length.ensures _ w.in-Refused-length.is)
+          _ w.check_length-length.ensures _ w.in-Err-length.is)
           w.verdict-is
     ]
     in

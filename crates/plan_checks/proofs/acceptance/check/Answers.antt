@@ -9,16 +9,16 @@ use Rattle.plan_checks.proofs.acceptance.check.Goals as goal
 
 pub check_entries-requires : goal.check_entries-requires
 check_entries-requires c =
-    counts_at_most _ _ _ (sym c.check_counts-verdict.ensures ∙ ap verdict_number c.in-Accepted.is)
+    counts_at_most _ _ _ (sym c.check_counts-verdict.ensures ∙ ap verdict_number c.in-Ok.is)
 
-pub returns-in-Accepted : goal.returns-in-Accepted
+pub returns-in-Ok : goal.returns-in-Ok
 unfolding plan_fault
-returns-in-Accepted c =
+returns-in-Ok c =
     rw (← c.check_counts-verdict.ensures)
-    (c.check_entries.ensures ∙ sym (first_accepts_verdict _ _ c.in-Accepted.is))
+    (c.check_entries.ensures ∙ sym (first_accepts_verdict _ _ c.in-Ok.is))
 
-pub returns-in-Refused : goal.returns-in-Refused
+pub returns-in-Err : goal.returns-in-Err
 unfolding plan_fault
-returns-in-Refused c =
+returns-in-Err c =
     rw (← c.check_counts-verdict.ensures)
-    (sym (first_refuses_verdict _ _ _ c.in-Refused.is))
+    (sym (first_refuses_verdict _ _ _ c.in-Err.is))

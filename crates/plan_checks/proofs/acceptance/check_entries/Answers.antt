@@ -13,17 +13,17 @@ loop-i-preserved c =
       omega arith,
       c.loop-i.invariant.1
           ∙ faultless_passed _ _ _ _ _ (omega arith) c.if-count-i.false _
-          c.check_entry-verdict.ensures c.in-Accepted.is,
+          c.check_entry-verdict.ensures c.in-Ok.is,
     )
 
 pub returns-then-count-i : goal.returns-then-count-i
 unfolding entries_fault
 returns-then-count-i c = sym (c.loop-i.invariant.1 ∙ ap (entries_fault _) (none_left _ _ _ c.if-count-i.true))
 
-pub returns-in-Refused : goal.returns-in-Refused
-returns-in-Refused c =
+pub returns-in-Err : goal.returns-in-Err
+returns-in-Err c =
     let full : length c.args.entries ≡ 64 = search rules in
     sym
     (c.loop-i.invariant.1
     ∙ first_fault _ _ _ _ _ (omega arith) c.if-count-i.false _
-    c.check_entry-verdict.ensures _ c.in-Refused.is)
+    c.check_entry-verdict.ensures _ c.in-Err.is)

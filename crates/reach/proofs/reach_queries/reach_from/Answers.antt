@@ -6,11 +6,11 @@ use Rattle.queries.specs.Queries.{reach_fault, reach_scratch}
 use Rattle.queries.proofs.Answers.{accepted_says, refused_says}
 use Rattle.reach.proofs.reach_queries.reach_from.Goals as goal
 
-pub returns-in-Accepted : goal.returns-in-Accepted
+pub returns-in-Ok : goal.returns-in-Ok
 unfolding reach_fault reach_scratch
-returns-in-Accepted c =
+returns-in-Ok c =
     let checked = c.check_reach-verdict.ensures in
-    let accepted = c.in-Accepted.is in
+    let accepted = c.in-Ok.is in
     record {
       mask = λ b s same are.
           accepted_says _ _ _ _ (rw same at checked) accepted
@@ -19,11 +19,11 @@ returns-in-Accepted c =
           (c.write_reach.ensures.stored b s (ap (λ t. t.processors) same) are);
     }
 
-pub returns-in-Refused : goal.returns-in-Refused
+pub returns-in-Err : goal.returns-in-Err
 unfolding reach_fault reach_scratch
-returns-in-Refused c =
+returns-in-Err c =
     let checked = c.check_reach-verdict.ensures in
-    let refused = c.in-Refused.is in
+    let refused = c.in-Err.is in
     record {
       mask = λ b s same are. refused_says _ _ _ _ (rw same at checked) refused;
       stored = λ b s same are. rw (← rw same at checked, refused, number_not_zero _) refl;

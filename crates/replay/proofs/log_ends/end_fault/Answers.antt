@@ -9,16 +9,16 @@ pub returns-then-left-eq0 : goal.returns-then-left-eq0
 unfolding end_fault
 returns-then-left-eq0 c = rw (eq-eqb _ 0 c.if-left-eq0.true) c.check_tail.ensures
 
-pub returns-in-Is : goal.returns-in-Is
+pub returns-in-Ok : goal.returns-in-Ok
 unfolding end_fault
-returns-in-Is c =
+returns-in-Ok c =
     let read = c in
     rw (ne_eqb _ 0 read.if-left-eq0.false)
-    (sym (record_is _ _ read.read_record-found.ensures _ c.in-Is.is).0)
+    (sym (record_is _ _ read.read_record-found.ensures _ c.in-Ok.is).0)
 
-pub returns-in-Refused : goal.returns-in-Refused
+pub returns-in-Err : goal.returns-in-Err
 unfolding end_fault
-returns-in-Refused c =
+returns-in-Err c =
     let read = c in
     rw (ne_eqb _ 0 read.if-left-eq0.false)
-    (sym (record_refused _ _ read.read_record-found.ensures _ c.in-Refused.is))
+    (sym (record_refused _ _ read.read_record-found.ensures _ c.in-Err.is))
