@@ -21,6 +21,7 @@ fn check_entries(entries: [Entry; MAX_ENTRIES], count: u8, resources: u8) -> Res
 }
 
 // Clause 2.10: refuses a plan value with the reader's number. A count above 64 is refused before any entry is checked.
+#[tactic(auto, using(refusals::proofs::Numbers::first_refuses_verdict, refusals::proofs::Numbers::first_accepts_verdict, plans::proofs::Faults::counts_at_most), unfolding(plans::specs::Acceptance::plan_fault))]
 pub fn check(plan: Plan) -> Result<(), Refusal>
     ensures { verdict_number result ≡ plan_fault plan }
 {

@@ -1,14 +1,10 @@
 -- `check_entries` meets its contract. The loop's invariant: the fault of the counted entries is the fault of the
--- entries left. The measure is how many are left. Assumes nothing.
-use Prim.Native.Nat.{◌≤◌, ◌-◌}
+-- entries left. Assumes nothing.
 use mathlib.Core.Path.{◌≡◌}
-use lib.ListN.{take, drop}
+use lib.ListN.{drop}
 use Rattle.plans.specs.Acceptance.{entries_fault}
 use Rattle.plan_checks.proofs.acceptance.check_entries.Given as goal
 
-abbrev pub invariant-loop-i : goal.invariant-loop-i
-invariant-loop-i l =
-    (l.i ≤ l.count) × (entries_fault l.resources (take l.count l.entries) ≡ entries_fault l.resources (drop l.i (take l.count l.entries)))
-
-abbrev pub decreases-loop-i : goal.decreases-loop-i
-decreases-loop-i l = l.count - l.i
+abbrev pub invariant-loop-entry : goal.invariant-loop-entry
+invariant-loop-entry l =
+    entries_fault l.resources l.entry-items ≡ entries_fault l.resources (drop l.entry-index l.entry-items)
