@@ -12,8 +12,8 @@ fn write_two(n: u64, buffer: &mut [u8], at: usize)
     requires { (n < 100) × (at + 2 ≤ length buffer.old) }
     ensures { buffer.new ≡ sets buffer.old at ((48 + n / 10) ∷ (48 + n % 10) ∷ []) }
 {
-    buffer[at] = 48 + (n / 10) as u8;
-    buffer[at + 1] = 48 + (n % 10) as u8;
+    buffer[at] = b'0' + (n / 10) as u8;
+    buffer[at + 1] = b'0' + (n % 10) as u8;
 }
 
 // A number below 100, without a leading 0.
@@ -24,7 +24,7 @@ fn write_lead(n: u64, buffer: &mut [u8], at: usize)
     if 9 < n {
         write_two(n, buffer, at);
     } else {
-        buffer[at] = 48 + n as u8;
+        buffer[at] = b'0' + n as u8;
     }
 }
 
@@ -38,7 +38,7 @@ fn write_digits(n: u64, size: usize, buffer: &mut [u8], at: usize)
     while 99 < rest {
         left -= 2;
         write_two(rest % 100, buffer, at + left);
-        rest = rest / 100;
+        rest /= 100;
     }
     write_lead(rest, buffer, at);
 }

@@ -23,8 +23,7 @@ pub fn hex_pairs() -> [u16; 256]
 pub fn pair_at(pairs: &[u16], byte: u8) -> u16
     ensures { result ≡ get_or pairs.now byte 0 }
 {
-    let place = byte as usize;
-    if place < pairs.len() { pairs[place] } else { 0 }
+    pairs.get(byte as usize).copied().unwrap_or(0)
 }
 
 // How many digits a number below 10,000 has.
@@ -51,7 +50,7 @@ pub fn digit_count(n: u64) -> usize
     let mut head = n;
     let mut count: usize = 0;
     while 9999 < head {
-        head = head / 10000;
+        head /= 10000;
         count += 4;
     }
     count + few_digits(head)
