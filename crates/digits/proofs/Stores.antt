@@ -1,10 +1,16 @@
--- Of two runs of stores, the later one can come first. Assumes nothing.
-use Prim.Native.Nat.{ℕ, suc, ◌+◌, ◌<◌}
+-- A copy into a part of a list is a run of stores; and of two runs of stores, the later one can come first.
+-- Assumes nothing.
+use Prim.Native.Nat.{ℕ, suc, ◌+◌, ◌≤◌, ◌<◌}
 use native.Mathlib.Omega.{arith}
 use mathlib.Core.Path.{◌≡◌, refl, ◌∙◌}
-use mathlib.Core.List.{List, [], ◌∷◌, ◌++◌}
-use lib.ListN.{length, set}
-use lib.Seq.{sets, set_comm}
+use mathlib.Core.List.{List, [], ◌∷◌, ◌++◌, append_assoc}
+use lib.ListN.{length, take, drop, set}
+use lib.Seq.{sets, sets-eq, set_comm, drop-drop}
+use borrow.Rule.Slice.PartMut.{put_mid}
+
+-- What is copied into a part of its length is stored from the start of the part on.
+pub part_copied : (l vs : List ℕ) (a k : ℕ) → k ≡ length vs → a + length vs ≤ length l → put_mid a k l vs ≡ sets l a vs
+part_copied l vs a k e h = rw (sets-eq vs l a h, append_assoc (take a l) vs (drop (a + length vs) l), e, drop-drop)
 
 set_before : (l : List ℕ) (i j : ℕ) (y : ℕ) (xs : List ℕ) → i < j → set (sets l j xs) i y ≡ sets (set l i y) j xs
 set_before l i j y [] h = refl

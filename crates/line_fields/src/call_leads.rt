@@ -4,9 +4,17 @@ ghost use Rattle.std.specs.Prelude.{◌≡◌, ◌∷◌, ◌+◌, ◌≤◌, le
 ghost use Rattle.std.proofs.lemmas.List.Edits.{sets};
 ghost use Rattle.digits.specs.Digits.{decimal};
 ghost use Rattle.digits.specs.Placed.{placed_size, placed_buffer};
-ghost use Rattle.line_fields.specs.Leads.{call_lead};
+ghost use Rattle.line_fields.specs.Leads.{lead_field};
 
 use digits::{byte_digits, put_decimal};
+
+// What a call's line begins with: the call's letter, its processor and its tick.
+#[derive(Clone, Copy)]
+pub struct Lead {
+    pub letter: u8,
+    pub processor: u8,
+    pub tick: u64,
+}
 
 // A call's letter between spaces, and its processor.
 fn write_letter(letter: u8, processor: u8, buffer: &mut [u8], at: usize)
@@ -21,26 +29,17 @@ fn write_letter(letter: u8, processor: u8, buffer: &mut [u8], at: usize)
 
 // The lead of a call's line, stored if it fits with `more` bytes after it: a line is begun only if all of it has room.
 // Returns how many bytes it stored.
-pub fn put_lead(
-    letter: u8,
-    processor: u8,
-    tick: u64,
-    more: u8,
-    buffer: &mut [u8],
-    at: usize,
-) -> usize
+pub fn put_lead(lead: Lead, more: u8, buffer: &mut [u8], at: usize) -> usize
     ensures size { result
-        ≡ placed_size (length (call_lead letter processor tick) + more) (call_lead letter processor tick)
-        (length buffer.old) at }
+        ≡ placed_size (length (lead_field lead) + more) (lead_field lead) (length buffer.old) at }
     ensures bytes { buffer.new
-        ≡ placed_buffer (length (call_lead letter processor tick) + more) (call_lead letter processor tick)
-        buffer.old at }
+        ≡ placed_buffer (length (lead_field lead) + more) (lead_field lead) buffer.old at }
 {
-    let rest = 3 + byte_digits(processor);
-    let ticks = put_decimal(tick, (rest + more as usize) as u16, buffer, at);
+    let rest = 3 + byte_digits(lead.processor);
+    let ticks = put_decimal(lead.tick, (rest + more as usize) as u16, buffer, at);
     if ticks == 0 {
         return 0;
     }
-    write_letter(letter, processor, buffer, at + ticks);
+    write_letter(lead.letter, lead.processor, buffer, at + ticks);
     ticks + rest
 }

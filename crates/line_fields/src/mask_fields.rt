@@ -13,12 +13,12 @@ use encoding::has_room;
 use plans::mask_size;
 
 // Two digits in one number, the first in its low byte.
+#[tactic(auto, using(digits::proofs::Stores::part_copied), unfolding(encoding::specs::Numbers::bytes_of))]
 fn write_pair(pair: u16, buffer: &mut [u8], at: usize)
     requires { at + 2 ≤ length buffer.old }
     ensures { buffer.new ≡ sets buffer.old at (bytes_of 2 pair) }
 {
-    buffer[at] = (pair % 256) as u8;
-    buffer[at + 1] = (pair / 256) as u8;
+    buffer[at..at + 2].copy_from_slice(&pair.to_le_bytes());
 }
 
 // The two digits of a byte, from a table of pairs.
@@ -45,7 +45,7 @@ fn write_mask(pairs: &[u16], processors: u8, mask: u32, buffer: &mut [u8], at: u
     ensures { Stored (mask_field pairs.now (mask_size_for processors) mask)
         buffer.old at result buffer.new }
 {
-    buffer[at] = 32;
+    buffer[at] = b' ';
     let size = mask_size(processors);
     if size == 2 {
         write_half(pairs, mask, buffer, at + 1)

@@ -9,15 +9,12 @@ use digits::put_decimal;
 use encoding::has_room;
 
 // The bytes of a word.
+#[tactic(auto, using(digits::proofs::Stores::part_copied))]
 fn write_word(word: &[u8], buffer: &mut [u8], at: usize)
     requires { at + length word.now ≤ length buffer.old }
     ensures { buffer.new ≡ sets buffer.old at word.now }
 {
-    let mut i = 0;
-    while i < word.len() {
-        buffer[at + i] = word[i];
-        i += 1;
-    }
+    buffer[at..at + word.len()].copy_from_slice(word);
 }
 
 // A word and a decimal number, stored if both fit with `more` bytes after them. The number goes first, because storing
@@ -61,6 +58,6 @@ pub fn put_line_end(word: &[u8], n: u64, buffer: &mut [u8], at: usize) -> usize
     if size == 0 {
         return 0;
     }
-    buffer[at + size] = 10;
+    buffer[at + size] = b'\n';
     size + 1
 }

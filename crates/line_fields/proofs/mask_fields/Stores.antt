@@ -1,5 +1,5 @@
--- Storing the digits of masks: a pair, a mask's two low bytes, a whole mask, both masks. Assumes nothing.
-use Prim.Native.Nat.{ℕ, suc, ◌+◌, ◌/◌, ◌%◌, ◌<◌}
+-- Storing the digits of masks: a mask's two low bytes, a whole mask, both masks. Assumes nothing.
+use Prim.Native.Nat.{ℕ, suc, ◌+◌, ◌/◌, ◌%◌}
 use native.Mathlib.Omega.{arith}
 use mathlib.Core.Path.{◌≡◌, refl, ◌∙◌}
 use mathlib.Core.List.{List}
@@ -9,15 +9,8 @@ use Rattle.encoding.specs.Numbers.{bytes_of}
 use Rattle.digits.specs.Digits.{mask_in, mask_by}
 use Rattle.digits.specs.inner.Stored.{Stored}
 use Rattle.digits.proofs.Table.{mask_halves}
-use Rattle.digits.proofs.Placed.{one_stored, two_stored, then_stored}
+use Rattle.digits.proofs.Placed.{one_stored, then_stored}
 use Rattle.line_fields.specs.MaskFields.{mask_field}
-
-pub pair_stored : (l : List ℕ) (at pair : ℕ) → pair < 65536 → set (set l at (pair % 256)) (at + 1) (pair / 256)
-    ≡ sets l at (bytes_of 2 pair)
-unfolding bytes_of
-pair_stored l at pair h =
-    let small : pair / 256 % 256 ≡ pair / 256 = omega arith in
-    rw small (two_stored l at (pair % 256) (pair / 256))
 
 -- The digits of a mask's two low bytes, byte by byte.
 pub half_stored : (pairs l a b : List ℕ) (at mask : ℕ)

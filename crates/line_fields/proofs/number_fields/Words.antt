@@ -1,12 +1,11 @@
 -- The bytes of a word are stored one after the other, in front of the digits that are stored already. Assumes nothing.
-use Prim.Native.Nat.{ℕ, suc, ◌+◌, ◌≤◌, ◌<◌}
-use native.Mathlib.Numerals.{add-one}
+use Prim.Native.Nat.{ℕ, ◌+◌, ◌≤◌}
 use native.Mathlib.Omega.{arith}
 use mathlib.Core.Bool.{false}
 use mathlib.Core.Path.{◌≡◌, refl, ◌∙◌}
 use mathlib.Core.List.{List, ◌++◌}
-use lib.ListN.{length, get_or, set, drop, length-append}
-use lib.Seq.{sets, drop-cons, drop-length}
+use lib.ListN.{length, length-append}
+use lib.Seq.{sets}
 use Rattle.encoding.specs.Buffers.{has_room}
 use Rattle.encoding.proofs.Room.{there_is_room}
 use Rattle.digits.specs.Placed.{placed_size, placed_buffer, field_size, field_buffer}
@@ -14,16 +13,6 @@ use Rattle.digits.specs.inner.Stored.{Stored}
 use Rattle.digits.proofs.Placed.{placed, not_placed, all_placed, placed_stored, stored_length}
 use Rattle.digits.proofs.Begun.{room_where_fits, less_room, not_begun, begun}
 use Rattle.digits.proofs.Stores.{last_first}
-
--- A turn stores the next byte of a word.
-pub word_turn : (l w : List ℕ) (at i : ℕ) → i < length w
-    → sets (set l (at + i) (get_or w i 0)) (at + (i + 1)) (drop (i + 1) w) ≡ sets l (at + i) (drop i w)
-word_turn l w at i h =
-    let s : at + (i + 1) ≡ suc (at + i) = omega arith in
-    rw (s, drop-cons w i 0 h, add-one)
-
-pub word_end : (l w : List ℕ) (at i : ℕ) → i ≤ length w → length w ≤ i → sets l (at + i) (drop i w) ≡ l
-word_end l w at i h k = let e : i ≡ length w = omega arith in rw (e, drop-length)
 
 -- A word and the digits after it, if both fit with `more` bytes.
 module _ (word digits buffer : List ℕ) (at more : ℕ) where

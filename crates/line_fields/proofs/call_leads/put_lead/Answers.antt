@@ -18,9 +18,9 @@ pub returns-then-ticks-eq0 : goal.returns-then-ticks-eq0
 returns-then-ticks-eq0 c =
     let put = c in
     let a = put.args in
-    let both = nothing_placed (decimal a.tick) (32 ∷ a.letter ∷ 32 ∷ decimal a.processor) a.buffer.now a.at _
-    a.more (some_digit a.tick)
-    (rest-size a.processor _ a.more put.byte_digits-rest.ensures.is a.letter)
+    let both = nothing_placed (decimal a.lead.tick) (32 ∷ a.lead.letter ∷ 32 ∷ decimal a.lead.processor) a.buffer.now a.at _
+    a.more (some_digit a.lead.tick)
+    (rest-size a.lead.processor _ a.more put.byte_digits-rest.ensures.is a.lead.letter)
     put.put_decimal-ticks.ensures.size put.put_decimal-ticks.ensures.bytes c.if-ticks-eq0.true in
     record { size = both.0; bytes = both.1 }
 
@@ -28,9 +28,9 @@ pub returns : goal.returns
 returns c =
     let put = c in
     let a = put.args in
-    let both = both_placed (decimal a.tick) (32 ∷ a.letter ∷ 32 ∷ decimal a.processor) a.buffer.now a.at _ a.more
-    (some_digit a.tick)
-    (rest-size a.processor _ a.more put.byte_digits-rest.ensures.is a.letter)
+    let both = both_placed (decimal a.lead.tick) (32 ∷ a.lead.letter ∷ 32 ∷ decimal a.lead.processor) a.buffer.now a.at _ a.more
+    (some_digit a.lead.tick)
+    (rest-size a.lead.processor _ a.more put.byte_digits-rest.ensures.is a.lead.letter)
     put.put_decimal-ticks.ensures.size put.put_decimal-ticks.ensures.bytes c.if-ticks-eq0.false
     _ (omega (arith, put.byte_digits-rest.ensures.is))
     (record { place = refl; stores = c.write_letter.ensures }) in
