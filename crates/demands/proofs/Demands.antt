@@ -73,7 +73,7 @@ use Rattle.logs.specs.Records.{fields_in, record_fault, read_record}
 --   queries::list_board_in_place       the same, for the board and the state that it is lent
 --   queries::shared_by        `shared_as_numbers` r ≡ shared_query board first second;
 --                             Contention.antt says what that is on a plan's board
---   registers::read           `register_as_numbers` r ≡ register_read block offset
+--   registers::read           `outcome_as_numbers` r ≡ register_read block offset
 --                             (register_block::read_register: the same, for the block that it is lent)
 --   register_block::write     `change_as_numbers` r ≡ register_write board state block offset value,
 --                             in which a refused command changes offset 3 alone

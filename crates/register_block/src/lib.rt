@@ -10,7 +10,8 @@ mod register_writes;
 
 ghost use Rattle.std.specs.Prelude.{◌≡◌};
 ghost use Rattle.rules.specs.InPlace.{board_by};
-ghost use Rattle.registers.specs.Registers.{register_read, register_as_numbers};
+ghost use Rattle.encoding.specs.Buffers.{outcome_as_numbers};
+ghost use Rattle.registers.specs.Registers.{register_read};
 ghost use Rattle.register_block.specs.Commands.{register_write, written_as_numbers};
 
 pub use commands::{Change, Written};
@@ -22,7 +23,7 @@ use refusals::Refusal;
 
 // Reads an offset of the block. Refused with 18.
 pub fn read_register(block: &Block, offset: u8) -> Result<u8, Refusal>
-    ensures { register_as_numbers result ≡ register_read block.now offset }
+    ensures { outcome_as_numbers result ≡ register_read block.now offset }
 {
     read(*block, offset)
 }

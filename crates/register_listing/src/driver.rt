@@ -1,7 +1,8 @@
 // A driver's own block, lent to the functions that read and write it.
 ghost use Rattle.std.specs.Prelude.{◌≡◌};
 ghost use Rattle.rules.specs.InPlace.{board_by};
-ghost use Rattle.registers.specs.Registers.{register_read, register_as_numbers};
+ghost use Rattle.encoding.specs.Buffers.{outcome_as_numbers};
+ghost use Rattle.registers.specs.Registers.{register_read};
 ghost use Rattle.register_block.specs.Commands.{register_write, change_as_numbers};
 
 use plans::MAX_ENTRIES;
@@ -31,7 +32,7 @@ pub fn write_lent(
 }
 
 pub fn read_lent(block: Block, offset: u8) -> Result<u8, Refusal>
-    ensures { register_as_numbers result ≡ register_read block offset }
+    ensures { outcome_as_numbers result ≡ register_read block offset }
 {
     let kept = block;
     read_register(&kept, offset)

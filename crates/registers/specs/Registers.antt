@@ -1,10 +1,7 @@
 -- The register block: which register is at which offset, and what a read returns. Specification, section 10.
-use Rattle.std.specs.Prelude.{Result, Ok, Err}
-use Rattle.refusals.specs.declared.Refusal.{Refusal}
 use Rattle.std.specs.Prelude.{ℕ, Bool, cond, ◌&&◌, ◌||◌, List, eqb, leb, get_or, set}
 use Rattle.std.proofs.Math.Seq.{slice}
 use Rattle.masks.specs.Sets.{bit, some}
-use Rattle.refusals.specs.Number.{number_of}
 use Rattle.refusals.specs.Due.{AsNumbers, as_numbers}
 use Rattle.encoding.specs.Numbers.{number}
 use Rattle.registers.specs.declared.Register.{Register}
@@ -89,8 +86,3 @@ shown_at Unlisted bytes offset = 0
 unfoldable pub register_read : Block → ℕ → AsNumbers
 register_read block offset = as_numbers (register_fault (register_at offset))
     (shown_at (register_at offset) block.bytes offset)
-
--- The answer to a read as numbers: the value, or the refusal.
-abbrev pub register_as_numbers : Result ℕ Refusal → AsNumbers
-register_as_numbers (Ok value) = record { number = 0; value = value }
-register_as_numbers (Err r) = record { number = number_of r; value = 0 }

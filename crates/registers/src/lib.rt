@@ -64,21 +64,18 @@ fn enabled_in(bytes: [u8; BLOCK]) -> u64
 }
 
 // Clause 10.3: 1 if some bit is both pending and enabled, else 0.
+#[tactic(auto, using(crate::proofs::Blocks::raised_meets))]
 pub fn line_of(bytes: [u8; BLOCK]) -> u8
     ensures { result ≡ line_of bytes }
 {
-    if meet64(pending_in(bytes), enabled_in(bytes)) {
-        1
-    } else {
-        0
-    }
+    u8::from(meet64(pending_in(bytes), enabled_in(bytes)))
 }
 
 // The block with these bytes and its interrupt line.
-pub fn with_line(bytes: [u8; BLOCK]) -> Block
+#[tactic(auto, unfolding(crate::specs::Registers::with_line))]
+pub fn with_line(mut bytes: [u8; BLOCK]) -> Block
     ensures { result ≡ with_line bytes }
 {
-    let mut kept = bytes;
-    kept[28] = line_of(bytes);
-    Block { bytes: kept }
+    bytes[28] = line_of(bytes);
+    Block { bytes }
 }
