@@ -4,7 +4,7 @@ ghost use Rattle.std.specs.Prelude.{◌≡◌, cond, ◌-◌, min};
 ghost use Rattle.rules.specs.Requests.{unsatisfied, active};
 ghost use Rattle.board_list.specs.Fields.{state_in};
 
-use masks::has32;
+use masks::Mask;
 use rules::Phases;
 
 // The most ticks that four bytes can show.
@@ -17,20 +17,20 @@ const NO_ENTRY: u8 = 255;
 pub fn state_at(phases: Phases, p: u32) -> u8
     ensures { result ≡ state_in phases p }
 {
-    if has32(phases.holding, p) {
+    if phases.holding.has(p) {
         return 3;
     }
-    if has32(phases.entitled, p) {
+    if phases.entitled.has(p) {
         return 2;
     }
-    if has32(phases.waiting, p) { 1 } else { 0 }
+    if phases.waiting.has(p) { 1 } else { 0 }
 }
 
 // Clause 7.8: the entry that is shown for processor p, whose request asks for this one.
 pub fn entry_at(phases: Phases, entry: u8, p: u32) -> u8
     ensures { result ≡ cond (active phases p) entry 255 }
 {
-    if has32(phases.waiting | phases.entitled | phases.holding, p) {
+    if (phases.waiting | phases.entitled | phases.holding).has(p) {
         entry
     } else {
         NO_ENTRY
@@ -56,7 +56,7 @@ fn ticks_shown(from: u64, to: u64) -> u64
 pub fn waited_at(phases: Phases, last: u64, since: u64, p: u32) -> u64
     ensures { result ≡ cond (unsatisfied phases p) (min 4294967295 (last - since)) 0 }
 {
-    if has32(phases.waiting | phases.entitled, p) {
+    if (phases.waiting | phases.entitled).has(p) {
         ticks_shown(since, last)
     } else {
         0

@@ -9,11 +9,11 @@ ghost use Rattle.plans.specs.Acceptance.{plan_fault};
 ghost use Rattle.boards.specs.Fresh.{fresh_state, board_of, fresh_board, fresh_number, board_made, state_made};
 
 use conflicts::conflicts_of;
-use masks::add64;
+use masks::Mask;
 use plan_checks::check;
 use plans::{Entry, MAX_ENTRIES, MAX_PROCESSORS, Plan, is_write};
-use rules::{Board, Phases, State, Terms};
 use refusals::Refusal;
+use rules::{Board, Phases, State, Terms};
 
 // A fresh arbiter: its board, and the state in which nobody is active.
 #[derive(Clone, Copy)]
@@ -41,7 +41,7 @@ fn writes_of(plan: Plan) -> u64
     let mut i: u8 = 0;
     while i < MAX_ENTRIES as u8 {
         let entry = plan.entries[i as usize];
-        out = add64(out, write_place(entry, i, plan.count));
+        out = out.with(write_place(entry, i, plan.count));
         i += 1;
     }
     out

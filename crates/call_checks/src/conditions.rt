@@ -4,7 +4,7 @@ ghost use Rattle.std.specs.Prelude.{◌≡◌, ◌&&◌, leb};
 ghost use Rattle.rules.specs.Requests.{unsatisfied, active};
 ghost use Rattle.rules.specs.CountedRequests.{has_processor};
 
-use masks::has32;
+use masks::Mask;
 use plans::MAX_PROCESSORS;
 use rules::{Phases, Terms};
 
@@ -30,15 +30,12 @@ pub fn is_counted(terms: Terms, processor: u8) -> bool
 pub fn is_unsatisfied(phases: Phases, processor: u8) -> bool
     ensures { result ≡ unsatisfied phases processor }
 {
-    has32(phases.waiting | phases.entitled, processor as u32)
+    (phases.waiting | phases.entitled).has(processor as u32)
 }
 
 // Clause 4.1: the processor has a request, in any phase.
 pub fn is_active(phases: Phases, processor: u8) -> bool
     ensures { result ≡ active phases processor }
 {
-    has32(
-        phases.waiting | phases.entitled | phases.holding,
-        processor as u32,
-    )
+    (phases.waiting | phases.entitled | phases.holding).has(processor as u32)
 }

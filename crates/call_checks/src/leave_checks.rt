@@ -6,7 +6,7 @@ ghost use Rattle.refusals.specs.Due.{due};
 ghost use Rattle.rules.specs.Faults.{take_fault, complete_fault, withdraw_fault};
 
 use crate::conditions::{is_active, is_counted, is_in_time, is_unsatisfied};
-use masks::has32;
+use masks::Mask;
 use refusals::{Refusal, refuse_unless};
 use rules::{Phases, Terms};
 
@@ -36,7 +36,13 @@ fn check_taken(
 }
 
 // Clause 4.5: refuses with 10, 11, 14, 15, in this order.
-pub fn check_complete(terms: Terms, last: u64, phases: Phases, processor: u8, tick: u64) -> Result<(), Refusal>
+pub fn check_complete(
+    terms: Terms,
+    last: u64,
+    phases: Phases,
+    processor: u8,
+    tick: u64,
+) -> Result<(), Refusal>
     ensures { verdict_number result ≡ complete_fault terms last phases processor tick }
 {
     let held = !is_unsatisfied(phases, processor);
@@ -44,9 +50,15 @@ pub fn check_complete(terms: Terms, last: u64, phases: Phases, processor: u8, ti
 }
 
 // Clause 4.5: refuses with 10, 11, 14, 17, in this order.
-pub fn check_withdraw(terms: Terms, last: u64, phases: Phases, processor: u8, tick: u64) -> Result<(), Refusal>
+pub fn check_withdraw(
+    terms: Terms,
+    last: u64,
+    phases: Phases,
+    processor: u8,
+    tick: u64,
+) -> Result<(), Refusal>
     ensures { verdict_number result ≡ withdraw_fault terms last phases processor tick }
 {
-    let unheld = !has32(phases.holding, processor as u32);
+    let unheld = !phases.holding.has(processor as u32);
     check_taken(terms, last, phases, processor, tick, unheld, Refusal::Held)
 }

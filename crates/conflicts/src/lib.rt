@@ -11,7 +11,7 @@ ghost use Rattle.plans.specs.Entries.{max_entries, counted_entries, entry_at};
 ghost use Rattle.conflicts.specs.Widening.{widened_set};
 ghost use Rattle.conflicts.specs.Conflict.{in_conflict, conflicts_of};
 
-use masks::add64;
+use masks::Mask;
 use plans::{Entry, MAX_ENTRIES, Plan};
 pub use sharing::{Conflict, conflict_by};
 use sharing::{is_conflict, pair_conflict};
@@ -55,7 +55,7 @@ fn add_if(set: u64, place: usize, test: bool) -> u64
     requires { place < max_entries }
     ensures { result ≡ cond test (added set place) set }
 {
-    if test { add64(set, place as u32) } else { set }
+    if test { set.with(place as u32) } else { set }
 }
 
 // The entries that entry i conflicts with.

@@ -7,7 +7,7 @@ use native.Mathlib.Omega.{arith}
 use lib.Bits.{bit_and, bit_or, and_step, or_step, and_le_l, and_le_r, or_lt}
 use lib.Dec.{eqb, ltb, eqb-zero-suc, eqb-suc-zero, eqb-suc-suc}
 use lib.Pow.{pow_pos, pow_mono, pow-lt, ones_sub-lt}
-use borrow.Author.Tests.{eqb-true, ltb-true, ltb-false, lt-ltb}
+use borrow.Author.Tests.{eqb-true, ltb-true, ltb-false, lt-ltb, le-ltb}
 use Rattle.masks.specs.Sets.{bit, complement, without, added, removed}
 use Rattle.masks.proofs.Digits.{bit_lowest, bit_suc, by_digit, by_digits, digit_lt, half_lt, ltb_none, ltb_first}
 use Rattle.masks.proofs.Digits.{ltb_suc}
@@ -15,6 +15,10 @@ use Rattle.masks.proofs.Digits.{ltb_suc}
 pub bit_past : (w n k : ℕ) → n < 2 ^ w → w ≤ k → bit n k ≡ false
 unfolding bit
 bit_past w n k h l = ap (λ (x : ℕ). eqb (x % 2) 1) (div-eq_of_lt (lt_of_lt_of_le h (pow_mono l)))
+
+-- A place past the width is in no set: the test that it is below the width says so already.
+pub not_within : (w n k : ℕ) → n < 2 ^ w → w ≤ k → ltb k w ≡ bit n k
+not_within w n k h l = le-ltb k w l ∙ sym (bit_past w n k h l)
 
 pub bit_zero : (k : ℕ) → bit 0 k ≡ false
 unfolding bit

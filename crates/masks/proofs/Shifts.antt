@@ -2,27 +2,19 @@
 -- count. Assumes nothing.
 use mathlib.Core.Path.{◌≡◌, refl, sym, ap, ◌∙◌}
 use mathlib.Core.Bool.{Bool, true, false, cond}
-use Prim.Native.Nat.{ℕ, ◌-◌, ◌*◌, ◌/◌, ◌%◌, ◌^◌, ◌<◌, ◌≤◌}
+use Prim.Native.Nat.{ℕ, ◌*◌, ◌/◌, ◌%◌, ◌^◌, ◌<◌, ◌≤◌}
 use native.Mathlib.Nat.{zero-mul, one-mul, mod-eq_of_lt, div-eq_of_lt, div-lt_iff_lt-mul, lt_of_lt_of_le}
 use native.Mathlib.Omega.{arith}
-use lib.Bits.{bit_and, bit_or, or_zero_r}
-use lib.Dec.{eqb, ltb}
+use lib.Bits.{bit_or, or_zero_r}
+use lib.Dec.{eqb, ltb, leb}
 use lib.Pow.{pow_pos, pow-lt, pow_mono}
-use borrow.Author.Tests.{ltb-true, ltb-false, lt-ltb, le-ltb, eq-eqb, ne_eqb}
-use Rattle.masks.specs.Sets.{added, removed}
+use borrow.Author.Tests.{ltb-true, ltb-false, lt-ltb, le-leb, eq-eqb, ne_eqb}
+use Rattle.masks.specs.Sets.{added}
 use Rattle.masks.proofs.Digits.{by_digit}
 
 -- A place below the width is not shifted out.
 pub one_shifted : (w k : ℕ) → k < w → 1 * 2 ^ k % 2 ^ w ≡ 2 ^ k
 one_shifted w k l = ap (λ (x : ℕ). x % 2 ^ w) (one-mul (2 ^ k)) ∙ mod-eq_of_lt (pow-lt l)
-
-pub adds : (w n k : ℕ) → k < w → bit_or n (1 * 2 ^ k % 2 ^ w) ≡ cond (ltb k w) (added n k) n
-adds w n k l = ap (λ (x : ℕ). bit_or n x) (one_shifted w k l) ∙ ap (λ t. cond t (added n k) n) (sym (lt-ltb k w l))
-
-pub removes : (w n k : ℕ) → k < w → bit_and n (2 ^ w - 1 - 1 * 2 ^ k % 2 ^ w) ≡ cond (ltb k w) (removed w n k) n
-removes w n k l =
-    ap (λ (x : ℕ). bit_and n (2 ^ w - 1 - x)) (one_shifted w k l)
-    ∙ ap (λ t. cond t (removed w n k) n) (sym (lt-ltb k w l))
 
 -- Adding a digit, 0 or 1, that is shifted to the place.
 pub adds_digit : (w n k d : ℕ) → k < w → d < 2 → bit_or n (d * 2 ^ k % 2 ^ w) ≡ cond (eqb d 1) (added n k) n
@@ -32,10 +24,7 @@ adds_digit w n k d l h =
     (ap (λ (x : ℕ). bit_or n x) (one_shifted w k l))
     d h
 
--- A place past the width leaves the set as it is.
-pub leaves : (w n m k : ℕ) → w ≤ k → n ≡ cond (ltb k w) m n
-leaves w n m k l = ap (λ t. cond t m n) (sym (le-ltb k w l))
-
+-- No place is at or above the count exactly if nothing is left once the set is shifted down by it.
 pub none_past : (n c : ℕ) → eqb (n / 2 ^ c) 0 ≡ ltb n (2 ^ c)
 none_past n c = go (ltb n (2 ^ c)) refl
   where
@@ -47,5 +36,6 @@ none_past n c = go (ltb n (2 ^ c)) refl
         let low : n < 1 * 2 ^ c = (div-lt_iff_lt-mul (pow_pos c)).0 under in
         omega (arith, ltb-false n (2 ^ c) e))
 
-pub all_below : (w n c : ℕ) → n < 2 ^ w → w ≤ c → true ≡ ltb n (2 ^ c)
-all_below w n c h l = sym (lt-ltb n (2 ^ c) (lt_of_lt_of_le h (pow_mono l)))
+-- A count past the width: the test that it is past the width says the same.
+pub all_below : (w n c : ℕ) → n < 2 ^ w → w ≤ c → leb w c ≡ ltb n (2 ^ c)
+all_below w n c h l = le-leb w c l ∙ sym (lt-ltb n (2 ^ c) (lt_of_lt_of_le h (pow_mono l)))

@@ -9,7 +9,7 @@ use lib.Dec.{eqb, ltb}
 use lib.Pow.{pow_pos, pow-lt}
 use borrow.Author.Tests.{lt-ltb}
 use Rattle.masks.specs.Sets.{bit, added, removed, without, mask_of}
-use Rattle.masks.proofs.Places.{bit_zero, bit_and_law, bit_or_law, bit_without, bit_single, bit_added, bit_removed_if}
+use Rattle.masks.proofs.Places.{bit_zero, bit_and_law, bit_single, bit_added, bit_removed_if}
 use Rattle.masks.proofs.Places.{bit_ones, bit_first, and_below, first_below, ones_below, added_below, wider}
 use Rattle.masks.proofs.Masks.{is_mask, mask_agree, mask_below, mask_of_bits, mask_and, mask_or, mask_without}
 use Rattle.masks.proofs.Masks.{bit_mask_at}

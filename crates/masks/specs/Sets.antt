@@ -1,6 +1,6 @@
 -- Clauses 1.6 and 2.6: sets of small numbers as the bits of one number. Bit p of a mask is processor p, and bit r of an
 -- entry's names is resource r. A set of width w is a number below 2 ^ w.
-use Rattle.std.specs.Prelude.{ℕ, zero, suc, ◌+◌, ◌-◌, ◌/◌, ◌%◌, ◌^◌, Bool, true, false, cond, not, ◌||◌, eqb}
+use Rattle.std.specs.Prelude.{ℕ, zero, suc, ◌+◌, ◌-◌, ◌/◌, ◌%◌, ◌^◌, Bool, false, cond, not, ◌||◌, eqb}
 use Rattle.std.specs.Int.Bits.{bit_and, bit_or}
 
 -- Place k is in the set n.

@@ -3,10 +3,12 @@
 // requests and answer queries use it.
 #![tactic(auto)]
 
+mod mask;
 mod masks32;
 mod masks64;
 mod tabulation;
 
-pub use masks32::{add32, has32, join_if, remove32, without32};
-pub use masks64::{add64, below64, has64, meet64};
+pub use mask::Mask;
+pub use masks32::{join_if, remove32, without32};
+pub use masks64::{below64, meet64};
 pub use tabulation::row_at;

@@ -1,20 +1,27 @@
-// Sets of numbers below 64 as the bits of a u64: sets of resources or of entries. A place of 64 or more is in no set,
-// and adding it changes nothing.
-ghost use Rattle.std.specs.Prelude.{◌≡◌, cond, ◌^◌, ltb};
-ghost use Rattle.masks.specs.Sets.{bit, added, meets};
+// Sets of resources or of entries: numbers below 64 as the bits of a u64. Only for these it is asked whether two meet,
+// and whether one fits below a count.
+ghost use Rattle.std.specs.Prelude.{◌≡◌, ◌^◌, ltb};
+ghost use Rattle.masks.specs.Sets.{meets};
 
-// Whether place k is in the set.
-pub fn has64(set: u64, k: u32) -> bool
-    ensures { result ≡ bit set k }
-{
-    if k < 64 { (set >> k) % 2 == 1 } else { false }
-}
+use crate::mask::Mask;
 
-// The set with place k added.
-pub fn add64(set: u64, k: u32) -> u64
-    ensures { result ≡ cond (ltb k 64) (added set k) set }
-{
-    if k < 64 { set | (1 << k) } else { set }
+impl Mask for u64 {
+    ghost number = { λ set. set };
+
+    ghost width = { 64 };
+
+    #[tactic(auto, using(crate::proofs::Places::not_within), unfolding(crate::specs::Sets::bit))]
+    fn has(self, place: u32) -> bool {
+        place < 64 && (self >> place) % 2 == 1
+    }
+
+    fn with(self, place: u32) -> u64 {
+        if place < 64 {
+            self | (1 << place)
+        } else {
+            self
+        }
+    }
 }
 
 // Whether the two sets share a place.
@@ -25,8 +32,9 @@ pub fn meet64(row: u64, set: u64) -> bool
 }
 
 // Whether every place of the set is below the count. If the count is 64 or more, this is true for every set.
+#[tactic(auto, using(crate::proofs::Shifts::none_past, crate::proofs::Shifts::all_below))]
 pub fn below64(set: u64, count: u32) -> bool
     ensures { result ≡ ltb set (2 ^ count) }
 {
-    if count < 64 { set >> count == 0 } else { true }
+    count >= 64 || set >> count == 0
 }

@@ -6,6 +6,5 @@ ghost use Rattle.std.specs.Prelude.{◌≡◌, get_or};
 pub fn row_at(rows: &[u64], entry: u32) -> u64
     ensures { result ≡ get_or rows.now entry 0 }
 {
-    let i = entry as usize;
-    if i < rows.len() { rows[i] } else { 0 }
+    rows.get(entry as usize).copied().unwrap_or(0)
 }

@@ -5,7 +5,7 @@ ghost use Rattle.conflicts.specs.Sharing.{conflict_as_numbers, over};
 ghost use Rattle.queries.specs.Contention.{shared_in, shared_as_numbers, shared_query, shared_of};
 
 use conflicts::{Conflict, conflict_by};
-use masks::{has64, row_at};
+use masks::{Mask, row_at};
 use plans::MAX_ENTRIES;
 use refusals::Refusal;
 use rules::{Board, Terms};
@@ -29,8 +29,8 @@ fn conflict_in(
 {
     let e = first as u32;
     let f = second as u32;
-    let e_write = has64(writes, e);
-    let f_write = has64(writes, f);
+    let e_write = writes.has(e);
+    let f_write = writes.has(f);
     let shared_names = row_at(names, e) & row_at(names, f);
     let shared_widened = row_at(widened, e) & row_at(widened, f);
     conflict_by(

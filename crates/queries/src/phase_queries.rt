@@ -7,23 +7,23 @@ ghost use Rattle.queries.specs.Parts.{board_with, state_with};
 
 use crate::query_answers::Phase;
 use crate::query_checks::check_processor;
-use masks::has32;
+use masks::Mask;
 use plans::MAX_PROCESSORS;
+use refusals::Refusal;
 use rules::{Board, Phases, State, Terms};
 use settling::clean;
-use refusals::Refusal;
 
 // The phase of processor p, from the masks of the phases.
 fn phase_at(phases: Phases, p: u32) -> Phase
     ensures { phase_number result ≡ state_in phases p }
 {
-    if has32(phases.holding, p) {
+    if phases.holding.has(p) {
         return Phase::Holding;
     }
-    if has32(phases.entitled, p) {
+    if phases.entitled.has(p) {
         return Phase::Entitled;
     }
-    if has32(phases.waiting, p) {
+    if phases.waiting.has(p) {
         Phase::Waiting
     } else {
         Phase::Idle
@@ -42,10 +42,7 @@ pub fn phase_in_place(
 {
     let verdict = check_processor(terms, processor);
     match verdict {
-        Ok(()) => Ok(phase_at(
-            clean(terms, *requested, phases),
-            processor as u32,
-        )),
+        Ok(()) => Ok(phase_at(clean(terms, *requested, phases), processor as u32)),
         Err(refusal) => Err(refusal),
     }
 }

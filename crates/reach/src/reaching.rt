@@ -6,7 +6,7 @@ ghost use Rattle.board_list.specs.Sizes.{listed_of};
 ghost use Rattle.reach.specs.Rows.{joined_row, rows_through};
 
 use board_list::listed;
-use masks::{has32, join_if};
+use masks::{Mask, join_if};
 use plans::MAX_PROCESSORS;
 
 // Every row, joined with row k if it contains k.
@@ -18,7 +18,7 @@ fn join_through(rows: [u32; MAX_PROCESSORS], k: usize) -> [u32; MAX_PROCESSORS]
     let mut next: [u32; MAX_PROCESSORS] = [0; MAX_PROCESSORS];
     let mut p: usize = 0;
     while p < MAX_PROCESSORS {
-        next[p] = join_if(rows[p], row, has32(rows[p], k as u32));
+        next[p] = join_if(rows[p], row, rows[p].has(k as u32));
         p += 1;
     }
     next

@@ -6,7 +6,7 @@ ghost use Rattle.rules.specs.Settling.{settled};
 ghost use Rattle.rules.specs.Acts.{put_in, taken_out};
 
 use crate::ages::all_but;
-use masks::add32;
+use masks::Mask;
 use plans::{MAX_ENTRIES, MAX_PROCESSORS};
 use rules::Phases;
 use settling::{ALL, settle};
@@ -16,7 +16,7 @@ fn put_in(phases: Phases, processor: u8) -> Phases
     ensures { result ≡ put_in phases processor }
 {
     Phases {
-        waiting: add32(phases.waiting, processor as u32) & ALL,
+        waiting: phases.waiting.with(processor as u32) & ALL,
         entitled: phases.entitled,
         holding: phases.holding,
     }
@@ -43,7 +43,7 @@ pub fn settle_new(
             return Phases {
                 waiting: 0,
                 entitled: 0,
-                holding: add32(0, processor as u32),
+                holding: 0u32.with(processor as u32),
             };
         }
     }

@@ -7,7 +7,7 @@ ghost use Rattle.rules.specs.Requests.{facts_by};
 ghost use Rattle.waits.specs.Waits.{waits_in, waits_of};
 ghost use Rattle.waits.specs.inner.Writers.{writers_in};
 
-use masks::{has32, join_if, row_at};
+use masks::{Mask, join_if, row_at};
 use plans::{MAX_ENTRIES, MAX_PROCESSORS};
 use rules::Phases;
 use settling::those_in;
@@ -48,9 +48,9 @@ fn waits_from(
         → result ≡ mask_of max_processors (waits_in
         (facts_by rows.now writes requested.now earlier.now) phases p) }
 {
-    let waiting = has32(phases.waiting, p);
-    let entitled = has32(phases.entitled, p);
-    let write = has32(writers, p);
+    let waiting = phases.waiting.has(p);
+    let entitled = phases.entitled.has(p);
+    let write = writers.has(p);
     let read = !write;
     let first = join_if(0, phases.holding & writers, entitled & read);
     let second = join_if(first, phases.entitled & writers, waiting & read);

@@ -15,7 +15,7 @@ loop-i-preserved c =
     let inside = c in (
       omega arith,
       writes_more inside.args.plan _ _ _ _ (omega arith) inside.loop-i.invariant.1
-          c.write_place.ensures c.add64-out.ensures,
+          c.write_place.ensures c.with-out.ensures,
     )
 
 pub returns : goal.returns

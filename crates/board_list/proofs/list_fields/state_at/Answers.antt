@@ -5,30 +5,30 @@ use Rattle.masks.specs.Sets.{bit}
 use Rattle.board_list.specs.Fields.{state_in}
 use Rattle.board_list.proofs.list_fields.state_at.Goals as goal
 
-pub returns-then-has32 : goal.returns-then-has32
+pub returns-then-has : goal.returns-then-has
 unfolding state_in
-returns-then-has32 c = rw (← c.has32.ensures, c.if-has32.true)
+returns-then-has c = rw (← c.has.ensures, c.if-has.true)
 
-pub returns-then-has32-2 : goal.returns-then-has32-2
+pub returns-then-has-2 : goal.returns-then-has-2
 unfolding state_in
-returns-then-has32-2 c = rw (
-  ← c.has32.ensures,
-  c.if-has32.false,
+returns-then-has-2 c = rw (
+  ← c.has.ensures,
+  c.if-has.false,
   ←
-      c.has32-2.ensures,
-  c.if-has32-2.true,
+      c.has-2.ensures,
+  c.if-has-2.true,
 )
 
-pub returns-then-has32-3 : goal.returns-then-has32-3
+pub returns-then-has-3 : goal.returns-then-has-3
 unfolding state_in
-returns-then-has32-3 c =
+returns-then-has-3 c =
     let a = c.args in
-    let waits : bit a.phases.waiting a.p ≡ true = sym c.has32-3.ensures ∙ c.if-has32-3.true in
-    rw (← c.has32.ensures, c.if-has32.false, ← c.has32-2.ensures, c.if-has32-2.false, waits)
+    let waits : bit a.phases.waiting a.p ≡ true = sym c.has-3.ensures ∙ c.if-has-3.true in
+    rw (← c.has.ensures, c.if-has.false, ← c.has-2.ensures, c.if-has-2.false, waits)
 
-pub returns-else-has32-3 : goal.returns-else-has32-3
+pub returns-else-has-3 : goal.returns-else-has-3
 unfolding state_in
-returns-else-has32-3 c =
+returns-else-has-3 c =
     let a = c.args in
-    let idle : bit a.phases.waiting a.p ≡ false = sym c.has32-3.ensures ∙ c.if-has32-3.false in
-    rw (← c.has32.ensures, c.if-has32.false, ← c.has32-2.ensures, c.if-has32-2.false, idle)
+    let idle : bit a.phases.waiting a.p ≡ false = sym c.has-3.ensures ∙ c.if-has-3.false in
+    rw (← c.has.ensures, c.if-has.false, ← c.has-2.ensures, c.if-has-2.false, idle)

@@ -2,8 +2,8 @@
 use Rattle.masks.proofs.Places.{bit_or_law}
 use Rattle.board_list.proofs.list_fields.waited_at.Goals as goal
 
-pub returns-then-has32 : goal.returns-then-has32
-returns-then-has32 c = rw (← bit_or_law, ← c.has32.ensures, c.if-has32.true) c.ticks_shown.ensures
+pub returns-then-has : goal.returns-then-has
+returns-then-has c = rw (← bit_or_law, ← c.has.ensures, c.if-has.true) c.ticks_shown.ensures
 
-pub returns-else-has32 : goal.returns-else-has32
-returns-else-has32 c = rw (← bit_or_law, ← c.has32.ensures, c.if-has32.false)
+pub returns-else-has : goal.returns-else-has
+returns-else-has c = rw (← bit_or_law, ← c.has.ensures, c.if-has.false)

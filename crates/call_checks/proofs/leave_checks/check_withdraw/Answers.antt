@@ -4,4 +4,4 @@ use Rattle.call_checks.proofs.leave_checks.check_withdraw.Goals as goal
 
 pub returns : goal.returns
 unfolding withdraw_fault
-returns c = rw (c.check_taken.ensures, c.has32-unheld.ensures)
+returns c = rw (c.check_taken.ensures, c.has-unheld.ensures)

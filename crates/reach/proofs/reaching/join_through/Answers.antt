@@ -19,5 +19,5 @@ loop-p-preserved c =
     let low : loop.p < length loop.next = omega arith in (
       omega arith,
       simp length-set loop.invariant.1,
-      fill_more _ _ _ _ low loop.invariant.2 (rw (← c.has32.ensures) c.join_if.ensures),
+      fill_more _ _ _ _ low loop.invariant.2 (rw (← c.has.ensures) c.join_if.ensures),
     )

@@ -4,4 +4,4 @@ use Rattle.requests.proofs.placing.PutIn.{new_waits}
 use Rattle.requests.proofs.placing.put_in.Goals as goal
 
 pub returns : goal.returns
-returns c = new_waits c.args.phases _ (search rules) _ c.add32.ensures
+returns c = new_waits c.args.phases _ (search rules) _ c.with.ensures

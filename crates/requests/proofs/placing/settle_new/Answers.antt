@@ -17,4 +17,4 @@ returns-then-earlier-processor-eq0 c =
     (search rules) (search rules) (search rules)
     (facts_by a.rows.now a.writes a.requested.now a.earlier.now) _
     (eqb-true _ _ (and_right (ltb a.processor max_processors) _ alone))
-    c.if-earlier-processor-eq0.true c.add32.ensures
+    c.if-earlier-processor-eq0.true c.with.ensures

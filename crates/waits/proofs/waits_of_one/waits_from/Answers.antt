@@ -12,6 +12,6 @@ returns c writes are =
     waits_mask (facts_by a.rows.now writes a.requested.now a.earlier.now) a.phases a.writers a.p are
     c.requires holding-fits
     c.ranges.writers.fits _ _ _ _ _ _ _
-    c.has32-waiting.ensures c.has32-entitled.ensures c.has32-write.ensures
+    c.has-waiting.ensures c.has-entitled.ensures c.has-write.ensures
     c.join_if-first.ensures c.join_if-second.ensures c.join_if-third.ensures c.join_if-others.ensures _ _
     c.row_of.ensures c.those_in.ensures
