@@ -1,5 +1,4 @@
--- The answers for a log's count and for a record, from the numbers that are read from their bytes. Assumes nothing.
-use Rattle.std.specs.Prelude.{Ok}
+-- The answer for a record, from the numbers that are read from its bytes. Assumes nothing.
 use Prim.Native.Nat.{ℕ, ◌≤◌}
 use mathlib.Core.Path.{◌≡◌, ap, ◌∙◌}
 use mathlib.Core.List.{List}
@@ -9,11 +8,7 @@ use lib.ListN.{length, get_or, take, drop}
 use Rattle.encoding.specs.Numbers.{number}
 use Rattle.encoding.proofs.Numbers.{part_number}
 use Rattle.logs.specs.Verbs.{recorded}
-use Rattle.logs.specs.Records.{count_as_numbers, read_count, fields_in, record_fault, read_record}
-
-pub count_read : (s : List ℕ) (n : ℕ) → 2 ≤ length s → n ≡ number (take 8 (take 2 s))
-    → count_as_numbers (Ok n) ≡ read_count s
-count_read s n h e = rw (le-leb 2 (length s) h, e, part_number 0 2 s (lit< tt))
+use Rattle.logs.specs.Records.{fields_in, record_fault, read_record}
 
 -- If the 8 bytes of a record are there, its answer is that of its fields.
 module _ (s : List ℕ) (h : 8 ≤ length s) where

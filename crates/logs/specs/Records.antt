@@ -1,8 +1,7 @@
 -- The content of a log after its plan, and when it is refused: with 1, 2 or 9. Specification, section 9.
-use Rattle.std.specs.Prelude.{Result, Ok, Err}
-use Rattle.refusals.specs.declared.Refusal.{Refusal}
-use Rattle.std.specs.Prelude.{ℕ, List, eqb, length, get_or, take}
+use Rattle.std.specs.Prelude.{ℕ, List, Result, Ok, Err, eqb, length, get_or, take}
 use Rattle.std.proofs.Math.Seq.{slice}
+use Rattle.refusals.specs.declared.Refusal.{Refusal}
 use Rattle.refusals.specs.Number.{number_of}
 use Rattle.refusals.specs.Due.{AsNumbers, due, first_of, as_numbers}
 use Rattle.encoding.specs.Numbers.{number}

@@ -1,9 +1,9 @@
 -- Which fields of a record give a call, and which are refused with 9. Specification, section 9.
-use Rattle.std.specs.Prelude.{Result, Ok, Err}
+use Rattle.std.specs.Prelude.{ℕ, cond, ◌&&◌, ◌||◌, Result, Ok, Err, eqb}
 use Rattle.refusals.specs.declared.Refusal.{Refusal}
-use Rattle.std.specs.Prelude.{ℕ, cond, ◌&&◌, ◌||◌, eqb}
 use Rattle.refusals.specs.Number.{number_of}
 use Rattle.refusals.specs.Due.{due}
+use Rattle.rules.specs.declared.calls.Call.{Call}
 use Rattle.rules.specs.CallNumbers.{Fields, call_as_numbers}
 
 -- Clause 9.3: 9 for a verb above 3, or a completion or a withdrawal with an entry.

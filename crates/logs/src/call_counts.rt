@@ -4,8 +4,8 @@ ghost use Rattle.std.specs.Prelude.{◌≡◌};
 ghost use Rattle.refusals.specs.Number.{verdict_number};
 ghost use Rattle.logs.specs.Records.{count_as_numbers, read_count, tail_fault};
 
-use encoding::read_number;
-use refusals::Refusal;
+use encoding::{check_due, read_number};
+use refusals::{Refusal, refuse_unless};
 
 // The bytes that the call count takes.
 pub const CALL_COUNT_BYTES: usize = 2;
@@ -14,20 +14,13 @@ pub const CALL_COUNT_BYTES: usize = 2;
 pub fn read_count(bytes: &[u8]) -> Result<u16, Refusal>
     ensures { count_as_numbers result ≡ read_count bytes.now }
 {
-    if bytes.len() < CALL_COUNT_BYTES {
-        return Err(Refusal::Short);
-    }
-    let count = read_number(&bytes[..CALL_COUNT_BYTES]);
-    Ok(count as u16)
+    check_due(CALL_COUNT_BYTES, bytes)?;
+    Ok(read_number(&bytes[..CALL_COUNT_BYTES]) as u16)
 }
 
 // Clause 9.5: checks the bytes after the last call. If there are any, the log is refused with 2.
 pub fn check_tail(bytes: &[u8]) -> Result<(), Refusal>
     ensures { verdict_number result ≡ tail_fault bytes.now }
 {
-    if bytes.len() == 0 {
-        Ok(())
-    } else {
-        Err(Refusal::Tail)
-    }
+    refuse_unless(bytes.is_empty(), Refusal::Tail)
 }

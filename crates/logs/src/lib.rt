@@ -11,7 +11,7 @@ ghost use Rattle.logs.specs.Verbs.{record_as_numbers};
 ghost use Rattle.logs.specs.Records.{read_record};
 
 pub use call_counts::{CALL_COUNT_BYTES, check_tail, read_count};
-use encoding::read_number;
+use encoding::{check_due, read_number};
 use record_calls::call_by;
 use refusals::Refusal;
 use rules::Call;
@@ -22,13 +22,11 @@ pub const RECORD_BYTES: usize = 8;
 const TICK_PLACE: usize = 3;
 
 // Clause 9.4: the call at the start of the bytes. Refuses with 1, then with 9.
+#[tactic(auto, using(refusals::proofs::Numbers::first_refuses_verdict), unfolding(crate::specs::Records::read_record, crate::specs::Records::record_fault))]
 pub fn read_record(bytes: &[u8]) -> Result<Call, Refusal>
     ensures { record_as_numbers result ≡ read_record bytes.now }
 {
-    if bytes.len() < RECORD_BYTES {
-        return Err(Refusal::Short);
-    }
-    let verb = bytes[0];
+    check_due(RECORD_BYTES, bytes)?;
     let tick = read_number(&bytes[TICK_PLACE..RECORD_BYTES]);
-    call_by(verb, bytes[1], bytes[2], tick)
+    call_by(bytes[0], bytes[1], bytes[2], tick)
 }

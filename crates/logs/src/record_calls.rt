@@ -10,31 +10,19 @@ pub fn call_by(verb: u8, processor: u8, entry: u8, tick: u64) -> Result<Call, Re
     ensures { record_as_numbers result
         ≡ recorded (record { verb = verb; processor = processor; entry = entry; tick = tick }) }
 {
-    if verb == 0 {
-        return Ok(Call::Issue {
-            processor: processor,
-            entry: entry,
-            tick: tick,
-        });
+    match (verb, entry) {
+        (0, _) => Ok(Call::Issue {
+            processor,
+            entry,
+            tick,
+        }),
+        (1, 0) => Ok(Call::Complete { processor, tick }),
+        (2, 0) => Ok(Call::Withdraw { processor, tick }),
+        (3, _) => Ok(Call::Handover {
+            processor,
+            entry,
+            tick,
+        }),
+        _ => Err(Refusal::Verb),
     }
-    if (verb == 1) & (entry == 0) {
-        return Ok(Call::Complete {
-            processor: processor,
-            tick: tick,
-        });
-    }
-    if (verb == 2) & (entry == 0) {
-        return Ok(Call::Withdraw {
-            processor: processor,
-            tick: tick,
-        });
-    }
-    if verb == 3 {
-        return Ok(Call::Handover {
-            processor: processor,
-            entry: entry,
-            tick: tick,
-        });
-    }
-    Err(Refusal::Verb)
 }
