@@ -16,7 +16,7 @@ pub fn write_entry(entry: Entry, section: &mut [u8], at: usize)
 {
     if has_room(entry_size(entry), section.len(), at) {
         section[at] = entry.kind;
-        write_number(entry.set, 8, section, at + 1);
-        write_number(entry.length as u64, 2, section, at + 9);
+        let _ = write_number(entry.set, 8, section, at + 1);
+        let _ = write_number(entry.length as u64, 2, section, at + 9);
     }
 }

@@ -10,6 +10,7 @@ use plans::PLAN_COUNTS_BYTES;
 use refusals::Refusal;
 
 // Clause 2.9: the three counts in the order of their bytes. Refuses with 1 if a count is missing, and with 3 to 5.
+#[tactic(auto, using(refusals::proofs::Numbers::first_refuses_verdict, refusals::proofs::Numbers::first_accepts_verdict), unfolding(crate::specs::inner::Head::head_fault))]
 pub fn check_head(bytes: &[u8]) -> Result<(), Refusal>
     ensures { verdict_number result ≡ head_fault bytes.now }
 {

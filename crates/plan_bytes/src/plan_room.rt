@@ -11,6 +11,7 @@ use plans::Plan;
 use refusals::Refusal;
 
 // Clause 8.2: refuses first with 3 to 8 for the plan, then with 16 if the buffer has no room for the bytes needed.
+#[tactic(auto, using(refusals::proofs::Numbers::first_refuses_verdict, refusals::proofs::Numbers::first_accepts_verdict))]
 pub fn check_writing(plan: Plan, needed: usize, size: usize, at: usize) -> Result<(), Refusal>
     ensures { verdict_number result ≡ first_of (plan_fault plan) (room_fault needed size at) }
 {

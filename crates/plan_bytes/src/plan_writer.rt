@@ -10,18 +10,15 @@ use crate::plan_room::check_writing;
 use plans::{Entry, MAX_ENTRIES, PLAN_COUNTS_BYTES, Plan, entry_size, plan_size};
 use refusals::Refusal;
 
-// Stores the first `count` entries from the start of the section.
-fn write_section(entries: [Entry; MAX_ENTRIES], count: usize, section: &mut [u8])
-    requires { (count ≤ max_entries) × (section_size (take count entries) ≤ length section.old) }
-    ensures { section.new ≡ sets section.old 0 (section_bytes (take count entries)) }
+// Stores the entries from the start of the section.
+fn write_section(entries: &[Entry], section: &mut [u8])
+    requires { section_size entries.now ≤ length section.old }
+    ensures { section.new ≡ sets section.old 0 (section_bytes entries.now) }
 {
-    let mut i = 0;
     let mut at = 0;
-    while i < count {
-        let entry = entries[i];
-        write_entry(entry, section, at);
-        at += entry_size(entry);
-        i += 1;
+    for entry in entries {
+        write_entry(*entry, section, at);
+        at += entry_size(*entry);
     }
 }
 
@@ -31,13 +28,11 @@ fn write_plan(plan: Plan, buffer: &mut [u8], at: usize)
     requires { (plan.count ≤ max_entries) × (at + plan_size plan ≤ length buffer.old) }
     ensures { buffer.new ≡ overwritten buffer.old at (plan_bytes plan) }
 {
-    let count = plan.count as usize;
-    let entries = plan.entries;
     buffer[at] = plan.processors;
     buffer[at + 1] = plan.resources;
     buffer[at + 2] = plan.count;
     let start = at + PLAN_COUNTS_BYTES;
-    write_section(entries, count, &mut buffer[start..]);
+    write_section(&plan.entries[..plan.count as usize], &mut buffer[start..]);
 }
 
 // Clause 2.12: writes the plan's bytes into the buffer from position `at`. Other bytes stay.
@@ -47,12 +42,7 @@ pub fn write(plan: Plan, buffer: &mut [u8], at: usize) -> Result<usize, Refusal>
     ensures bytes { buffer.new ≡ written_buffer plan buffer.old at }
 {
     let size = plan_size(plan);
-    let verdict = check_writing(plan, size, buffer.len(), at);
-    match verdict {
-        Ok(()) => {
-            write_plan(plan, buffer, at);
-            Ok(size)
-        }
-        Err(refusal) => Err(refusal),
-    }
+    check_writing(plan, size, buffer.len(), at)?;
+    write_plan(plan, buffer, at);
+    Ok(size)
 }

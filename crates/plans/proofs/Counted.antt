@@ -1,4 +1,4 @@
--- The first n elements of a list, in the order of a loop over them: which are left at place i. Assumes nothing.
+-- The elements of a list, in the order of a loop over them: which are left at place i. Assumes nothing.
 use Prim.Native.Nat.{ℕ, ◌+◌, ◌<◌, ◌≤◌, min}
 use native.Mathlib.Nat.{min-eq_left, min-eq_right, le_of_lt}
 use native.Mathlib.Numerals.{add-one}
@@ -8,17 +8,15 @@ use mathlib.Core.Bool.{Bool, true, false}
 use borrow.Author.Tests.{leb-true, leb-false}
 use lib.Dec.{leb}
 use mathlib.Core.List.{List, [], ◌∷◌}
-use lib.ListN.{length, take, drop, get_or, length-take, drop_of_length-le}
-use lib.Seq.{length-take-le, drop-cons, get_or-take, take_all}
+use lib.ListN.{length, take, drop, get_or, drop_of_length-le}
+use lib.Seq.{drop-cons, take_all}
 
-module _ {A : Type 0} (n i : ℕ) (xs : List A) where
-  pub none_left : n ≤ i → drop i (take n xs) ≡ []
-  none_left h = drop_of_length-le (take n xs) {i = i} (simp length-take (omega arith))
+module _ {A : Type 0} (i : ℕ) (xs : List A) where
+  pub none_left : length xs ≤ i → drop i xs ≡ []
+  none_left h = drop_of_length-le xs {i = i} h
 
-  pub next_left : (d : A) → n ≤ length xs → i < n → drop i (take n xs) ≡ get_or xs i d ∷ drop (i + 1) (take n xs)
-  next_left d fits h =
-      let here : i < length (take n xs) = rw (length-take-le n xs fits) h in
-      rw (add-one, drop-cons (take n xs) i d here, get_or-take n xs i d h)
+  pub next_left : (d : A) → i < length xs → drop i xs ≡ get_or xs i d ∷ drop (i + 1) xs
+  next_left d h = rw (add-one) (drop-cons xs i d h)
 
 -- Taking more elements than the list contains takes all of them.
 pub all_taken : {A : Type 0} (n k : ℕ) (xs : List A) → length xs ≡ k → take (min n k) xs ≡ take n xs

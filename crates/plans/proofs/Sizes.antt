@@ -53,21 +53,21 @@ pub section_size_one : (e : Entry) → section_size (e ∷ []) ≡ entry_size_of
 unfolding section_size
 section_size_one e = omega arith
 
--- The bytes of the entries that are left at place i of n.
-module _ (n i : ℕ) (xs : List Entry) where
-  pub size_left : (d : Entry) → n ≤ length xs → i < n
-      → section_size (drop i (take n xs)) ≡ entry_size_of (get_or xs i d) + section_size (drop (i + 1) (take n xs))
+-- The bytes of the entries that are left at place i.
+module _ (i : ℕ) (xs : List Entry) where
+  pub size_left : (d : Entry) → i < length xs
+      → section_size (drop i xs) ≡ entry_size_of (get_or xs i d) + section_size (drop (i + 1) xs)
   unfolding section_size
-  size_left d fits h = ap section_size (next_left n i xs d fits h)
+  size_left d h = ap section_size (next_left i xs d h)
 
   -- A turn adds the size of the next one.
-  pub size_added : (d : Entry) (size k whole : ℕ) → k ≡ entry_size_of (get_or xs i d) → n ≤ length xs → i < n
-      → size + section_size (drop i (take n xs)) ≡ whole → size + k + section_size (drop (i + 1) (take n xs)) ≡ whole
-  size_added d size k whole is fits h e = omega (arith, size_left d fits h)
+  pub size_added : (d : Entry) (size k whole : ℕ) → k ≡ entry_size_of (get_or xs i d) → i < length xs
+      → size + section_size (drop i xs) ≡ whole → size + k + section_size (drop (i + 1) xs) ≡ whole
+  size_added d size k whole is h e = omega (arith, size_left d h)
 
-  pub no_size_left : n ≤ i → section_size (drop i (take n xs)) ≡ 0
+  pub no_size_left : length xs ≤ i → section_size (drop i xs) ≡ 0
   unfolding section_size
-  no_size_left h = ap section_size (none_left n i xs h)
+  no_size_left h = ap section_size (none_left i xs h)
 
 -- ---- a plan
 

@@ -2,7 +2,6 @@
 ghost use Rattle.std.specs.Prelude.{◌≡◌};
 ghost use Rattle.plans.specs.Entries.{entry_size_of, mask_size_for, plan_size};
 
-use crate::entry_kinds::counted_of;
 use crate::{ENTRY_BYTES, Entry, PLAN_COUNTS_BYTES, Plan};
 
 pub fn entry_size(entry: Entry) -> usize
@@ -15,13 +14,9 @@ pub fn entry_size(entry: Entry) -> usize
 pub fn plan_size(plan: Plan) -> usize
     ensures { result ≡ plan_size plan }
 {
-    let entries = plan.entries;
-    let count = counted_of(plan.count) as usize;
-    let mut size: usize = PLAN_COUNTS_BYTES;
-    let mut i: usize = 0;
-    while i < count {
-        size += entry_size(entries[i]);
-        i += 1;
+    let mut size = PLAN_COUNTS_BYTES;
+    for entry in plan.counted_entries() {
+        size += entry_size(*entry);
     }
     size
 }

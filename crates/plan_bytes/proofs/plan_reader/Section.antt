@@ -16,13 +16,12 @@ use Rattle.refusals.specs.declared.Refusal.{Refusal}
 use Rattle.refusals.specs.Number.{number_of, verdict_number}
 use Rattle.refusals.specs.Due.{first_of, as_numbers}
 use Rattle.refusals.proofs.Numbers.{first_of_four, first_accepts_verdict, first_refuses_verdict}
-use Rattle.encoding.specs.Buffers.{outcome_as_numbers}
 use Rattle.encoding.proofs.Room.{enough_at}
 use Rattle.plans.specs.declared.Entry.{Entry}
 use Rattle.plans.specs.declared.Read.{Read}
 use Rattle.plans.specs.Entries.{max_entries, counts_size, entry_size, entry_size_of, section_size, plan_size, blank_entry}
 use Rattle.plans.specs.Acceptance.{kind_fault, set_fault, length_fault, entry_fault}
-use Rattle.plans.specs.Reading.{entry_in, entries_in, section_fault, blank_plan, plan_in}
+use Rattle.plans.specs.Reading.{entry_in, entries_in, section_fault, blank_plan, plan_in, taken_as_numbers, plan_taken}
 use Rattle.plans.proofs.Sizes.{entry_size_due, section_size_append, section_size_one}
 use Rattle.plans.proofs.EntryBytes.{length_entries_in}
 use Rattle.plans.proofs.PlanBytes.{counted_plan_in}
@@ -186,8 +185,8 @@ module _
     whole_plan = rw (h.filled, all_read)
 
     pub read_whole : (read : Read) → read ≡ whole_read bytes entries at
-        → (outcome_as_numbers read.outcome ≡ as_numbers (body_fault bytes) (plan_size (plan_in bytes)))
-        × (read.plan ≡ cond (eqb (body_fault bytes) 0) (plan_in bytes) blank_plan)
+        → (taken_as_numbers (Ok read) ≡ as_numbers (body_fault bytes) (plan_size (plan_in bytes)))
+        × (plan_taken (Ok read) ≡ cond (eqb (body_fault bytes) 0) (plan_in bytes) blank_plan)
     read_whole read e =
         let size : at ≡ plan_size (plan_in bytes) = h.place ∙ rw (all_read, counted_plan_in) in
         rw (e, no_fault) (ap (as_numbers 0) size, whole_plan)

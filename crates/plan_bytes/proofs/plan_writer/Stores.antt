@@ -17,23 +17,23 @@ use Rattle.plans.proofs.Counted.{none_left, next_left}
 use Rattle.plans.proofs.Sizes.{size_left}
 use Rattle.plans.proofs.EntryBytes.{length_entry_bytes, length_section_bytes}
 
--- A turn stores the next entry, if there is room for all n.
-pub section_turn : (l next : List ℕ) (es : List Entry) (n i at size : ℕ) (d : Entry) → i < n → n ≤ length es
-    → size ≡ entry_size_of (get_or es i d) → at + section_size (drop i (take n es)) ≤ length l
+-- A turn stores the next entry, if there is room for all of them.
+pub section_turn : (l next : List ℕ) (es : List Entry) (i at size : ℕ) (d : Entry) → i < length es
+    → size ≡ entry_size_of (get_or es i d) → at + section_size (drop i es) ≤ length l
     → next ≡ buffer_after (room_fault (entry_size_of (get_or es i d)) (length l) at) (entry_bytes (get_or es i d)) l at
-    → sets next (at + size) (section_bytes (drop (i + 1) (take n es))) ≡ sets l at (section_bytes (drop i (take n es)))
+    → sets next (at + size) (section_bytes (drop (i + 1) es)) ≡ sets l at (section_bytes (drop i es))
 unfolding section_bytes
-section_turn l next es n i at size d h k sized room written =
+section_turn l next es i at size d h sized room written =
     let e = get_or es i d in
-    let fits : at + entry_size_of e ≤ length l = omega (arith, size_left n i es d k h) in
+    let fits : at + entry_size_of e ≤ length l = omega (arith, size_left i es d h) in
     let stored = written ∙ stored_where_fits l at (entry_bytes e) (entry_size_of e) (length_entry_bytes e) fits in
-    rw (stored, next_left n i es d k h, sets_append, length_entry_bytes, sized)
+    rw (stored, next_left i es d h, sets_append, length_entry_bytes, sized)
 
 -- All entries are stored when none is left.
-pub section_end : (l : List ℕ) (es : List Entry) (n i at : ℕ) → n ≤ i
-    → sets l at (section_bytes (drop i (take n es))) ≡ l
+pub section_end : (l : List ℕ) (es : List Entry) (i at : ℕ) → length es ≤ i
+    → sets l at (section_bytes (drop i es)) ≡ l
 unfolding section_bytes
-section_end l es n i at h = rw (none_left n i es h)
+section_end l es i at h = rw (none_left i es h)
 
 -- Stores from the start of a part that is then put back are stores into the whole.
 pub part_stores : (a k : ℕ) (l vs : List ℕ) → length vs ≤ k → a + k ≤ length l → put_mid a k l (sets (mid_of a k l) 0 vs)

@@ -1,4 +1,6 @@
 use native.Mathlib.Omega.{arith}
+use borrow.Author.Rules.{rules}
+use Rattle.std.specs.Prelude.{Ok, Err}
 use mathlib.Core.Path.{◌≡◌}
 use Rattle.refusals.specs.Number.{number_of}
 use Rattle.plans.proofs.Sizes.{sized_due}
@@ -9,9 +11,9 @@ use Rattle.plan_bytes.proofs.plan_reader.Section.{names_refused, ticks_refused}
 use Rattle.plan_bytes.specs.inner.Body.{body_fault}
 use Rattle.plan_bytes.proofs.plan_reader.read_entries.Goals as goal
 use Rattle.plan_bytes.proofs.plan_reader.read_entries.Goals.{then-count-i, else-count-i+then-bytes-at-lt-ENTRY_BYTES}
-use Rattle.plan_bytes.proofs.plan_reader.read_entries.Goals.{else-count-i+else-bytes-at-lt-ENTRY_BYTES+in-Refused}
-use Rattle.plan_bytes.proofs.plan_reader.read_entries.Goals.{else-count-i+else-bytes-at-lt-ENTRY_BYTES+in_default+in-Refused-set}
-use Rattle.plan_bytes.proofs.plan_reader.read_entries.Goals.{else-count-i+else-bytes-at-lt-ENTRY_BYTES+in_default+in_default-set+in-Refused-length}
+use Rattle.plan_bytes.proofs.plan_reader.read_entries.Goals.{else-count-i+else-bytes-at-lt-ENTRY_BYTES+in-Err}
+use Rattle.plan_bytes.proofs.plan_reader.read_entries.Goals.{else-count-i+else-bytes-at-lt-ENTRY_BYTES+in_default+in-Err-set}
+use Rattle.plan_bytes.proofs.plan_reader.read_entries.Goals.{else-count-i+else-bytes-at-lt-ENTRY_BYTES+in_default+in_default-set+in-Err-length}
 
 pub loop-i-init : goal.loop-i-init
 loop-i-init c = nothing_read _ _ _ (omega arith)
@@ -28,15 +30,17 @@ loop-i-preserved c =
     _ c.entry_size-at.ensures
 
 -- The loop ends after the last entry. The other exits return a refusal.
-pub returns-in-Ok : goal.returns-in-Ok
-returns-in-Ok c =
-    let accepted = c.in-Ok.is in
+pub returns : goal.returns
+returns c =
+    let accepted : c.if-count-i.verdict ≡ Ok tt = search rules in
     let both =
     read_whole _ _ _ _ c.loop-i.invariant
     (elim c.if-count-i.branch [
       | then-count-i w ↦ w.if-count-i.true
-      | else-count-i+then-bytes-at-lt-ENTRY_BYTES w ↦ absurd (not_both _ _ w.verdict-is accepted)
-      | else-count-i+else-bytes-at-lt-ENTRY_BYTES+in-Err w ↦ absurd (not_both _ _ w.verdict-is accepted)
+      | else-count-i+then-bytes-at-lt-ENTRY_BYTES w ↦
+          absurd (not_both _ _ w.verdict-is accepted)
+      | else-count-i+else-bytes-at-lt-ENTRY_BYTES+in-Err w ↦
+          absurd (not_both _ _ w.verdict-is accepted)
       | else-count-i+else-bytes-at-lt-ENTRY_BYTES+in_default+in-Err-set w ↦
           absurd (not_both _ _ w.verdict-is accepted)
       | else-count-i+else-bytes-at-lt-ENTRY_BYTES+in_default+in_default-set+in-Err-length w ↦
@@ -47,11 +51,11 @@ returns-in-Ok c =
     record { outcome = both.0; plan = both.1 }
 
 -- The loop ends with a refusal: of the bytes, of a kind, of names or of a length.
-pub returns-in-Err-verdict : goal.returns-in-Err-verdict
-returns-in-Err-verdict c =
-    let refused = c.in-Err-verdict.is in
+pub returns-in_err-verdict : goal.returns-in_err-verdict
+returns-in_err-verdict c =
+    let refused : c.if-count-i.verdict ≡ Err c.in_err-verdict.field-0.0 = search rules in
     let inv = c.loop-i.invariant in
-    let fault : body_fault c.args.bytes.now ≡ number_of c.in-Err-verdict.refusal =
+    let fault : body_fault c.args.bytes.now ≡ number_of c.in_err-verdict.field-0.0 =
     elim c.if-count-i.branch [
       | then-count-i w ↦ absurd (not_both _ _ refused w.verdict-is)
       | else-count-i+then-bytes-at-lt-ENTRY_BYTES w ↦
@@ -78,5 +82,5 @@ returns-in-Err-verdict c =
           w.verdict-is
     ]
     in
-    let both = refused_only _ _ c.refused.ensures _ fault _ _ in
+    let both = refused_only c.from_residual.result c.in_err-verdict.field-0.0 (search rules) _ fault _ _ in
     record { outcome = both.0; plan = both.1 }
