@@ -1,15 +1,16 @@
 // Whose requests conflict, using masks of processors and 64-bit sets of entries. A row contains the entries that an
 // entry conflicts with (specification, clause 5.7). Every walk goes through the processors of a mask one by one. Except
 // in `those_in`, the masks contain known processors: there is a row, and a place in a set, for the entry of each.
-ghost use Rattle.std.specs.Prelude.{◌≡◌, cond, not, ◌&&◌, [], ℕ, ◌<◌, get_or};
+ghost use Rattle.std.specs.Prelude.{◌≡◌, cond, not, ◌&&◌, ℕ, ◌<◌, get_or};
 ghost use Rattle.masks.specs.Sets.{bit, added, some, meets, mask_of};
 ghost use Rattle.plans.specs.Entries.{max_processors, max_entries};
-ghost use Rattle.rules.specs.Requests.{facts_by};
+ghost use Rattle.rules.specs.InPlace.{facts_lent};
 ghost use Rattle.rules.specs.inner.Moves.{Known, unopposed_in, first_in_line};
 
 use crate::known_requests::add_if;
 use masks::meet64;
 use plans::{MAX_ENTRIES, MAX_PROCESSORS};
+use rules::LentFacts;
 
 // ---- one processor
 
@@ -31,11 +32,11 @@ fn entry_at(requested: &[u8; MAX_PROCESSORS], p: u32) -> u8
 }
 
 // The entries that a processor's request conflicts with.
-fn row_at(rows: &[u64; MAX_ENTRIES], requested: &[u8; MAX_PROCESSORS], p: u32) -> u64
-    requires { (p < max_processors) × (get_or requested.now p 0 < max_entries) }
-    ensures { result ≡ get_or rows.now (get_or requested.now p 0) 0 }
+fn row_at(facts: LentFacts<'_>, p: u32) -> u64
+    requires { (p < max_processors) × (get_or facts.requested.now p 0 < max_entries) }
+    ensures { result ≡ get_or facts.entry.rows.now (get_or facts.entry.requested.now p 0) 0 }
 {
-    rows[entry_at(requested, p) as usize]
+    facts.rows[entry_at(facts.requested, p) as usize]
 }
 
 // ---- the processors in a mask
@@ -112,21 +113,16 @@ fn in_row(row: u64, requested: &[u8; MAX_PROCESSORS], among: u32) -> bool
 }
 
 // The candidates whose requests conflict with no entry of the set.
-fn clear_of(
-    rows: &[u64; MAX_ENTRIES],
-    requested: &[u8; MAX_PROCESSORS],
-    candidates: u32,
-    set: u64,
-) -> u32
-    requires { Known requested.now candidates }
+fn clear_of(facts: LentFacts<'_>, candidates: u32, set: u64) -> u32
+    requires { Known facts.requested.now candidates }
     ensures { result ≡ mask_of max_processors (λ p. bit candidates p
-        && not (meets (get_or rows.now (get_or requested.now p 0) 0) set)) }
+        && not (meets (get_or facts.entry.rows.now (get_or facts.entry.requested.now p 0) 0) set)) }
 {
     let mut out: u32 = 0;
     let mut left = candidates;
     while left != 0 {
         let p = u32::trailing_zeros(left);
-        out = add_if(out, p, !meet64(row_at(rows, requested, p), set));
+        out = add_if(out, p, !meet64(row_at(facts, p), set));
         left = left & (left - 1);
     }
     out
@@ -136,14 +132,9 @@ fn clear_of(
 
 // The candidates whose requests conflict with none of the others' requests. Without candidates or others it reads no
 // row.
-pub fn unopposed(
-    rows: &[u64; MAX_ENTRIES],
-    requested: &[u8; MAX_PROCESSORS],
-    candidates: u32,
-    others: u32,
-) -> u32
-    requires { Known requested.now candidates × Known requested.now others }
-    ensures { result ≡ unopposed_in (facts_by rows.now 0 requested.now []) candidates others }
+pub fn unopposed(facts: LentFacts<'_>, candidates: u32, others: u32) -> u32
+    requires { Known facts.requested.now candidates × Known facts.requested.now others }
+    ensures { result ≡ unopposed_in (facts_lent facts.entry) candidates others }
 {
     if candidates == 0 {
         return 0;
@@ -151,29 +142,22 @@ pub fn unopposed(
     if others == 0 {
         return candidates;
     }
-    clear_of(rows, requested, candidates, entries_of(requested, others))
+    clear_of(facts, candidates, entries_of(facts.requested, others))
 }
 
 // The candidates whose requests conflict with none of the others' earlier requests.
-pub fn first_in_queue(
-    rows: &[u64; MAX_ENTRIES],
-    requested: &[u8; MAX_PROCESSORS],
-    earlier: &[u32; MAX_PROCESSORS],
-    candidates: u32,
-    others: u32,
-) -> u32
-    requires { Known requested.now candidates × Known requested.now others }
-    ensures { result ≡ first_in_line (facts_by rows.now 0 requested.now earlier.now)
-        candidates others }
+pub fn first_in_queue(facts: LentFacts<'_>, candidates: u32, others: u32) -> u32
+    requires { Known facts.requested.now candidates × Known facts.requested.now others }
+    ensures { result ≡ first_in_line (facts_lent facts.entry) candidates others }
 {
     let mut out: u32 = 0;
     let mut left = candidates;
     while left != 0 {
         let p = u32::trailing_zeros(left);
         let before = in_row(
-            row_at(rows, requested, p),
-            requested,
-            earlier[p as usize] & others,
+            row_at(facts, p),
+            facts.requested,
+            facts.earlier[p as usize] & others,
         );
         out = add_if(out, p, !before);
         left = left & (left - 1);

@@ -9,7 +9,7 @@ use Rattle.settling.proofs.conflict_walks.clear_of.Given as goal
 
 abbrev pub invariant-loop-left : goal.invariant-loop-left
 invariant-loop-left l =
-    Kept max_processors 32 (λ p. not (meets (get_or l.rows (get_or l.requested p 0) 0) l.set)) l.candidates l.left l.out × Known l.requested l.left
+    Kept max_processors 32 (λ p. not (meets (get_or l.facts.rows.now (get_or l.facts.requested.now p 0) 0) l.set)) l.candidates l.left l.out × Known l.facts.requested.now l.left
 
 abbrev pub decreases-loop-left : goal.decreases-loop-left
 decreases-loop-left l = l.left

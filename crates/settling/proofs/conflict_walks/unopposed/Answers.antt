@@ -2,14 +2,14 @@
 -- exactly if it contains one of them. Assumes nothing.
 use mathlib.Core.Path.{◌≡◌, sym, ap, ◌∙◌}
 use mathlib.Core.Bool.{not, ◌&&◌, and-true}
-use mathlib.Core.List.{[]}
 use Prim.Native.Nat.{ℕ, ◌^◌, ◌<◌}
 use lib.ListN.{get_or}
 use Rattle.masks.specs.Sets.{bit, some, meets, mask_of}
 use Rattle.masks.proofs.Masks.{is_mask, mask_agree}
 use Rattle.masks.proofs.Walks.{none_kept, some_last}
 use Rattle.plans.specs.Entries.{max_processors}
-use Rattle.rules.specs.Requests.{Facts, facts_by, entry_of, conflicts}
+use Rattle.rules.specs.Requests.{Facts, entry_of, conflicts}
+use Rattle.rules.specs.InPlace.{facts_lent}
 use Rattle.rules.specs.inner.Moves.{unopposed_in}
 use Rattle.settling.proofs.conflict_walks.unopposed.Goals as goal
 
@@ -34,5 +34,5 @@ returns-then-candidates-eq0 c = none_kept max_processors _ _ c.if-candidates-eq0
 pub returns-then-others-eq0 : goal.returns-then-others-eq0
 returns-then-others-eq0 c =
     let a = c.args in
-    no-others (facts_by a.rows.now 0 a.requested.now []) _ _ c.ranges.candidates.fits
+    no-others (facts_lent a.facts) _ _ c.ranges.candidates.fits
     c.if-others-eq0.true

@@ -1,7 +1,10 @@
 -- `four_steps` meets its contract: the masks are those of the four steps. Assumes nothing.
+use Prim.Native.Nat.{◌^◌, ◌<◌}
 use lib.Bits.{bit_or}
+use borrow.Author.Rules.{rules}
 use Rattle.masks.specs.Sets.{without}
-use Rattle.rules.specs.Requests.{facts_by}
+use Rattle.plans.specs.Entries.{max_entries}
+use Rattle.rules.specs.InPlace.{facts_lent}
 use Rattle.rules.specs.Settling.{settled}
 use Rattle.rules.specs.inner.Moves.{Known}
 use Rattle.rules.proofs.FourSteps.{at_last}
@@ -11,25 +14,25 @@ use Rattle.settling.proofs.settle_phases.KnownSteps.{known_after3, known_after4}
 use Rattle.settling.proofs.steps.four_steps.Goals as goal
 
 pub known_among-w-requires : goal.known_among-w-requires
-known_among-w-requires c = let k = known_all {entry = c.args.requested.now} c.requires.0 in search and_known
+known_among-w-requires c = let k = known_all {entry = c.args.facts.requested.now} c.requires.0 in search and_known
 
 pub unopposed-ahead-requires : goal.unopposed-ahead-requires
 unopposed-ahead-requires c =
     let a = c.args in
-    let w : Known a.requested.now c.known_among-w.result =
-    known_writes (facts_by a.rows.now a.writes a.requested.now a.earlier.now)
+    let w : Known a.facts.requested.now c.known_among-w.result =
+    known_writes (facts_lent a.facts)
     (bit_or (bit_or a.waiting a.entitled) a.holding) c.requires.0 c.known_among-w.ensures in
-    let r : Known a.requested.now (without 32 a.known c.known_among-w.result) =
+    let r : Known a.facts.requested.now (without 32 a.known c.known_among-w.result) =
     known_and _ (known_all c.requires.0) in
     (search and_known, search and_known)
 
 pub unopposed-free-requires : goal.unopposed-free-requires
 unopposed-free-requires c =
     let a = c.args in
-    let w : Known a.requested.now c.known_among-w.result =
-    known_writes (facts_by a.rows.now a.writes a.requested.now a.earlier.now)
+    let w : Known a.facts.requested.now c.known_among-w.result =
+    known_writes (facts_lent a.facts)
     (bit_or (bit_or a.waiting a.entitled) a.holding) c.requires.0 c.known_among-w.ensures in
-    let r : Known a.requested.now (without 32 a.known c.known_among-w.result) =
+    let r : Known a.facts.requested.now (without 32 a.known c.known_among-w.result) =
     known_and _ (known_all c.requires.0) in
     let ahead = known_kept _ (and_known a.waiting r) c.unopposed-ahead.ensures in
     (search (known_or, and_known), search and_known)
@@ -37,18 +40,18 @@ unopposed-free-requires c =
 pub unopposed-clear-requires : goal.unopposed-clear-requires
 unopposed-clear-requires c =
     let a = c.args in
-    let w : Known a.requested.now c.known_among-w.result =
-    known_writes (facts_by a.rows.now a.writes a.requested.now a.earlier.now)
+    let w : Known a.facts.requested.now c.known_among-w.result =
+    known_writes (facts_lent a.facts)
     (bit_or (bit_or a.waiting a.entitled) a.holding) c.requires.0 c.known_among-w.ensures in
-    let r : Known a.requested.now (without 32 a.known c.known_among-w.result) =
+    let r : Known a.facts.requested.now (without 32 a.known c.known_among-w.result) =
     known_and _ (known_all c.requires.0) in
     (search and_known, search (known_or, and_known))
 
 pub first_in_queue-next-requires : goal.first_in_queue-next-requires
 first_in_queue-next-requires c =
     let a = c.args in
-    let w : Known a.requested.now c.known_among-w.result =
-    known_writes (facts_by a.rows.now a.writes a.requested.now a.earlier.now)
+    let w : Known a.facts.requested.now c.known_among-w.result =
+    known_writes (facts_lent a.facts)
     (bit_or (bit_or a.waiting a.entitled) a.holding) c.requires.0 c.known_among-w.ensures in
     let waiting = without 32 a.waiting (bit_or (without 32 (bit_or a.waiting a.entitled) a.known)
     c.unopposed-free.result) in
@@ -57,30 +60,30 @@ first_in_queue-next-requires c =
 pub unopposed-granted-requires : goal.unopposed-granted-requires
 unopposed-granted-requires c =
     let a = c.args in
-    let w : Known a.requested.now c.known_among-w.result =
-    known_writes (facts_by a.rows.now a.writes a.requested.now a.earlier.now)
+    let w : Known a.facts.requested.now c.known_among-w.result =
+    known_writes (facts_lent a.facts)
     (bit_or (bit_or a.waiting a.entitled) a.holding) c.requires.0 c.known_among-w.ensures in
-    let r : Known a.requested.now (without 32 a.known c.known_among-w.result) =
+    let r : Known a.facts.requested.now (without 32 a.known c.known_among-w.result) =
     known_and _ (known_all c.requires.0) in
     (search and_known, search and_known)
 
 pub unopposed-clear-requires-2 : goal.unopposed-clear-requires-2
 unopposed-clear-requires-2 c =
     let a = c.args in
-    let w : Known a.requested.now c.known_among-w.result =
-    known_writes (facts_by a.rows.now a.writes a.requested.now a.earlier.now)
+    let w : Known a.facts.requested.now c.known_among-w.result =
+    known_writes (facts_lent a.facts)
     (bit_or (bit_or a.waiting a.entitled) a.holding) c.requires.0 c.known_among-w.ensures in
-    let r : Known a.requested.now (without 32 a.known c.known_among-w.result) =
+    let r : Known a.facts.requested.now (without 32 a.known c.known_among-w.result) =
     known_and _ (known_all c.requires.0) in
     (search and_known, search and_known)
 
 pub unopposed-behind-requires : goal.unopposed-behind-requires
 unopposed-behind-requires c =
     let a = c.args in
-    let w : Known a.requested.now c.known_among-w.result =
-    known_writes (facts_by a.rows.now a.writes a.requested.now a.earlier.now)
+    let w : Known a.facts.requested.now c.known_among-w.result =
+    known_writes (facts_lent a.facts)
     (bit_or (bit_or a.waiting a.entitled) a.holding) c.requires.0 c.known_among-w.ensures in
-    let r : Known a.requested.now (without 32 a.known c.known_among-w.result) =
+    let r : Known a.facts.requested.now (without 32 a.known c.known_among-w.result) =
     known_and _ (known_all c.requires.0) in
     (search (known_and, and_known), search and_known)
 
@@ -88,8 +91,8 @@ pub returns : goal.returns
 unfolding settled
 returns c ph given =
     let a = c.args in
-    let f = facts_by a.rows.now a.writes a.requested.now a.earlier.now in
-    let small = c.ranges.writes.fits in
+    let f = facts_lent a.facts in
+    let small : a.facts.terms.writes < 2 ^ max_entries = search rules in
     let table = c.requires.1 in
     let all = c.requires.0 in
     let zero = at_known f small table all given c.known_among-w.ensures in
