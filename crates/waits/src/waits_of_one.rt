@@ -1,27 +1,27 @@
 // The processors that a request waits for directly, using masks of processors and the parts of a board and a state. An
 // entry past the rows conflicts with none. Specification, clause 7.2.
-ghost use Rattle.std.specs.Prelude.{◌≡◌, [], ℕ, ◌<◌, get_or};
+ghost use Rattle.std.specs.Prelude.{◌≡◌, ◌<◌, get_or};
 ghost use Rattle.masks.specs.Sets.{mask_of};
 ghost use Rattle.plans.specs.Entries.{max_processors};
-ghost use Rattle.rules.specs.Requests.{facts_by};
+ghost use Rattle.rules.specs.InPlace.{facts_lent};
 ghost use Rattle.waits.specs.Waits.{waits_in, waits_of};
 ghost use Rattle.waits.specs.inner.Writers.{writers_in};
 
 use masks::{Mask, join_if, row_at};
 use plans::{MAX_ENTRIES, MAX_PROCESSORS};
-use rules::Phases;
+use rules::{LentFacts, Phases};
 use settling::those_in;
 
 // The places of a mask of processors.
 const PLACES: u32 = MAX_PROCESSORS as u32;
 
 // The active processors whose requests are writes.
-pub fn writers_of(writes: u64, requested: &[u8; MAX_PROCESSORS], phases: Phases) -> u32
-    ensures { result ≡ writers_in (facts_by [] writes requested.now []) phases }
+pub fn writers_of(facts: LentFacts<'_>, phases: Phases) -> u32
+    ensures { result ≡ writers_in (facts_lent facts.entry) phases }
 {
     those_in(
-        requested,
-        writes,
+        facts.requested,
+        facts.terms.writes,
         phases.waiting | phases.entitled | phases.holding,
     )
 }
@@ -35,18 +35,9 @@ pub fn row_of(rows: &[u64; MAX_ENTRIES], entry: u8) -> u64
 
 // The direct waits of processor p, given the writers: those that it waits for in each of the four cases, if their
 // requests conflict with its own.
-fn waits_from(
-    rows: &[u64; MAX_ENTRIES],
-    requested: &[u8; MAX_PROCESSORS],
-    earlier: &[u32; MAX_PROCESSORS],
-    phases: Phases,
-    writers: u32,
-    p: u32,
-) -> u32
-    requires { p < max_processors }
-    ensures { (writes : ℕ) → writers ≡ writers_in (facts_by [] writes requested.now []) phases
-        → result ≡ mask_of max_processors (waits_in
-        (facts_by rows.now writes requested.now earlier.now) phases p) }
+fn waits_from(facts: LentFacts<'_>, phases: Phases, writers: u32, p: u32) -> u32
+    requires { (p < max_processors) × (writers ≡ writers_in (facts_lent facts) phases) }
+    ensures { result ≡ mask_of max_processors (waits_in (facts_lent facts.entry) phases p) }
 {
     let waiting = phases.waiting.has(p);
     let entitled = phases.entitled.has(p);
@@ -55,26 +46,20 @@ fn waits_from(
     let first = join_if(0, phases.holding & writers, entitled & read);
     let second = join_if(first, phases.entitled & writers, waiting & read);
     let third = join_if(second, phases.holding & !writers, entitled & write);
-    let others = join_if(third, earlier[p as usize] & writers, waiting & write);
-    those_in(requested, row_of(rows, requested[p as usize]), others)
+    let others = join_if(third, facts.earlier[p as usize] & writers, waiting & write);
+    those_in(
+        facts.requested,
+        row_of(facts.rows, facts.requested[p as usize]),
+        others,
+    )
 }
 
 // The direct waits of processor p, as a mask. A number past the last processor waits for nobody.
-pub fn waits_of(
-    rows: &[u64; MAX_ENTRIES],
-    writes: u64,
-    requested: &[u8; MAX_PROCESSORS],
-    earlier: &[u32; MAX_PROCESSORS],
-    phases: Phases,
-    p: u32,
-) -> u32
-    ensures { result ≡ waits_of
-        (facts_by rows.now writes requested.now earlier.now)
-        phases p }
+pub fn waits_of(facts: LentFacts<'_>, phases: Phases, p: u32) -> u32
+    ensures { result ≡ waits_of (facts_lent facts.entry) phases p }
 {
     if p >= PLACES {
         return 0;
     }
-    let writers = writers_of(writes, requested, phases);
-    waits_from(rows, requested, earlier, phases, writers, p)
+    waits_from(facts, phases, writers_of(facts, phases), p)
 }

@@ -1,16 +1,16 @@
 -- `waits_from` meets its contract: those of the four cases whose entries are in the row of conflicts. Assumes nothing.
 use Prim.Native.Nat.{◌^◌, ◌<◌}
 use borrow.Author.Rules.{rules}
-use Rattle.rules.specs.Requests.{facts_by}
+use Rattle.rules.specs.InPlace.{facts_lent}
 use Rattle.waits.proofs.waits_of_one.Cases.{waits_mask}
 use Rattle.waits.proofs.waits_of_one.waits_from.Goals as goal
 
 pub returns : goal.returns
-returns c writes are =
+returns c =
     let a = c.args in
     let holding-fits : a.phases.holding < 2 ^ 32 = search rules in
-    waits_mask (facts_by a.rows.now writes a.requested.now a.earlier.now) a.phases a.writers a.p are
-    c.requires holding-fits
+    waits_mask (facts_lent a.facts) a.phases a.writers a.p c.requires.1
+    c.requires.0 holding-fits
     c.ranges.writers.fits _ _ _ _ _ _ _
     c.has-waiting.ensures c.has-entitled.ensures c.has-write.ensures
     c.join_if-first.ensures c.join_if-second.ensures c.join_if-third.ensures c.join_if-others.ensures _ _

@@ -12,5 +12,5 @@ pub returns : goal.returns
 returns c =
     let a = c.args in
     c.those_in.ensures
-    ∙ mask_agree max_processors _ _ (λ q l. ap (λ t. t && bit a.writes (get_or a.requested.now q 0))
+    ∙ mask_agree max_processors _ _ (λ q l. ap (λ t. t && bit a.facts.terms.writes (get_or a.facts.requested.now q 0))
     (bit_active a.phases q))
