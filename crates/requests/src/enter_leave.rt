@@ -5,61 +5,64 @@ ghost use Rattle.rules.specs.Requests.{facts_by};
 ghost use Rattle.rules.specs.Settling.{settled};
 ghost use Rattle.rules.specs.Acts.{put_in, taken_out};
 ghost use Rattle.rules.specs.Calls.{done};
-ghost use Rattle.rules.specs.InPlace.{state_by};
+ghost use Rattle.rules.specs.InPlace.{state_by, facts_lent, SameArrays};
 ghost use Rattle.requests.specs.Effect.{effect_as_numbers};
 
 use crate::effects::Effect;
 use crate::grants::accept;
 use crate::placing::{settle_left, settle_new, take_out};
 use crate::stores::{store_entry, store_tick};
-use plans::{MAX_ENTRIES, MAX_PROCESSORS};
-use rules::Phases;
+use plans::MAX_PROCESSORS;
+use rules::{LentArrays, LentBoard, LentFacts, Phases};
 
-// The processor's request for the entry enters, in addition to the requests of these phases. The caller gives who is
-// earlier. The effect is never late.
+// The processor's request for the entry enters, in addition to the requests of these phases. The arrays already say who
+// is earlier. The effect is never late.
 pub fn enter(
-    rows: &[u64; MAX_ENTRIES],
-    writes: u64,
-    requested: &mut [u8; MAX_PROCESSORS],
-    since: &mut [u64; MAX_PROCESSORS],
-    earlier: &[u32; MAX_PROCESSORS],
+    board: LentBoard<'_>,
+    arrays: &mut LentArrays<'_>,
     phases: Phases,
     processor: u8,
     entry: u8,
     tick: u64,
 ) -> Effect
-    ensures { effect_as_numbers result tick requested.new since.new earlier.now
+    ensures same { SameArrays arrays.old arrays.new }
+    ensures effect { effect_as_numbers result tick arrays.new.requested.now arrays.new.since.now arrays.new.earlier.now
         ≡ done (state_by (record { last = tick; phases = put_in phases processor })
-        (set requested.old processor entry) (set since.old processor tick) earlier.now)
+        (set arrays.old.requested.now processor entry) (set arrays.old.since.now processor tick)
+        arrays.old.earlier.now)
         (settled
-        (facts_by rows.now writes (set requested.old processor entry) earlier.now)
+        (facts_by board.entry.rows.now board.entry.terms.writes (set arrays.old.requested.now processor entry)
+        arrays.old.earlier.now)
         (put_in phases processor)) 0 }
 {
-    store_entry(requested, processor, entry);
-    store_tick(since, processor, tick);
-    let after = settle_new(rows, writes, requested, earlier, phases, processor);
-    accept(tick, phases, after, since, 0)
+    store_entry(arrays.requested, processor, entry);
+    store_tick(arrays.since, processor, tick);
+    let facts = LentFacts {
+        terms: board.terms,
+        rows: board.rows,
+        requested: arrays.requested,
+        earlier: arrays.earlier,
+    };
+    let after = settle_new(facts, phases, processor);
+    accept(tick, phases, after, arrays.since, 0)
 }
 
-// The processor's request leaves the requests of these phases, and the others are settled.
+// The processor's request leaves the requests of these phases, and the others are settled. Of the arrays it changes
+// only the ticks, so the other two are lent with the facts.
 pub fn leave(
-    rows: &[u64; MAX_ENTRIES],
-    writes: u64,
-    requested: &[u8; MAX_PROCESSORS],
+    facts: LentFacts<'_>,
     since: &mut [u64; MAX_PROCESSORS],
-    earlier: &[u32; MAX_PROCESSORS],
     phases: Phases,
     processor: u8,
     tick: u64,
     late: u8,
 ) -> Effect
-    ensures { effect_as_numbers result tick requested.now since.new earlier.now
-        ≡ done (state_by (record { last = tick; phases = taken_out phases processor }) requested.now
-        since.old earlier.now)
-        (settled (facts_by rows.now writes requested.now earlier.now)
-        (taken_out phases processor)) late }
+    ensures { effect_as_numbers result tick facts.entry.requested.now since.new facts.entry.earlier.now
+        ≡ done (state_by (record { last = tick; phases = taken_out phases processor }) facts.entry.requested.now
+        since.old facts.entry.earlier.now)
+        (settled (facts_lent facts.entry) (taken_out phases processor)) late }
 {
     let ready = take_out(phases, processor);
-    let after = settle_left(rows, writes, requested, earlier, ready);
+    let after = settle_left(facts, ready);
     accept(tick, ready, after, since, late)
 }

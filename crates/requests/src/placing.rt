@@ -1,14 +1,14 @@
 // The phases after a request enters or leaves, and after all requests are settled. A processor that a state has no
 // place for changes nothing. Specification, clauses 4.4 and 5.2.
 ghost use Rattle.std.specs.Prelude.{◌≡◌};
-ghost use Rattle.rules.specs.Requests.{facts_by};
+ghost use Rattle.rules.specs.InPlace.{facts_lent};
 ghost use Rattle.rules.specs.Settling.{settled};
 ghost use Rattle.rules.specs.Acts.{put_in, taken_out};
 
 use crate::ages::all_but;
 use masks::Mask;
-use plans::{MAX_ENTRIES, MAX_PROCESSORS};
-use rules::Phases;
+use plans::MAX_PROCESSORS;
+use rules::{LentFacts, Phases};
 use settling::{ALL, settle};
 
 // The phases after the processor's new request enters. It waits.
@@ -24,22 +24,13 @@ fn put_in(phases: Phases, processor: u8) -> Phases
 
 // The phases after the processor's new request enters and all are settled. If nobody else is active and nobody is
 // earlier, it holds, read or write, and no row is read.
-pub fn settle_new(
-    rows: &[u64; MAX_ENTRIES],
-    writes: u64,
-    requested: &[u8; MAX_PROCESSORS],
-    earlier: &[u32; MAX_PROCESSORS],
-    phases: Phases,
-    processor: u8,
-) -> Phases
-    ensures { result ≡ settled
-        (facts_by rows.now writes requested.now earlier.now)
-        (put_in phases processor) }
+pub fn settle_new(facts: LentFacts<'_>, phases: Phases, processor: u8) -> Phases
+    ensures { result ≡ settled (facts_lent facts.entry) (put_in phases processor) }
 {
     if ((processor as usize) < MAX_PROCESSORS)
         & (phases.waiting | phases.entitled | phases.holding == 0)
     {
-        if earlier[processor as usize] == 0 {
+        if facts.earlier[processor as usize] == 0 {
             return Phases {
                 waiting: 0,
                 entitled: 0,
@@ -47,7 +38,7 @@ pub fn settle_new(
             };
         }
     }
-    settle(rows, writes, requested, earlier, put_in(phases, processor))
+    settle(facts, put_in(phases, processor))
 }
 
 // The phases after the processor's request leaves.
@@ -64,16 +55,8 @@ pub fn take_out(phases: Phases, processor: u8) -> Phases
 
 // The phases of the requests that are left, settled. If nobody waits or is entitled there is nothing to settle. A new
 // request always waits, so only this function needs the test.
-pub fn settle_left(
-    rows: &[u64; MAX_ENTRIES],
-    writes: u64,
-    requested: &[u8; MAX_PROCESSORS],
-    earlier: &[u32; MAX_PROCESSORS],
-    phases: Phases,
-) -> Phases
-    ensures { result ≡ settled
-        (facts_by rows.now writes requested.now earlier.now)
-        phases }
+pub fn settle_left(facts: LentFacts<'_>, phases: Phases) -> Phases
+    ensures { result ≡ settled (facts_lent facts.entry) phases }
 {
     if (phases.waiting & ALL) | (phases.entitled & ALL) == 0 {
         return Phases {
@@ -82,5 +65,5 @@ pub fn settle_left(
             holding: phases.holding & ALL,
         };
     }
-    settle(rows, writes, requested, earlier, phases)
+    settle(facts, phases)
 }

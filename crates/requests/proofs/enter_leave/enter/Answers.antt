@@ -3,12 +3,9 @@ use lib.ListN.{set}
 use Rattle.requests.proofs.enter_leave.Done.{entered_done}
 use Rattle.requests.proofs.enter_leave.enter.Goals as goal
 
-pub returns : goal.returns
-returns c =
-    let put = c in
-    let ticks = put in
-    let stored = ticks in
-    let a = stored.args in
-    entered_done a.rows.now a.writes a.tick a.processor a.phases a.earlier.now
-    (set a.requested.now a.processor a.entry) (set a.since.now a.processor a.tick)
-    stored.store_entry.ensures ticks.store_tick.ensures put.settle_new-after.ensures (c.accept.ensures _ _)
+pub returns-clause-effect : goal.returns-clause-effect
+returns-clause-effect c =
+    let a = c.args in
+    entered_done a.board.rows.now a.board.terms.writes a.tick a.processor a.phases a.arrays.now.earlier.now
+    (set a.arrays.now.requested.now a.processor a.entry) (set a.arrays.now.since.now a.processor a.tick)
+    c.store_entry.ensures c.store_tick.ensures c.settle_new-after.ensures (c.accept.ensures _ _)
