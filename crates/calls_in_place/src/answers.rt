@@ -7,7 +7,7 @@ ghost use Rattle.rules.specs.InPlace.{state_by, answer_by};
 
 use refusals::Refusal;
 use requests::Effect;
-use rules::{Done, Changed, Moment, Reply};
+use rules::{Changed, Done, Moment, Reply};
 
 pub fn accepted(carried: Effect, tick: u64) -> Changed
     ensures { (requested : List ℕ) (since : List ℕ) (earlier : List ℕ)

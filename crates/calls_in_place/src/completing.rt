@@ -3,20 +3,18 @@
 // clauses 4.4 to 4.10.
 ghost use Rattle.std.specs.Prelude.{◌≡◌};
 ghost use Rattle.rules.specs.Calls.{completed};
-ghost use Rattle.rules.specs.InPlace.{board_by, state_by, answer_by};
+ghost use Rattle.rules.specs.InPlace.{board_lent, state_by, answer_by};
 
 use crate::answers::{accepted, refused};
 use call_checks::check_complete;
-use plans::{MAX_ENTRIES, MAX_PROCESSORS};
+use plans::MAX_PROCESSORS;
 use requests::{late_mark, leave, length_at};
-use rules::{Changed, Moment, Terms};
+use rules::{Changed, LentBoard, LentFacts, Moment};
 use settling::clean;
 
 // The processor completes its request at a tick. Refused with 10, 11, 14 or 15, checked in this order.
 pub fn complete_in_place(
-    terms: Terms,
-    rows: &[u64; MAX_ENTRIES],
-    lengths: &[u16; MAX_ENTRIES],
+    board: LentBoard<'_>,
     moment: Moment,
     requested: &[u8; MAX_PROCESSORS],
     since: &mut [u64; MAX_PROCESSORS],
@@ -25,23 +23,23 @@ pub fn complete_in_place(
     tick: u64,
 ) -> Changed
     ensures { answer_by result requested.now since.new earlier.now
-        ≡ completed (board_by terms rows.now lengths.now)
+        ≡ completed (board_lent board.entry)
         (state_by moment requested.now since.old earlier.now) processor tick }
 {
+    let terms = board.terms;
     let given = moment.phases;
     let before = clean(terms, *requested, given);
-    let verdict = check_complete(terms, moment.last, before, processor, tick);
-    match verdict {
-        Ok(()) => {}
-        Err(refusal) => {
-            return refused(refusal, moment);
-        }
+    if let Err(refusal) = check_complete(terms, moment.last, before, processor, tick) {
+        return refused(refusal, moment);
     }
+    let lengths = board.lengths;
     let length = length_at(lengths, requested[processor as usize]);
     let late = late_mark(length, since[processor as usize], tick);
-    let writes = terms.writes;
-    let carried = leave(
-        rows, writes, requested, since, earlier, before, processor, tick, late,
-    );
-    accepted(carried, tick)
+    let facts = LentFacts {
+        terms: terms,
+        rows: board.rows,
+        requested: requested,
+        earlier: earlier,
+    };
+    accepted(leave(facts, since, before, processor, tick, late), tick)
 }

@@ -2,54 +2,48 @@
 // clauses 4.4 to 4.8.
 ghost use Rattle.std.specs.Prelude.{◌≡◌};
 ghost use Rattle.rules.specs.Calls.{handed_over};
-ghost use Rattle.rules.specs.InPlace.{board_by, state_by, answer_by};
+ghost use Rattle.rules.specs.InPlace.{board_lent, state_lent, answer_lent, SameArrays};
 
 use crate::answers::{accepted, refused};
 use call_checks::check_handover;
-use plans::{MAX_ENTRIES, MAX_PROCESSORS};
 use requests::{enter, late_mark, leave, length_at, merge, put_last};
-use rules::{Changed, Moment, Terms};
+use rules::{Changed, LentArrays, LentBoard, LentFacts, Moment};
 use settling::clean;
 
 // The processor completes its request and issues one for an entry, at one tick. Refused with 10, 11, 12, 14 or 15,
 // checked in this order. The halves need no checks of their own: an issue right after its processor's completion is
 // never refused.
 pub fn handover_in_place(
-    terms: Terms,
-    rows: &[u64; MAX_ENTRIES],
-    lengths: &[u16; MAX_ENTRIES],
+    board: LentBoard<'_>,
     moment: Moment,
-    requested: &mut [u8; MAX_PROCESSORS],
-    since: &mut [u64; MAX_PROCESSORS],
-    earlier: &mut [u32; MAX_PROCESSORS],
+    arrays: &mut LentArrays<'_>,
     processor: u8,
     entry: u8,
     tick: u64,
 ) -> Changed
-    ensures { answer_by result requested.new since.new earlier.new
-        ≡ handed_over (board_by terms rows.now lengths.now)
-        (state_by moment requested.old since.old earlier.old) processor entry tick }
+    ensures same { SameArrays arrays.old arrays.new }
+    ensures answer { answer_lent result arrays.new
+        ≡ handed_over (board_lent board.entry) (state_lent moment arrays.old) processor entry tick }
 {
+    let terms = board.terms;
     let given = moment.phases;
-    let before = clean(terms, *requested, given);
-    let verdict = check_handover(terms, moment.last, before, processor, entry, tick);
-    match verdict {
-        Ok(()) => {}
-        Err(refusal) => {
-            return refused(refusal, moment);
-        }
+    let before = clean(terms, *arrays.requested, given);
+    if let Err(refusal) = check_handover(terms, moment.last, before, processor, entry, tick) {
+        return refused(refusal, moment);
     }
-    let length = length_at(lengths, requested[processor as usize]);
-    let late = late_mark(length, since[processor as usize], tick);
-    let writes = terms.writes;
-    let first = leave(
-        rows, writes, requested, since, earlier, before, processor, tick, late,
-    );
+    let lengths = board.lengths;
+    let length = length_at(lengths, arrays.requested[processor as usize]);
+    let late = late_mark(length, arrays.since[processor as usize], tick);
+    let facts = LentFacts {
+        terms: terms,
+        rows: board.rows,
+        requested: arrays.requested,
+        earlier: arrays.earlier,
+    };
+    let first = leave(facts, arrays.since, before, processor, tick, late);
     let left = first.phases;
-    let ready = clean(terms, *requested, left);
-    put_last(earlier, ready, processor);
-    let second = enter(
-        rows, writes, requested, since, earlier, ready, processor, entry, tick,
-    );
+    let ready = clean(terms, *arrays.requested, left);
+    put_last(arrays.earlier, ready, processor);
+    let second = enter(board, arrays, ready, processor, entry, tick);
     accepted(merge(first, second), tick)
 }

@@ -3,45 +3,33 @@
 // clauses 4.4 to 4.10.
 ghost use Rattle.std.specs.Prelude.{◌≡◌};
 ghost use Rattle.rules.specs.Calls.{issued};
-ghost use Rattle.rules.specs.InPlace.{board_by, state_by, answer_by};
+ghost use Rattle.rules.specs.InPlace.{board_lent, state_lent, answer_lent, SameArrays};
 
 use crate::answers::{accepted, refused};
 use call_checks::check_issue;
-use plans::{MAX_ENTRIES, MAX_PROCESSORS};
 use requests::{enter, put_last};
-use rules::{Changed, Moment, Terms};
+use rules::{Changed, LentArrays, LentBoard, Moment};
 use settling::clean;
 
 // The processor issues a request for an entry at a tick. Refused with 10, 11, 12 or 13, checked in this order.
 pub fn issue_in_place(
-    terms: Terms,
-    rows: &[u64; MAX_ENTRIES],
-    lengths: &[u16; MAX_ENTRIES],
+    board: LentBoard<'_>,
     moment: Moment,
-    requested: &mut [u8; MAX_PROCESSORS],
-    since: &mut [u64; MAX_PROCESSORS],
-    earlier: &mut [u32; MAX_PROCESSORS],
+    arrays: &mut LentArrays<'_>,
     processor: u8,
     entry: u8,
     tick: u64,
 ) -> Changed
-    ensures { answer_by result requested.new since.new earlier.new
-        ≡ issued (board_by terms rows.now lengths.now)
-        (state_by moment requested.old since.old earlier.old) processor entry tick }
+    ensures same { SameArrays arrays.old arrays.new }
+    ensures answer { answer_lent result arrays.new
+        ≡ issued (board_lent board.entry) (state_lent moment arrays.old) processor entry tick }
 {
+    let terms = board.terms;
     let given = moment.phases;
-    let before = clean(terms, *requested, given);
-    let verdict = check_issue(terms, moment.last, before, processor, entry, tick);
-    match verdict {
-        Ok(()) => {}
-        Err(refusal) => {
-            return refused(refusal, moment);
-        }
+    let before = clean(terms, *arrays.requested, given);
+    if let Err(refusal) = check_issue(terms, moment.last, before, processor, entry, tick) {
+        return refused(refusal, moment);
     }
-    put_last(earlier, before, processor);
-    let writes = terms.writes;
-    let carried = enter(
-        rows, writes, requested, since, earlier, before, processor, entry, tick,
-    );
-    accepted(carried, tick)
+    put_last(arrays.earlier, before, processor);
+    accepted(enter(board, arrays, before, processor, entry, tick), tick)
 }

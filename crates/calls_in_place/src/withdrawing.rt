@@ -3,21 +3,19 @@
 // clauses 4.4 to 4.10.
 ghost use Rattle.std.specs.Prelude.{◌≡◌};
 ghost use Rattle.rules.specs.Calls.{withdrawn};
-ghost use Rattle.rules.specs.InPlace.{board_by, state_by, answer_by};
+ghost use Rattle.rules.specs.InPlace.{board_lent, state_by, answer_by};
 
 use crate::answers::{accepted, refused};
 use call_checks::check_withdraw;
-use plans::{MAX_ENTRIES, MAX_PROCESSORS};
+use plans::MAX_PROCESSORS;
 use requests::leave;
-use rules::{Changed, Moment, Terms};
+use rules::{Changed, LentBoard, LentFacts, Moment};
 use settling::clean;
 
 // The processor leaves the queue at a tick; its request must not hold. Refused with 10, 11, 14 or 17, checked in this
 // order.
 pub fn withdraw_in_place(
-    terms: Terms,
-    rows: &[u64; MAX_ENTRIES],
-    lengths: &[u16; MAX_ENTRIES],
+    board: LentBoard<'_>,
     moment: Moment,
     requested: &[u8; MAX_PROCESSORS],
     since: &mut [u64; MAX_PROCESSORS],
@@ -26,21 +24,20 @@ pub fn withdraw_in_place(
     tick: u64,
 ) -> Changed
     ensures { answer_by result requested.now since.new earlier.now
-        ≡ withdrawn (board_by terms rows.now lengths.now)
+        ≡ withdrawn (board_lent board.entry)
         (state_by moment requested.now since.old earlier.now) processor tick }
 {
+    let terms = board.terms;
     let given = moment.phases;
     let before = clean(terms, *requested, given);
-    let verdict = check_withdraw(terms, moment.last, before, processor, tick);
-    match verdict {
-        Ok(()) => {}
-        Err(refusal) => {
-            return refused(refusal, moment);
-        }
+    if let Err(refusal) = check_withdraw(terms, moment.last, before, processor, tick) {
+        return refused(refusal, moment);
     }
-    let writes = terms.writes;
-    let carried = leave(
-        rows, writes, requested, since, earlier, before, processor, tick, 0,
-    );
-    accepted(carried, tick)
+    let facts = LentFacts {
+        terms: terms,
+        rows: board.rows,
+        requested: requested,
+        earlier: earlier,
+    };
+    accepted(leave(facts, since, before, processor, tick, 0), tick)
 }

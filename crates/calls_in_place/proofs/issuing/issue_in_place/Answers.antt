@@ -3,20 +3,14 @@ use mathlib.Core.Path.{◌∙◌}
 use Rattle.calls_in_place.proofs.Verdicts.{issue_refused, issue_done}
 use Rattle.calls_in_place.proofs.issuing.issue_in_place.Goals as goal
 
-pub returns-in-Err : goal.returns-in-Err
-returns-in-Err c =
-    let found = c in
+pub returns-in-Err-clause-answer : goal.returns-in-Err-clause-answer
+returns-in-Err-clause-answer c =
     c.refused.ensures _ _ _
-    ∙ issue_refused _ _ _ found.clean-before.ensures _ _ _ _ found.check_issue-verdict.ensures _
-    c.in-Err.is
+    ∙ issue_refused _ _ _ c.clean-before.ensures _ _ _ _ c.check_issue.ensures _ c.in-Err.is
 
-pub returns : goal.returns
-returns c =
-    let entered = c in
-    let put = entered in
-    let told = put in
-    let found = told in
+pub returns-clause-answer : goal.returns-clause-answer
+returns-clause-answer c =
     c.accepted.ensures _ _ _
-    ∙ issue_done _ _ _ found.clean-before.ensures _ _ _ _ found.check_issue-verdict.ensures
-    told.in-Ok.is _ _
-    put.put_last.ensures entered.enter-carried.ensures
+    ∙ issue_done _ _ _ c.clean-before.ensures _ _ _ _ c.check_issue.ensures
+    c.in_default.is _ _
+    c.put_last.ensures c.enter.ensures.effect
