@@ -9,5 +9,5 @@ mod mask_fields;
 mod number_fields;
 
 pub use call_leads::{Lead, put_lead};
-pub use mask_fields::put_masks;
+pub use mask_fields::{MaskFormat, put_masks};
 pub use number_fields::{put_labelled, put_line_end};

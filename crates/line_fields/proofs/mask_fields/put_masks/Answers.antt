@@ -20,7 +20,7 @@ write_mask-requires c =
     let a = asked.args in
     omega (
       arith,
-      mask_place a.pairs.now (mask_size_for a.processors) _
+      mask_place a.format.pairs.now (mask_size_for a.format.processors) _
           c.write_mask-next.ensures,
       asked.mask_size.ensures,
       asked.has_room.ensures.room
@@ -32,20 +32,20 @@ returns-then-has_room c =
     let asked = c in
     let a = asked.args in
     let both =
-    field_placed (mask_fields a.pairs.now (mask_size_for a.processors) a.granted a.entitled) _ _ _
-    (whole-size a.pairs.now (mask_size_for a.processors) a.granted a.entitled _
+    field_placed (mask_fields a.format.pairs.now (mask_size_for a.format.processors) a.granted a.entitled) _ _ _
+    (whole-size a.format.pairs.now (mask_size_for a.format.processors) a.granted a.entitled _
     asked.mask_size.ensures) _ asked.has_room.ensures.is
     c.if-has_room.true
     (then_stored c.write_mask-next.ensures
     c.write_mask.ensures) in
-    record { size = both.0; bytes = both.1; most = omega (arith, asked.mask_size.ensures, most_bytes a.processors) }
+    record { size = both.0; bytes = both.1; most = omega (arith, asked.mask_size.ensures, most_bytes a.format.processors) }
 
 pub returns-else-has_room : goal.returns-else-has_room
 returns-else-has_room c =
     let asked = c in
     let a = asked.args in
     let none =
-    field_not_placed (mask_fields a.pairs.now (mask_size_for a.processors) a.granted a.entitled) _ _ _
-    (whole-size a.pairs.now (mask_size_for a.processors) a.granted a.entitled _
+    field_not_placed (mask_fields a.format.pairs.now (mask_size_for a.format.processors) a.granted a.entitled) _ _ _
+    (whole-size a.format.pairs.now (mask_size_for a.format.processors) a.granted a.entitled _
     asked.mask_size.ensures) _ asked.has_room.ensures.is c.if-has_room.false in
     record { size = none.0; bytes = none.1; most = omega arith }

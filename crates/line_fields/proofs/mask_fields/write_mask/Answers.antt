@@ -12,9 +12,9 @@ write_half-requires-else-size-eq2 c =
     let half = c in
     let sized = half in
     let a = sized.args in
-    let four : mask_size_for a.processors ≡ 4 = else_four a.processors
+    let four : mask_size_for a.format.processors ≡ 4 = else_four a.format.processors
     (λ e. omega (arith, sized.mask_size-size.ensures)) in
-    omega (arith, half_place a.pairs.now _ half.write_half-next.ensures, length-set a.buffer.now a.at 32)
+    omega (arith, half_place a.format.pairs.now _ half.write_half-next.ensures, length-set a.buffer.now a.at 32)
 
 pub returns-else-size-eq2 : goal.returns-else-size-eq2
 returns-else-size-eq2 c =
@@ -22,6 +22,6 @@ returns-else-size-eq2 c =
     let high = low in
     let sized = high in
     let a = sized.args in
-    let four : mask_size_for a.processors ≡ 4 = else_four a.processors
+    let four : mask_size_for a.format.processors ≡ 4 = else_four a.format.processors
     (λ e. omega (arith, sized.mask_size-size.ensures)) in
-    wide_stored a.pairs.now _ _ a.mask _ four high.write_half-next.ensures low.write_half-else-size-eq2.ensures
+    wide_stored a.format.pairs.now _ _ a.mask _ four high.write_half-next.ensures low.write_half-else-size-eq2.ensures
