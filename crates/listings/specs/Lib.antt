@@ -1,2 +1,3 @@
 pub mod Lines
 pub mod PlainLines
+pub mod FirstNumbers

@@ -4,9 +4,11 @@ use Rattle.plans.specs.declared.Plan.{Plan}
 use Rattle.plans.specs.Entries.{mask_size_for}
 use Rattle.plans.specs.Figures.{read_figure, write_figure}
 use Rattle.rules.specs.declared.calls.Call.{Call}
+use Rattle.rules.specs.declared.calls.Done.{Done}
 use Rattle.rules.specs.CallNumbers.{call_as_numbers}
 use Rattle.rules.specs.Replies.{Response}
 use Rattle.digits.specs.Digits.{hex_mask, mask_by}
+use Rattle.line_fields.specs.declared.mask_fields.MaskFormat.{MaskFormat}
 use Rattle.listings.specs.PlainLines.{numbers_line, done_fields, refused_fields, fields_line}
 
 -- Clause 9.6: the first line contains the plan's counts and its two figures.
@@ -18,6 +20,11 @@ abbrev pub reply_fields : (ℕ → List ℕ) → Response → List (List ℕ)
 reply_fields mask reply =
     cond (eqb reply.number 0) (done_fields mask reply.granted reply.entitled reply.late)
     (refused_fields reply.number)
+
+-- The fields of an accepted call, as a format writes its masks.
+abbrev pub done_by : MaskFormat → Done → List (List ℕ)
+done_by format done =
+    done_fields (mask_by format.pairs.now (mask_size_for format.processors)) done.granted done.entitled done.late
 
 -- Clause 9.7: the letter of a call, `i`, `c`, `w` or `h`.
 abbrev pub letter_of : Call → ℕ

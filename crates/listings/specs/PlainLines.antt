@@ -4,6 +4,7 @@ use Rattle.std.specs.Prelude.{ℕ, List, [], ◌∷◌, ◌++◌, length}
 use Rattle.refusals.specs.Due.{AsNumbers, as_numbers}
 use Rattle.encoding.specs.Buffers.{room_fault, buffer_after}
 use Rattle.digits.specs.Digits.{decimal}
+use Rattle.line_fields.specs.declared.call_leads.Lead.{Lead}
 
 -- Clauses 9.6 to 9.8: the words `processors`, `resources`, `entries`, `read`, `write`, `refused`.
 abbrev pub processors_word : List ℕ
@@ -62,6 +63,10 @@ refused_fields number = refused_word ∷ decimal number ∷ []
 -- Clause 9.7: a call's line: its tick, its letter, its processor, and the fields after it.
 abbrev pub fields_line : ℕ → ℕ → ℕ → List (List ℕ) → List ℕ
 fields_line letter processor tick fields = line (decimal tick) ((letter ∷ []) ∷ decimal processor ∷ fields)
+
+-- The same with the lead of a call.
+abbrev pub led_line : Lead → List (List ℕ) → List ℕ
+led_line lead fields = fields_line lead.letter lead.processor lead.tick fields
 
 -- Clauses 9.9 and 2.12: a line is written into a lent buffer from a position on. 16 if there is no room for it.
 abbrev pub line_fault : List ℕ → ℕ → ℕ → ℕ

@@ -15,17 +15,17 @@ returns-then-led-eq0 c =
     let led = c in
     let a = led.args in
     let both =
-    no_line (call_lead a.letter a.processor a.tick)
-    (done_tail a.pairs.now (mask_size_for a.processors) a.granted a.entitled a.late) a.buffer.now
-    a.at _ _ (some_lead a.letter a.processor a.tick)
-    (done_tail_length a.pairs.now (mask_size_for a.processors) _ a.granted a.entitled a.late _
+    no_line (call_lead a.lead.letter a.lead.processor a.lead.tick)
+    (done_tail a.format.pairs.now (mask_size_for a.format.processors) a.done.granted a.done.entitled a.done.late) a.buffer.now
+    a.at _ _ (some_lead a.lead.letter a.lead.processor a.lead.tick)
+    (done_tail_length a.format.pairs.now (mask_size_for a.format.processors) _ a.done.granted a.done.entitled a.done.late _
     led.mask_size.ensures led.byte_digits.ensures.is)
     led.put_lead-led.ensures.size c.if-led-eq0.true _ led.put_lead-led.ensures.bytes in
     record {
-      outcome = rw (done_parts a.letter a.processor a.tick a.pairs.now (mask_size_for a.processors) a.granted
-          a.entitled a.late) both.0;
-      bytes = rw (done_parts a.letter a.processor a.tick a.pairs.now (mask_size_for a.processors) a.granted
-          a.entitled a.late) both.1;
+      outcome = rw (done_parts a.lead.letter a.lead.processor a.lead.tick a.format.pairs.now (mask_size_for a.format.processors) a.done.granted
+          a.done.entitled a.done.late) both.0;
+      bytes = rw (done_parts a.lead.letter a.lead.processor a.lead.tick a.format.pairs.now (mask_size_for a.format.processors) a.done.granted
+          a.done.entitled a.done.late) both.1;
     }
 
 pub returns : goal.returns
@@ -33,30 +33,30 @@ returns c =
     let led = c in
     let a = led.args in
     let masks = c in
-    let rest = rest_fits (call_lead a.letter a.processor a.tick)
-    (done_tail a.pairs.now (mask_size_for a.processors) a.granted a.entitled a.late) a.buffer.now
-    a.at _ _ (some_lead a.letter a.processor a.tick)
-    (done_tail_length a.pairs.now (mask_size_for a.processors) _ a.granted a.entitled a.late _
+    let rest = rest_fits (call_lead a.lead.letter a.lead.processor a.lead.tick)
+    (done_tail a.format.pairs.now (mask_size_for a.format.processors) a.done.granted a.done.entitled a.done.late) a.buffer.now
+    a.at _ _ (some_lead a.lead.letter a.lead.processor a.lead.tick)
+    (done_tail_length a.format.pairs.now (mask_size_for a.format.processors) _ a.done.granted a.done.entitled a.done.late _
     led.mask_size.ensures led.byte_digits.ensures.is)
     led.put_lead-led.ensures.size
     c.if-led-eq0.false _
     led.put_lead-led.ensures.bytes in
     let both =
-    whole_line (call_lead a.letter a.processor a.tick)
-    (done_tail a.pairs.now (mask_size_for a.processors) a.granted a.entitled a.late) a.buffer.now
-    a.at _ _ (some_lead a.letter a.processor a.tick)
-    (done_tail_length a.pairs.now (mask_size_for a.processors) _ a.granted a.entitled a.late _
+    whole_line (call_lead a.lead.letter a.lead.processor a.lead.tick)
+    (done_tail a.format.pairs.now (mask_size_for a.format.processors) a.done.granted a.done.entitled a.done.late) a.buffer.now
+    a.at _ _ (some_lead a.lead.letter a.lead.processor a.lead.tick)
+    (done_tail_length a.format.pairs.now (mask_size_for a.format.processors) _ a.done.granted a.done.entitled a.done.late _
     led.mask_size.ensures led.byte_digits.ensures.is)
     led.put_lead-led.ensures.size
     c.if-led-eq0.false _
     led.put_lead-led.ensures.bytes _ _
-    (fields_stored (mask_fields a.pairs.now (mask_size_for a.processors) a.granted a.entitled)
-    (last_field (32 ∷ []) a.late) _ _
+    (fields_stored (mask_fields a.format.pairs.now (mask_size_for a.format.processors) a.done.granted a.done.entitled)
+    (last_field (32 ∷ []) a.done.late) _ _
     rest masks.put_masks.ensures.size masks.put_masks.ensures.bytes c.put_line_end.ensures.size
     c.put_line_end.ensures.bytes) in
     record {
-      outcome = rw (done_parts a.letter a.processor a.tick a.pairs.now (mask_size_for a.processors) a.granted
-          a.entitled a.late) both.0;
-      bytes = rw (done_parts a.letter a.processor a.tick a.pairs.now (mask_size_for a.processors) a.granted
-          a.entitled a.late) both.1;
+      outcome = rw (done_parts a.lead.letter a.lead.processor a.lead.tick a.format.pairs.now (mask_size_for a.format.processors) a.done.granted
+          a.done.entitled a.done.late) both.0;
+      bytes = rw (done_parts a.lead.letter a.lead.processor a.lead.tick a.format.pairs.now (mask_size_for a.format.processors) a.done.granted
+          a.done.entitled a.done.late) both.1;
     }

@@ -9,8 +9,8 @@ pub returns-then-has_room : goal.returns-then-has_room
 returns-then-has_room c =
     let asked = c in
     let a = asked.args in
-    let both = room (numbers_line a.processors a.resources a.count a.read a.write) a.buffer.now a.at _ _
-    (first_size_is a.processors a.resources a.count a.read a.write _
+    let both = room (numbers_line a.numbers.processors a.numbers.resources a.numbers.count a.numbers.read a.numbers.write) a.buffer.now a.at _ _
+    (first_size_is a.numbers.processors a.numbers.resources a.numbers.count a.numbers.read a.numbers.write _
     asked.first_size-needed.ensures.is)
     asked.has_room.ensures.is _ _ c.if-has_room.true
     (record { place = refl; stores = c.write_first.ensures }) in
@@ -19,8 +19,8 @@ returns-then-has_room c =
 pub returns-else-has_room : goal.returns-else-has_room
 returns-else-has_room c =
     let a = c.args in
-    let both = no_room (numbers_line a.processors a.resources a.count a.read a.write) a.buffer.now a.at _ _
-    (first_size_is a.processors a.resources a.count a.read a.write _
+    let both = no_room (numbers_line a.numbers.processors a.numbers.resources a.numbers.count a.numbers.read a.numbers.write) a.buffer.now a.at _ _
+    (first_size_is a.numbers.processors a.numbers.resources a.numbers.count a.numbers.read a.numbers.write _
     c.first_size-needed.ensures.is)
     c.has_room.ensures.is c.if-has_room.false in
     record { outcome = both.0; bytes = both.1 }

@@ -10,12 +10,12 @@ returns c =
     c.args in
     let first = c in
     let second = c in
-    rw (figures_parts a.count a.read a.write)
-    (three_stored (entries_field a.count) (read_field a.read) (write_field a.write) a.buffer.now a.at
+    rw (figures_parts a.numbers.count a.numbers.read a.numbers.write)
+    (three_stored (entries_field a.numbers.count) (read_field a.numbers.read) (write_field a.numbers.write) a.buffer.now a.at
     (omega (
       arith,
-      figures_length a.count a.read
-          a.write,
+      figures_length a.numbers.count a.numbers.read
+          a.numbers.write,
       c.requires,
     )) first.put_labelled.ensures.size first.put_labelled.ensures.bytes second.put_labelled-2.ensures.size
     second.put_labelled-2.ensures.bytes

@@ -11,13 +11,13 @@ returns c =
     c.args in
     let first = c in
     let second = c in
-    rw (first_parts a.processors a.resources a.count a.read a.write)
-    (then_third (processors_field a.processors) (resources_field a.resources)
-    (figures_part a.count a.read a.write) a.buffer.now a.at
+    rw (first_parts a.numbers.processors a.numbers.resources a.numbers.count a.numbers.read a.numbers.write)
+    (then_third (processors_field a.numbers.processors) (resources_field a.numbers.resources)
+    (figures_part a.numbers.count a.numbers.read a.numbers.write) a.buffer.now a.at
     (omega (
       arith,
-      first_length a.processors a.resources a.count a.read
-          a.write,
+      first_length a.numbers.processors a.numbers.resources a.numbers.count a.numbers.read
+          a.numbers.write,
       c.requires,
     )) first.put_labelled.ensures.size first.put_labelled.ensures.bytes second.put_labelled-2.ensures.size
     second.put_labelled-2.ensures.bytes

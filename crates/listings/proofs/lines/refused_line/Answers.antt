@@ -10,31 +10,31 @@ returns-then-led-eq0 c =
     let led = c in
     let a = led.args in
     let both =
-    no_line (call_lead a.letter a.processor a.tick) (refused_tail a.number) a.buffer.now a.at _ _
-    (some_lead a.letter a.processor a.tick)
-    (refused_tail_length a.number _ led.byte_digits-more.ensures.is) led.put_lead-led.ensures.size
+    no_line (call_lead a.lead.letter a.lead.processor a.lead.tick) (refused_tail c.from-number.result) a.buffer.now a.at _ _
+    (some_lead a.lead.letter a.lead.processor a.lead.tick)
+    (refused_tail_length c.from-number.result _ led.byte_digits-more.ensures.is) led.put_lead-led.ensures.size
     c.if-led-eq0.true _ led.put_lead-led.ensures.bytes in
     record {
-      outcome = rw (refused_parts a.letter a.processor a.tick a.number) both.0;
-      bytes = rw (refused_parts a.letter a.processor a.tick a.number) both.1;
+      outcome = rw (← c.from-number.ensures, refused_parts a.lead.letter a.lead.processor a.lead.tick c.from-number.result) both.0;
+      bytes = rw (← c.from-number.ensures, refused_parts a.lead.letter a.lead.processor a.lead.tick c.from-number.result) both.1;
     }
 
 pub returns : goal.returns
 returns c =
     let led = c in
     let a = led.args in
-    let rest = rest_fits (call_lead a.letter a.processor a.tick) (refused_tail a.number) a.buffer.now
-    a.at _ _ (some_lead a.letter a.processor a.tick)
-    (refused_tail_length a.number _ led.byte_digits-more.ensures.is) led.put_lead-led.ensures.size
+    let rest = rest_fits (call_lead a.lead.letter a.lead.processor a.lead.tick) (refused_tail c.from-number.result) a.buffer.now
+    a.at _ _ (some_lead a.lead.letter a.lead.processor a.lead.tick)
+    (refused_tail_length c.from-number.result _ led.byte_digits-more.ensures.is) led.put_lead-led.ensures.size
     c.if-led-eq0.false _ led.put_lead-led.ensures.bytes in
     let both =
-    whole_line (call_lead a.letter a.processor a.tick) (refused_tail a.number) a.buffer.now a.at _ _
-    (some_lead a.letter a.processor a.tick)
-    (refused_tail_length a.number _ led.byte_digits-more.ensures.is) led.put_lead-led.ensures.size
+    whole_line (call_lead a.lead.letter a.lead.processor a.lead.tick) (refused_tail c.from-number.result) a.buffer.now a.at _ _
+    (some_lead a.lead.letter a.lead.processor a.lead.tick)
+    (refused_tail_length c.from-number.result _ led.byte_digits-more.ensures.is) led.put_lead-led.ensures.size
     c.if-led-eq0.false _ led.put_lead-led.ensures.bytes
-    _ _ (field_stored (refused_tail a.number) _ _ rest c.put_line_end.ensures.size
+    _ _ (field_stored (refused_tail c.from-number.result) _ _ rest c.put_line_end.ensures.size
     c.put_line_end.ensures.bytes) in
     record {
-      outcome = rw (refused_parts a.letter a.processor a.tick a.number) both.0;
-      bytes = rw (refused_parts a.letter a.processor a.tick a.number) both.1;
+      outcome = rw (← c.from-number.ensures, refused_parts a.lead.letter a.lead.processor a.lead.tick c.from-number.result) both.0;
+      bytes = rw (← c.from-number.ensures, refused_parts a.lead.letter a.lead.processor a.lead.tick c.from-number.result) both.1;
     }
