@@ -3,7 +3,15 @@
 use Rattle.std.specs.Prelude.{ℕ, ◌-◌, min, cond, List, get_or}
 use Rattle.masks.specs.Sets.{bit}
 use Rattle.rules.specs.declared.states.Phases.{Phases}
+use Rattle.board_list.specs.declared.phases.Phase.{Phase}
 use Rattle.rules.specs.Requests.{unsatisfied, active}
+
+-- Clause 7.1: the numbers of the states.
+abbrev pub phase_number : Phase → ℕ
+phase_number Phase.Idle = 0
+phase_number Phase.Waiting = 1
+phase_number Phase.Entitled = 2
+phase_number Phase.Holding = 3
 
 -- Clause 7.1: the state of processor p as a number: 0 idle, 1 waiting, 2 entitled, 3 holding.
 unfoldable pub state_in : Phases → ℕ → ℕ

@@ -6,12 +6,18 @@ use Rattle.encoding.specs.InTurn.{in_turn}
 use Rattle.board_list.specs.Sizes.{list_size}
 use Rattle.rules.specs.declared.states.Phases.{Phases}
 use Rattle.board_list.specs.Fields.{state_in, entry_shown, waited_in}
+use Rattle.board_list.specs.declared.list_writer.Columns.{Columns}
 use Rattle.board_list.specs.Parts.{part_bytes}
 
 -- The part of processor p. The list `waits` contains the direct waits of all processors.
 unfoldable pub part_in : ℕ → Phases → ℕ → List ℕ → List ℕ → List ℕ → ℕ → List ℕ
 part_in k ph last entry since waits p =
     part_bytes k (state_in ph p) (entry_shown ph entry p) (waited_in ph last since p) (get_or waits p 0)
+
+-- The part of processor p from what is lent to the list.
+abbrev pub part_shown : ℕ → Columns → ℕ → List ℕ
+part_shown k columns =
+    part_in k columns.moment.phases columns.moment.last columns.requested.now columns.since.now columns.waits.now
 
 -- Clause 7.7: the list of m processors: their count, then the part of each.
 unfoldable pub list_bytes : ℕ → (ℕ → List ℕ) → List ℕ

@@ -1,11 +1,13 @@
 // The list of the whole board as bytes: the state, the entry, the ticks waited and the direct waits of each processor.
-// `queries` writes it, `reach` uses its count of processors, and `query_listing` its size. Specification, clause 7.7.
+// `queries` writes it and answers the state, `reach` uses its count of processors, and `query_listing` its size.
 #![tactic(auto)]
 
 mod list_fields;
 mod list_parts;
 mod list_sizes;
 mod list_writer;
+mod phases;
 
 pub use list_sizes::{list_size, listed};
-pub use list_writer::write;
+pub use list_writer::{Columns, write};
+pub use phases::{Phase, phase_at};

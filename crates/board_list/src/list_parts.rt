@@ -3,45 +3,40 @@
 ghost use Rattle.std.specs.Prelude.{◌≡◌, ◌+◌, ◌≤◌, length};
 ghost use Rattle.std.proofs.lemmas.List.Edits.{sets};
 ghost use Rattle.encoding.specs.Numbers.{bytes_of};
-ghost use Rattle.encoding.specs.Buffers.{room_fault, buffer_after};
+ghost use Rattle.board_list.specs.Fields.{phase_number};
 ghost use Rattle.board_list.specs.Sizes.{part_size};
 ghost use Rattle.board_list.specs.Parts.{part_bytes};
 
 use crate::list_sizes::PART_FIXED_BYTES;
-use encoding::{has_room, write_number};
+use crate::phases::Phase;
 
-// Stores a mask as size bytes from position at. Two bytes, the size for up to 16 processors, are stored without a loop.
-fn store_mask(size: usize, mask: u32, buffer: &mut [u8], at: usize)
-    requires { at + size ≤ length buffer.old }
-    ensures { buffer.new ≡ sets buffer.old at (bytes_of size mask) }
-{
-    if size == 2 {
-        buffer[at] = (mask % 256) as u8;
-        buffer[at + 1] = (mask / 256 % 256) as u8;
-        return;
-    }
-    write_number(mask as u64, size, buffer, at);
+// What the list shows of a processor.
+#[derive(Clone, Copy)]
+pub struct Part {
+    pub phase: Phase,
+    pub entry: u8,
+    pub waited: u32,
+    pub waits: u32,
 }
 
-// Stores a processor's part from position at, with its direct waits as size bytes. Other bytes stay. Without room it
-// stores nothing.
-pub fn store_part(
-    size: u8,
-    state: u8,
-    entry: u8,
-    waited: u64,
-    waits: u32,
-    buffer: &mut [u8],
-    at: usize,
-)
-    ensures { buffer.new ≡ buffer_after
-        (room_fault (part_size size) (length buffer.old) at)
-        (part_bytes size state entry waited waits) buffer.old at }
+// Stores the low size bytes of a number from position at.
+#[tactic(auto, using(crate::proofs::list_parts::Stores::low_stored))]
+fn store_low(size: usize, number: u32, buffer: &mut [u8], at: usize)
+    requires { (size ≤ 4) × (at + size ≤ length buffer.old) }
+    ensures { buffer.new ≡ sets buffer.old at (bytes_of size number) }
 {
-    if has_room(PART_FIXED_BYTES + size as usize, buffer.len(), at) {
-        buffer[at] = state;
-        buffer[at + 1] = entry;
-        write_number(waited, 4, buffer, at + 2);
-        store_mask(size as usize, waits, buffer, at + PART_FIXED_BYTES);
-    }
+    buffer[at..at + size].copy_from_slice(&number.to_le_bytes()[..size]);
+}
+
+// Stores a processor's part from position at, with its direct waits as size bytes.
+#[tactic(auto, using(crate::proofs::list_parts::Stores::part_stores))]
+pub fn store_part(size: usize, part: Part, buffer: &mut [u8], at: usize)
+    requires { (size ≤ 4) × (at + part_size size ≤ length buffer.old) }
+    ensures { buffer.new ≡ sets buffer.old at
+        (part_bytes size (phase_number part.phase) part.entry part.waited part.waits) }
+{
+    buffer[at] = u8::from(part.phase);
+    buffer[at + 1] = part.entry;
+    store_low(4, part.waited, buffer, at + 2);
+    store_low(size, part.waits, buffer, at + PART_FIXED_BYTES);
 }

@@ -13,11 +13,7 @@ pub const PART_FIXED_BYTES: usize = 6;
 pub fn listed(processors: u8) -> usize
     ensures { result ≡ listed_of processors }
 {
-    if (processors as usize) < MAX_PROCESSORS {
-        processors as usize
-    } else {
-        MAX_PROCESSORS
-    }
+    (processors as usize).min(MAX_PROCESSORS)
 }
 
 // Clause 7.7: how many bytes the list takes for a board with this number of processors.

@@ -1,53 +1,58 @@
--- Runs of stores: of the bytes of a mask, and of a part. Assumes nothing.
-use Prim.Native.Nat.{ℕ, suc, ◌+◌, ◌/◌, ◌%◌, ◌≤◌}
-use mathlib.Core.Path.{◌≡◌, ap, ◌∙◌}
+-- Runs of stores: of the low bytes of a number, and of a part. Assumes nothing.
+use Prim.Native.Nat.{ℕ, zero, suc, ◌+◌, ◌-◌, ◌/◌, ◌≤◌}
+use mathlib.Core.Path.{◌≡◌, refl, ◌∙◌}
 use mathlib.Core.List.{List}
 use native.Mathlib.Omega.{arith}
-use lib.ListN.{length, set, length-set}
-use lib.Seq.{sets}
+use borrow.Rule.Slice.PartMut.{put_mid}
+use lib.ListN.{length, take, set}
+use lib.Seq.{sets, sets-eq, drop-drop}
+use Rattle.std.specs.Int.{w32, to_le_bytes}
+use Rattle.std.proofs.Common.{append_assoc}
 use Rattle.encoding.specs.Numbers.{bytes_of}
-use Rattle.encoding.specs.Buffers.{room_fault, buffer_after}
 use Rattle.encoding.proofs.Numbers.{length_bytes_of}
-use Rattle.encoding.proofs.Room.{stored_where_fits}
 use Rattle.encoding.proofs.Stores.{sets_append}
-use Rattle.board_list.specs.Sizes.{part_size}
 use Rattle.board_list.specs.Parts.{part_bytes}
 
--- A mask of two bytes, stored byte by byte.
-pub two_stored : (size mask : ℕ) (l : List ℕ) (at : ℕ) → size ≡ 2
-    → set (set l at (mask % 256)) (at + 1) (mask / 256 % 256) ≡ sets l at (bytes_of size mask)
+-- The low bytes of a number of four.
+pub low_bytes : (k x : ℕ) → k ≤ 4 → take k (to_le_bytes w32 x) ≡ bytes_of k x
 unfolding bytes_of
-two_stored size mask l at two = let next : at + 1 ≡ suc at = omega arith in rw (two, next)
+low_bytes zero x h = refl
+low_bytes (suc zero) x h = refl
+low_bytes (suc (suc zero)) x h = refl
+low_bytes (suc (suc (suc zero))) x h = let third : x / 65536 ≡ x / 256 / 256 = omega arith in rw third
+low_bytes (suc (suc (suc (suc zero)))) x h =
+    let third : x / 65536 ≡ x / 256 / 256 = omega arith in
+    let fourth : x / 16777216 ≡ x / 256 / 256 / 256 = omega arith in
+    rw (third, fourth)
+low_bytes (suc (suc (suc (suc (suc k))))) x h = absurd (omega arith)
+
+-- A part of a list that is replaced by a copy.
+part_copied : (l new : List ℕ) (at k : ℕ) → length new ≡ k → at + k ≤ length l
+    → put_mid at (at + k - at) l new ≡ sets l at new
+part_copied l new at k size room =
+    let part : at + k - at ≡ k = omega arith in
+    let fits : at + length new ≤ length l = omega arith in
+    rw (part, sets-eq new l at fits, append_assoc, size, drop-drop)
+
+pub low_stored : (l part : List ℕ) (at k x : ℕ) → k ≤ 4 → at + k ≤ length l
+    → part ≡ take k (to_le_bytes w32 x) → put_mid at (at + k - at) l part ≡ sets l at (bytes_of k x)
+low_stored l part at k x few room copied =
+    let bytes : part ≡ bytes_of k x = copied ∙ low_bytes k x few in
+    rw bytes (part_copied l (bytes_of k x) at k (length_bytes_of k x) room)
 
 -- The stores of a part: state, entry, four bytes and k bytes.
-module _ (k state entry waited waits : ℕ) (l : List ℕ) (at : ℕ) where
-  abbrev start : List ℕ
-  start = set (set l at state) (at + 1) entry
-
-  part_stores : sets (sets start (at + 2) (bytes_of 4 waited)) (at + 6) (bytes_of k waits)
-      ≡ sets l at (part_bytes k state entry waited waits)
-  unfolding part_bytes
-  part_stores =
-      let one : at + 1 ≡ suc at = omega arith in
-      let two : at + 2 ≡ suc (suc at) = omega arith in
-      let six : at + 6 ≡ suc (suc at) + 4 = omega arith in
-      rw (
-        one,
-        two,
-        six,
-        sets_append (set (set l at state) (suc at) entry) (suc (suc at)) (bytes_of 4 waited) (bytes_of k waits),
-        length_bytes_of 4 waited,
-      )
-
-  -- The same with the buffer that `write_number` leaves, if there is room.
-  pub part_written : (mid last : List ℕ) → at + part_size k ≤ length l
-      → mid ≡ buffer_after (room_fault 4 (length start) (at + 2)) (bytes_of 4 waited) start (at + 2)
-      → last ≡ sets mid (at + 6) (bytes_of k waits)
-      → last ≡ sets l at (part_bytes k state entry waited waits)
-  part_written mid last h first second =
-      let size : length start ≡ length l = length-set (set l at state) (at + 1) entry ∙ length-set l at state in
-      let stored = first ∙ stored_where_fits start (at + 2) (bytes_of 4 waited) 4 (length_bytes_of 4 waited)
-      (omega arith) in
-      second
-      ∙ ap (λ m. sets m (at + 6) (bytes_of k waits)) stored
-      ∙ part_stores
+pub part_stores : (k state entry waited waits : ℕ) (l : List ℕ) (at : ℕ)
+    → sets (sets (set (set l at state) (at + 1) entry) (at + 2) (bytes_of 4 waited)) (at + 6) (bytes_of k waits)
+    ≡ sets l at (part_bytes k state entry waited waits)
+unfolding part_bytes
+part_stores k state entry waited waits l at =
+    let one : at + 1 ≡ suc at = omega arith in
+    let two : at + 2 ≡ suc (suc at) = omega arith in
+    let six : at + 6 ≡ suc (suc at) + 4 = omega arith in
+    rw (
+      one,
+      two,
+      six,
+      sets_append (set (set l at state) (suc at) entry) (suc (suc at)) (bytes_of 4 waited) (bytes_of k waits),
+      length_bytes_of 4 waited,
+    )

@@ -1,9 +1,0 @@
--- `waited_at` meets its contract. Assumes nothing.
-use Rattle.masks.proofs.Places.{bit_or_law}
-use Rattle.board_list.proofs.list_fields.waited_at.Goals as goal
-
-pub returns-then-has : goal.returns-then-has
-returns-then-has c = rw (← bit_or_law, ← c.has.ensures, c.if-has.true) c.ticks_shown.ensures
-
-pub returns-else-has : goal.returns-else-has
-returns-else-has c = rw (← bit_or_law, ← c.has.ensures, c.if-has.false)
