@@ -27,6 +27,7 @@ pub fn is_counted(terms: Terms, processor: u8) -> bool
 }
 
 // Clause 4.1: the request waits or is entitled.
+#[tactic(auto, using(masks::proofs::Places::bit_or_law))]
 pub fn is_unsatisfied(phases: Phases, processor: u8) -> bool
     ensures { result ≡ unsatisfied phases processor }
 {
@@ -34,6 +35,7 @@ pub fn is_unsatisfied(phases: Phases, processor: u8) -> bool
 }
 
 // Clause 4.1: the processor has a request, in any phase.
+#[tactic(auto, using(masks::proofs::Places::bit_or_law))]
 pub fn is_active(phases: Phases, processor: u8) -> bool
     ensures { result ≡ active phases processor }
 {

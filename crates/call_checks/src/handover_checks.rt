@@ -9,6 +9,7 @@ use refusals::{Refusal, refuse_unless};
 use rules::{Phases, Terms};
 
 // Clause 4.5: refuses with 10, 11, 12, 14, 15, in this order.
+#[tactic(auto, using(refusals::proofs::Numbers::first_refuses_verdict, refusals::proofs::Numbers::first_accepts_verdict), unfolding(rules::specs::Faults::handover_fault))]
 pub fn check_handover(
     terms: Terms,
     last: u64,
@@ -19,19 +20,9 @@ pub fn check_handover(
 ) -> Result<(), Refusal>
     ensures { verdict_number result ≡ handover_fault terms last phases processor entry tick }
 {
-    if !is_in_time(last, tick) {
-        return Err(Refusal::Tick);
-    }
-    if !is_counted(terms, processor) {
-        return Err(Refusal::Processor);
-    }
-    let listed = entry < terms.count;
-    let active = is_active(phases, processor);
-    if !listed {
-        return Err(Refusal::Entry);
-    }
-    if !active {
-        return Err(Refusal::Idle);
-    }
+    refuse_unless(is_in_time(last, tick), Refusal::Tick)?;
+    refuse_unless(is_counted(terms, processor), Refusal::Processor)?;
+    refuse_unless(entry < terms.count, Refusal::Entry)?;
+    refuse_unless(is_active(phases, processor), Refusal::Idle)?;
     refuse_unless(!is_unsatisfied(phases, processor), Refusal::Unheld)
 }

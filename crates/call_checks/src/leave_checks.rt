@@ -12,6 +12,7 @@ use rules::{Phases, Terms};
 
 // Clause 4.5, for a call that removes the processor's request: refuses with 10, 11, 14, then with the number that is
 // due for its phase.
+#[tactic(auto, using(refusals::proofs::Numbers::first_refuses_verdict, refusals::proofs::Numbers::first_accepts_verdict))]
 fn check_taken(
     terms: Terms,
     last: u64,
@@ -23,19 +24,14 @@ fn check_taken(
 ) -> Result<(), Refusal>
     ensures { verdict_number result ≡ take_fault terms last phases processor tick (due passes (number_of refusal)) }
 {
-    if !is_in_time(last, tick) {
-        return Err(Refusal::Tick);
-    }
-    if !is_counted(terms, processor) {
-        return Err(Refusal::Processor);
-    }
-    if !is_active(phases, processor) {
-        return Err(Refusal::Idle);
-    }
+    refuse_unless(is_in_time(last, tick), Refusal::Tick)?;
+    refuse_unless(is_counted(terms, processor), Refusal::Processor)?;
+    refuse_unless(is_active(phases, processor), Refusal::Idle)?;
     refuse_unless(passes, refusal)
 }
 
 // Clause 4.5: refuses with 10, 11, 14, 15, in this order.
+#[tactic(auto, unfolding(rules::specs::Faults::complete_fault))]
 pub fn check_complete(
     terms: Terms,
     last: u64,
@@ -50,6 +46,7 @@ pub fn check_complete(
 }
 
 // Clause 4.5: refuses with 10, 11, 14, 17, in this order.
+#[tactic(auto, unfolding(rules::specs::Faults::withdraw_fault))]
 pub fn check_withdraw(
     terms: Terms,
     last: u64,
