@@ -10,7 +10,7 @@ use refusals::{Refusal, refuse_unless};
 pub fn byte_at(bytes: &[u8], place: usize) -> u8
     ensures { result ≡ get_or bytes.now place 0 }
 {
-    if place < bytes.len() { bytes[place] } else { 0 }
+    bytes.get(place).copied().unwrap_or(0)
 }
 
 // Refuses with 1 if there are fewer bytes than are due.

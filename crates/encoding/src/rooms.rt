@@ -12,10 +12,7 @@ pub fn has_room(needed: usize, size: usize, at: usize) -> bool
     ensures is { result ≡ has_room needed size at }
     ensures room { result ≡ true → at + needed ≤ size }
 {
-    if size < at {
-        return false;
-    }
-    needed <= size - at
+    size.checked_sub(at).is_some_and(|room| needed <= room)
 }
 
 // Refuses with 16 if there is no room.

@@ -1,25 +1,21 @@
 // Writes a number into a lent buffer, low byte first. Plans, lists of a board, the scratch of reach and registers are
 // written with it. Specification, clauses 2.1, 2.12 and 8.1.
-ghost use Rattle.std.specs.Prelude.{◌≡◌, ◌+◌, ◌≤◌, length};
-ghost use Rattle.std.proofs.lemmas.List.Edits.{sets};
+ghost use Rattle.std.specs.Prelude.{◌≡◌, length};
 ghost use Rattle.refusals.specs.Due.{as_numbers};
 ghost use Rattle.encoding.specs.Numbers.{bytes_of};
 ghost use Rattle.encoding.specs.Buffers.{room_fault, buffer_after, outcome_as_numbers};
 
-use crate::rooms::has_room;
+use crate::rooms::check_room;
 use refusals::Refusal;
 
-// Stores a number as size bytes, from position at.
-fn store_number(value: u64, size: usize, buffer: &mut [u8], at: usize)
-    requires { at + size ≤ length buffer.old }
-    ensures { buffer.new ≡ sets buffer.old at (bytes_of size value) }
+// Stores a number as the bytes of the slice, as many as it has.
+fn store_number(value: u64, part: &mut [u8])
+    ensures { part.new ≡ bytes_of (length part.old) value }
 {
     let mut rest = value;
-    let mut i = 0;
-    while i < size {
-        buffer[at + i] = (rest % 256) as u8;
-        rest = rest / 256;
-        i += 1;
+    for byte in part {
+        *byte = (rest % 256) as u8;
+        rest /= 256;
     }
 }
 
@@ -29,10 +25,7 @@ pub fn write_number(value: u64, size: usize, buffer: &mut [u8], at: usize) -> Re
     ensures bytes { buffer.new
         ≡ buffer_after (room_fault size (length buffer.old) at) (bytes_of size value) buffer.old at }
 {
-    if has_room(size, buffer.len(), at) {
-        store_number(value, size, buffer, at);
-        Ok(size)
-    } else {
-        Err(Refusal::Room)
-    }
+    check_room(size, buffer.len(), at)?;
+    store_number(value, &mut buffer[at..at + size]);
+    Ok(size)
 }

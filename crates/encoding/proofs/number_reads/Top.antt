@@ -1,57 +1,43 @@
--- A number read from the high byte down: the number in the last d bytes, one more byte, and all bytes. Assumes nothing.
-use Prim.Native.Nat.{ℕ, suc, ◌+◌, ◌-◌, ◌*◌, ◌^◌, ◌≤◌, ◌<◌, min}
+-- A number read from the high byte down: no byte yet, one more byte, and all bytes. Assumes nothing.
+use Prim.Native.Nat.{ℕ, suc, ◌+◌, ◌*◌, ◌^◌, ◌≤◌, ◌<◌}
 use native.Mathlib.Nat.{pow-succ', pow-le-pow_right, lt_of_lt_of_le}
-use native.Mathlib.Numerals.{add-one}
 use native.Mathlib.Omega.{arith}
-use mathlib.Core.Path.{◌≡◌}
-use mathlib.Core.List.{List}
+use mathlib.Core.Path.{◌≡◌, refl, sym, ap, ◌∙◌}
+use mathlib.Core.List.{List, [], ◌∷◌, ◌++◌, append_assoc, append-nil}
 use lib.Dec.{lit<}
-use lib.ListN.{length, get_or, take, drop, length-take, drop_of_length-le}
-use lib.Seq.{drop-cons, get_or-take}
+use lib.ListN.{length, length-append}
 use Rattle.encoding.specs.Numbers.{number}
 
--- x is the number in the last d of the first eight bytes of s.
-pub record IsTop (s : List ℕ) (d x : ℕ) : Type 0 where
-  pub inside : d ≤ min 8 (length s)
-  pub value : x ≡ number (drop (min 8 (length s) - d) (take 8 s))
-  pub bound : x < 256 ^ d
+-- The bytes s are those that are left and then the high ones, and x is the number in the high ones.
+pub record IsTop (s left : List ℕ) (x : ℕ) : Type 0 where
+  pub high : List ℕ
+  pub whole : left ++ high ≡ s
+  pub value : x ≡ number high
+  pub bound : x < 256 ^ length high
 
-pub at_most_seven : (d x : ℕ) → d ≤ 7 → x < 256 ^ d → x < 256 ^ 7
-at_most_seven d x few h = lt_of_lt_of_le h (pow-le-pow_right (lit< tt) few)
-
-number_drop : (s : List ℕ) (j : ℕ) → j < length s → number (drop j s) ≡ get_or s j 0 + 256 * number (drop (suc j) s)
+pub no_byte : (s : List ℕ) → IsTop s s 0
 unfolding number
-number_drop s j h = rw (drop-cons s j 0)
+no_byte s = record { high = []; whole = append-nil s; value = refl; bound = lit< tt }
 
-module _ (s : List ℕ) where
-  pub no_byte : IsTop s 0 0
+module _ {s left : List ℕ} {x : ℕ} (fewer : List ℕ) (b : ℕ) (last : left ≡ fewer ++ (b ∷ [])) (h : IsTop s left x) where
+  whole : fewer ++ (b ∷ h.high) ≡ s
+  whole = rw (← append_assoc fewer (b ∷ []) h.high, ← last) h.whole
+
+  -- The last byte that is left is the next lower one.
+  pub one_byte_more : b < 256 → IsTop s fewer (b + 256 * x)
   unfolding number
-  no_byte =
-      let short : length (take 8 s) ≤ min 8 (length s) - 0 = simp length-take (omega arith) in
-      record {
-        inside = omega arith;
-        value = rw (drop_of_length-le (take 8 s) {i = min 8 (length s) - 0} short);
-        bound = lit< tt;
-      }
+  one_byte_more small =
+      let bound : x < 256 ^ length h.high = h.bound in
+      record { high = b ∷ h.high; whole = whole; value = rw h.value; bound = rw pow-succ' (omega arith) }
 
-  pub all_bytes : (d x : ℕ) → min 8 (length s) ≤ d → IsTop s d x → (x ≡ number (take 8 s))
-      × (x < 256 ^ min 8 (length s))
-  all_bytes d x all h =
-      let most = h.inside in
-      let none : min 8 (length s) - d ≡ 0 = omega arith in
-      let e : d ≡ min 8 (length s) = omega arith in
-      (rw none at h.value, rw e at h.bound)
+  -- Where a byte is left, the high ones are fewer than all.
+  pub below_all : (n : ℕ) → length s ≤ suc n → x < 256 ^ n
+  below_all n few =
+      let all : length fewer + suc (length h.high) ≡ length s = sym (length-append fewer (b ∷ h.high)) ∙ ap length whole in
+      let size : length h.high ≤ n = omega arith in
+      lt_of_lt_of_le h.bound (pow-le-pow_right (lit< tt) size)
 
-  -- The byte at place i is the next lower one.
-  pub one_byte_more : (d i b x : ℕ) → d < min 8 (length s) → i ≡ min 8 (length s) - 1 - d → b ≡ get_or s i 0 → b < 256
-      → IsTop s d x → IsTop s (d + 1) (b + 256 * x)
-  one_byte_more d i b x more place byte small h =
-      let here : i < length (take 8 s) = simp length-take (omega arith) in
-      let above : min 8 (length s) - d ≡ suc i = omega arith in
-      let next : min 8 (length s) - (d + 1) ≡ i = omega arith in
-      let bound : x < 256 ^ d = h.bound in
-      record {
-        inside = omega arith;
-        value = rw (next, number_drop (take 8 s) i here, get_or-take 8 s i 0 (omega arith), ← above, byte, h.value);
-        bound = rw (add-one, pow-succ') (omega arith);
-      }
+pub all_bytes : {s : List ℕ} {x : ℕ} (left : List ℕ) → length left ≡ 0 → IsTop s left x → (x ≡ number s)
+    × (x < 256 ^ length s)
+all_bytes [] none h = (rw (← h.whole) h.value, rw (← h.whole) h.bound)
+all_bytes (b ∷ left) none h = absurd (omega arith)

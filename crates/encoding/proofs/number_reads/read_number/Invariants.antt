@@ -1,13 +1,8 @@
--- `read_number` returns the number in the first eight bytes. The invariant: the sum is the number in the last `done` of
--- them. The measure is how many are left. Assumes nothing.
-use Prim.Native.Nat.{◌-◌}
+-- `read_number` returns the number in the first eight bytes. The invariant: the sum is the number in those that were
+-- read, and the others are left in the iterator. Assumes nothing.
+use Rattle.std.proofs.Common.{take}
 use Rattle.encoding.proofs.number_reads.Top.{IsTop}
 use Rattle.encoding.proofs.number_reads.read_number.Given as goal
 
--- `read_number` returns the number in the first eight bytes. The invariant: the sum is the number in the last `done` of
--- them. The measure is how many are left. Assumes nothing.
-abbrev pub invariant-loop-done : goal.invariant-loop-done
-invariant-loop-done l = IsTop l.bytes l.done l.sum
-
-abbrev pub decreases-loop-done : goal.decreases-loop-done
-decreases-loop-done l = l.size - l.done
+abbrev pub invariant-loop-byte : goal.invariant-loop-byte
+invariant-loop-byte l = IsTop (take 8 l.bytes) l.byte-iterator.iter.rest.now l.sum
