@@ -4,30 +4,27 @@
 #![tactic(auto)]
 
 ghost use Rattle.std.specs.Prelude.{◌≡◌};
-ghost use Rattle.refusals.specs.Due.{as_numbers};
-ghost use Rattle.encoding.specs.Buffers.{outcome_as_numbers};
 ghost use Rattle.viewer.specs.Viewer.{plan_refusal, plan_read_figure, plan_write_figure};
 
-use refusals::Refusal;
+use figures::figures_of;
+use plans::Figures;
 
+// What is told of a refused plan.
+const NO_FIGURES: Figures = Figures {
+    longest_read: 0,
+    longest_write: 0,
+    read: 0,
+    write: 0,
+};
 
-// 0 if the plan was read, else the refusal's number.
-fn number_of(outcome: Result<usize, Refusal>) -> u32
-    ensures { result ≡ (outcome_as_numbers outcome).number }
+// The figures of the plan in the bytes, or 0 for each if the plan is refused.
+fn figures_in(bytes: &[u8]) -> Figures
+    ensures read { result.read ≡ plan_read_figure bytes.now }
+    ensures write { result.write ≡ plan_write_figure bytes.now }
 {
-    match outcome {
-        Ok(_) => 0,
-        Err(refusal) => u8::from(refusal) as u32,
-    }
-}
-
-// The figure if the plan was read, else 0.
-fn figure_or_zero(outcome: Result<usize, Refusal>, figure: u32) -> u32
-    ensures { result ≡ (as_numbers (outcome_as_numbers outcome).number figure).value }
-{
-    match outcome {
-        Ok(_) => figure,
-        Err(_) => 0,
+    match plan_bytes::read(bytes) {
+        Ok(read) => figures_of(read.plan),
+        Err(_) => NO_FIGURES,
     }
 }
 
@@ -35,29 +32,22 @@ fn figure_or_zero(outcome: Result<usize, Refusal>, figure: u32) -> u32
 pub fn bittmelon_plan_refusal(bytes: &[u8]) -> u32
     ensures { result ≡ plan_refusal bytes.now }
 {
-    let read = plan_bytes::read(bytes);
-    let outcome = read.outcome;
-    number_of(outcome)
+    match plan_bytes::read(bytes) {
+        Ok(_) => 0,
+        Err(refusal) => u8::from(refusal) as u32,
+    }
 }
 
 // The longest that a read waits, in ticks.
 pub fn bittmelon_read_figure(bytes: &[u8]) -> u32
     ensures { result ≡ plan_read_figure bytes.now }
 {
-    let read = plan_bytes::read(bytes);
-    let outcome = read.outcome;
-    let plan = read.plan;
-    let figures = figures::figures_of(plan);
-    figure_or_zero(outcome, figures.read)
+    figures_in(bytes).read
 }
 
 // The longest that a write waits, in ticks.
 pub fn bittmelon_write_figure(bytes: &[u8]) -> u32
     ensures { result ≡ plan_write_figure bytes.now }
 {
-    let read = plan_bytes::read(bytes);
-    let outcome = read.outcome;
-    let plan = read.plan;
-    let figures = figures::figures_of(plan);
-    figure_or_zero(outcome, figures.write)
+    figures_in(bytes).write
 }
