@@ -14,6 +14,7 @@ use plan_checks::check;
 use plans::{Entry, MAX_ENTRIES, MAX_PROCESSORS, Plan, is_write};
 use refusals::Refusal;
 use rules::{Board, Phases, State, Terms};
+use std::array;
 
 // A fresh arbiter: its board, and the state in which nobody is active.
 #[derive(Clone, Copy)]
@@ -38,41 +39,31 @@ fn writes_of(plan: Plan) -> u64
     ensures { result ≡ (board_of plan).terms.writes }
 {
     let mut out: u64 = 0;
-    let mut i: u8 = 0;
-    while i < MAX_ENTRIES as u8 {
-        let entry = plan.entries[i as usize];
-        out = out.with(write_place(entry, i, plan.count));
-        i += 1;
+    for i in 0..MAX_ENTRIES as u8 {
+        out = out.with(write_place(plan.entries[i as usize], i, plan.count));
     }
     out
 }
 
 // The length of entry i, or 0 past the count.
-fn counted_length(entry: Entry, i: u8, count: u8) -> u16
+fn counted_length(entry: Entry, i: usize, count: u8) -> u16
     ensures { result ≡ cond (ltb i count) entry.length 0 }
 {
-    if i < count { entry.length } else { 0 }
+    if i < count as usize { entry.length } else { 0 }
 }
 
 fn lengths_of(plan: Plan) -> [u16; MAX_ENTRIES]
     ensures { result ≡ (board_of plan).lengths }
 {
-    let mut out = [0; MAX_ENTRIES];
-    let mut i: u8 = 0;
-    while i < MAX_ENTRIES as u8 {
-        let entry = plan.entries[i as usize];
-        out[i as usize] = counted_length(entry, i, plan.count);
-        i += 1;
-    }
-    out
+    array::from_fn(|i| counted_length(plan.entries[i], i, plan.count))
 }
 
 // Clause 3.3: conflicts are computed here, once for all calls.
 fn board_of(plan: Plan) -> Board
     ensures { result ≡ board_of plan }
 {
-    let lengths = lengths_of(plan);
     let worked = conflicts_of(plan);
+    let lengths = lengths_of(plan);
     let names = worked.names;
     let widened = worked.widened;
     let rows = worked.rows;
@@ -82,10 +73,10 @@ fn board_of(plan: Plan) -> Board
             count: plan.count,
             writes: writes_of(plan),
         },
-        lengths: lengths,
-        names: names,
-        widened: widened,
-        rows: rows,
+        lengths,
+        names,
+        widened,
+        rows,
     }
 }
 
@@ -93,9 +84,6 @@ fn board_of(plan: Plan) -> Board
 fn fresh_state() -> State
     ensures { result ≡ fresh_state }
 {
-    let since = [0; MAX_PROCESSORS];
-    let earlier = [0; MAX_PROCESSORS];
-    let requested = [0; MAX_PROCESSORS];
     State {
         last: 0,
         phases: Phases {
@@ -103,13 +91,14 @@ fn fresh_state() -> State
             entitled: 0,
             holding: 0,
         },
-        since: since,
-        earlier: earlier,
-        requested: requested,
+        since: [0; MAX_PROCESSORS],
+        earlier: [0; MAX_PROCESSORS],
+        requested: [0; MAX_PROCESSORS],
     }
 }
 
 // A fresh arbiter of the plan, or a refusal with 3 to 8.
+#[tactic(auto, unfolding(crate::specs::Fresh::fresh_board), using(refusals::proofs::Numbers::number_not_zero))]
 pub fn fresh_of(plan: Plan) -> Result<Fresh, Refusal>
     ensures verdict { fresh_number result ≡ plan_fault plan }
     ensures board { board_made result ≡ fresh_board plan }

@@ -1,5 +1,5 @@
 -- What two entries conflict over. Specification, clauses 3.2 and 3.4.
-use Rattle.std.specs.Prelude.{ℕ, Bool, cond, eqb}
+use Rattle.std.specs.Prelude.{ℕ, Bool, Option, Some, None, cond, eqb}
 use Rattle.masks.specs.Sets.{bit, count_of, lowest_of}
 use Rattle.plans.specs.Entries.{max_resources}
 use Rattle.conflicts.specs.declared.sharing.Conflict.{Conflict}
@@ -19,9 +19,9 @@ pub record Over : Type 0 where
 abbrev pub no_conflict : Over
 no_conflict = record { number = 0; lowest = 0; count = 0 }
 
-abbrev pub conflict_as_numbers : Conflict → Over
-conflict_as_numbers Conflict.None = no_conflict
-conflict_as_numbers (Conflict.Over lowest count) = record { number = 1; lowest = lowest; count = count }
+abbrev pub conflict_as_numbers : Option Conflict → Over
+conflict_as_numbers None = no_conflict
+conflict_as_numbers (Some c) = record { number = 1; lowest = c.lowest; count = c.count }
 
 -- Clause 3.4: the conflict over a set of shared resources.
 unfoldable pub over : ℕ → Over

@@ -13,8 +13,9 @@ ghost use Rattle.conflicts.specs.Conflict.{in_conflict, conflicts_of};
 
 use masks::Mask;
 use plans::{Entry, MAX_ENTRIES, Plan};
+use sharing::pair_conflict;
 pub use sharing::{Conflict, conflict_by};
-use sharing::{is_conflict, pair_conflict};
+use std::array;
 use widening::widened_set;
 
 // The names of each entry; the widened set of each write, and the names of each read; and the rows: bit j of row i is
@@ -41,13 +42,7 @@ fn widen_entry(plan: Plan, i: usize) -> u64
 fn widen_all(plan: Plan) -> [u64; MAX_ENTRIES]
     ensures { result ≡ (conflicts_of plan).widened }
 {
-    let mut widened = [0; MAX_ENTRIES];
-    let mut i: usize = 0;
-    while i < MAX_ENTRIES {
-        widened[i] = widen_entry(plan, i);
-        i += 1;
-    }
-    widened
+    array::from_fn(|i| widen_entry(plan, i))
 }
 
 // The set with the place added, if the test holds.
@@ -66,14 +61,10 @@ fn row(plan: Plan, widened: [u64; MAX_ENTRIES], i: usize) -> u64
 {
     let count = plan.count as usize;
     let entry = plan.entries[i];
-    let entry_widened = widened[i];
     let mut out: u64 = 0;
-    let mut j: usize = 0;
-    while j < MAX_ENTRIES {
-        let other = plan.entries[j];
-        let conflict = pair_conflict(entry, entry_widened, other, widened[j]);
-        out = add_if(out, j, (i < count) & (j < count) & is_conflict(conflict));
-        j += 1;
+    for j in 0..MAX_ENTRIES {
+        let conflict = pair_conflict(entry, widened[i], plan.entries[j], widened[j]);
+        out = add_if(out, j, (i < count) & (j < count) & conflict.is_some());
     }
     out
 }
@@ -82,13 +73,7 @@ fn all_rows(plan: Plan, widened: [u64; MAX_ENTRIES]) -> [u64; MAX_ENTRIES]
     requires { widened ≡ (conflicts_of plan).widened }
     ensures { result ≡ (conflicts_of plan).rows }
 {
-    let mut rows = [0; MAX_ENTRIES];
-    let mut i: usize = 0;
-    while i < MAX_ENTRIES {
-        rows[i] = row(plan, widened, i);
-        i += 1;
-    }
-    rows
+    array::from_fn(|i| row(plan, widened, i))
 }
 
 // The names of entry i, or none past the count.
@@ -101,14 +86,7 @@ fn counted_names(entry: Entry, i: usize, count: u8) -> u64
 fn names_of(plan: Plan) -> [u64; MAX_ENTRIES]
     ensures { result ≡ (conflicts_of plan).names }
 {
-    let mut names = [0; MAX_ENTRIES];
-    let mut i: usize = 0;
-    while i < MAX_ENTRIES {
-        let entry = plan.entries[i];
-        names[i] = counted_names(entry, i, plan.count);
-        i += 1;
-    }
-    names
+    array::from_fn(|i| counted_names(plan.entries[i], i, plan.count))
 }
 
 // Clause 3.3: the conflicts of all pairs of entries at once, for any plan value.
@@ -116,11 +94,9 @@ pub fn conflicts_of(plan: Plan) -> Conflicts
     ensures { result ≡ conflicts_of plan }
 {
     let widened = widen_all(plan);
-    let rows = all_rows(plan, widened);
-    let names = names_of(plan);
     Conflicts {
-        names: names,
-        widened: widened,
-        rows: rows,
+        names: names_of(plan),
+        widened,
+        rows: all_rows(plan, widened),
     }
 }

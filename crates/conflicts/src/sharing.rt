@@ -1,7 +1,7 @@
 // What two entries conflict over: the lowest-numbered resource that they share, and how many they share. `conflicts_of`
 // uses it for all pairs of a plan, and `queries::shared_by` for two entries of a board. Specification, clauses 3.2 and
 // 3.4.
-ghost use Rattle.std.specs.Prelude.{◌≡◌, ◌&&◌, eqb};
+ghost use Rattle.std.specs.Prelude.{◌≡◌, ◌&&◌};
 ghost use Rattle.std.specs.Int.Bits.{bit_and};
 ghost use Rattle.plans.specs.Entries.{is_read, is_write};
 ghost use Rattle.conflicts.specs.Sharing.{shared_by, conflict_as_numbers, over};
@@ -53,14 +53,4 @@ pub fn pair_conflict(e: Entry, e_widened: u64, f: Entry, f_widened: u64) -> Opti
     let names = e.set & f.set;
     let widened = e_widened & f_widened;
     conflict_by(writes, reads, names, widened)
-}
-
-// Whether there is a conflict.
-pub fn is_conflict(conflict: Option<Conflict>) -> bool
-    ensures { result ≡ eqb (conflict_as_numbers conflict).number 1 }
-{
-    match conflict {
-        None => false,
-        Some(Conflict { lowest, count }) => true,
-    }
 }

@@ -6,7 +6,7 @@ ghost use Rattle.plans.specs.Entries.{is_read, counted_entries};
 ghost use Rattle.conflicts.specs.Widening.{widen, widened_set};
 
 use masks::meet64;
-use plans::{Entry, Plan, counted_of, is_read, is_write};
+use plans::{Entry, Plan, is_read, is_write};
 
 // Clause 3.1: what an entry adds to the widened set of these names: its own names, if it is a read that shares a
 // resource with them.
@@ -25,14 +25,9 @@ fn brought(entry: Entry, names: u64) -> u64
 fn widen_names(plan: Plan, names: u64) -> u64
     ensures { result ≡ widen names (counted_entries plan) }
 {
-    let mut out = names;
-    let mut i = counted_of(plan.count);
-    while 0 < i {
-        i -= 1;
-        let entry = plan.entries[i as usize];
-        out = out | brought(entry, names);
-    }
-    out
+    plan.counted_entries()
+        .iter()
+        .rfold(names, |out, entry| out | brought(*entry, names))
 }
 
 // Clause 3.1: the widened set of an entry of the plan. For a read it is its names, and is not used.

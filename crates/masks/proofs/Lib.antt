@@ -13,3 +13,4 @@ pub mod Tests
 pub mod Stores
 pub mod Counts
 pub mod Tabulate
+pub mod Made

@@ -4,6 +4,4 @@ use Rattle.boards.proofs.board_of.Goals as goal
 
 pub returns : goal.returns
 returns c =
-    let worked = c in
-    board_made worked.args.plan _ _ _ worked.lengths_of-lengths.ensures
-    worked.conflicts_of-worked.ensures c.writes_of.ensures
+    board_made c.args.plan _ _ _ c.lengths_of-lengths.ensures c.conflicts_of-worked.ensures c.writes_of.ensures

@@ -1,29 +1,23 @@
-use native.Mathlib.Omega.{arith}
+-- `lengths_of` meets its contract: the closure gives the length of each entry. Assumes nothing.
 use mathlib.Core.Path.{◌≡◌, refl, ◌∙◌}
-use lib.ListN.{length-set}
+use mathlib.Core.Bool.{cond}
+use lib.Dec.{ltb}
+use lib.ListN.{get_or}
+use borrow.Author.Rules.{rules}
+use Rattle.plans.specs.Entries.{max_entries, entry_at, blank_entry}
 use Rattle.plans.specs.declared.Entry.{Entry}
-use Rattle.plans.specs.Entries.{max_entries}
-use Rattle.masks.specs.Tabulation.{tabulate}
-use Rattle.masks.proofs.Tabulate.{fill_more, filled_whole}
-use Rattle.boards.specs.Fresh.{board_of}
+use Rattle.masks.proofs.Made.{made_whole}
 use Rattle.conflicts.proofs.WidenedSets.{counted_field}
+use Rattle.boards.specs.Fresh.{board_of}
 use Rattle.boards.proofs.lengths_of.Goals as goal
-
-pub loop-i-init : goal.loop-i-init
-unfolding tabulate
-loop-i-init c = (omega arith, refl, refl)
-
-pub loop-i-preserved : goal.loop-i-preserved
-loop-i-preserved c =
-    let inside = c in (
-      omega arith,
-      simp length-set inside.loop-i.invariant.1,
-      fill_more _ _ _ _ (omega arith) inside.loop-i.invariant.2
-          (c.counted_length.ensures ∙ counted_field inside.args.plan _ (λ (x : Entry). x.length) refl),
-    )
 
 pub returns : goal.returns
 unfolding board_of
 returns c =
-    let last : c.loop-i.i ≡ max_entries = omega arith in
-    filled_whole _ max_entries _ c.loop-i.invariant.1 (rw last at c.loop-i.invariant.2)
+    let plan = c.args.plan in
+    made_whole _ (λ p. (p.0.now ≡ plan.count) × (p.1.now ≡ plan.entries)) (λ j. (entry_at plan j).length)
+    (λ p q i y kept called.
+    let gives : y ≡ cond (ltb i p.0.now) (get_or p.1.now i blank_entry).length 0 = search (rules, called) in
+    let same : q ≡ p = search (rules, called) in
+    (gives ∙ rw (kept.0, kept.1) (counted_field plan i (λ (x : Entry). x.length) refl), rw same kept))
+    _ _ max_entries (search rules) c.from_fn.ensures.items

@@ -1,28 +1,25 @@
-use native.Mathlib.Omega.{arith}
+-- `names_of` meets its contract: the closure gives the names of each entry. Assumes nothing.
 use mathlib.Core.Path.{◌≡◌, refl, ◌∙◌}
-use lib.ListN.{length-set}
-use Rattle.plans.specs.Entries.{max_entries}
+use mathlib.Core.Bool.{cond}
+use lib.Dec.{ltb}
+use lib.ListN.{get_or}
+use borrow.Author.Rules.{rules}
+use Rattle.plans.specs.Entries.{max_entries, entry_at, blank_entry}
 use Rattle.plans.specs.declared.Entry.{Entry}
 use Rattle.conflicts.specs.Conflict.{conflicts_of}
-use Rattle.masks.specs.Tabulation.{tabulate}
-use Rattle.masks.proofs.Tabulate.{fill_more, filled_whole}
+use Rattle.masks.proofs.Made.{made_whole}
 use Rattle.conflicts.proofs.WidenedSets.{counted_field}
 use Rattle.conflicts.proofs.names_of.Goals as goal
-
-pub loop-i-init : goal.loop-i-init
-unfolding tabulate
-loop-i-init c = (omega arith, refl, refl)
-
-pub loop-i-preserved : goal.loop-i-preserved
-loop-i-preserved c = (
-  omega arith,
-  simp length-set c.loop-i.invariant.1,
-  fill_more _ _ _ _ (omega arith) c.loop-i.invariant.2
-      (c.counted_names.ensures ∙ counted_field c.args.plan _ (λ (x : Entry). x.set) refl),
-)
 
 pub returns : goal.returns
 unfolding conflicts_of
 returns c =
-    let last : c.loop-i.i ≡ max_entries = omega arith in
-    filled_whole _ max_entries _ c.loop-i.invariant.1 (rw last at c.loop-i.invariant.2)
+    let plan = c.args.plan in
+    made_whole _ (λ p. (p.0.now ≡ plan.count) × (p.1.now ≡ plan.entries)) (λ j. (entry_at plan j).set)
+    (λ p q i y kept called.
+    let gives : y ≡ cond (ltb i p.0.now) (get_or p.1.now i blank_entry).set 0 = search (rules, called) in
+    let same : q ≡ p = search (rules, called) in (
+      gives ∙ rw (kept.0, kept.1) (counted_field plan i (λ (x : Entry). x.set) refl),
+      rw same kept,
+    ))
+    _ _ max_entries (search rules) c.from_fn.ensures.items

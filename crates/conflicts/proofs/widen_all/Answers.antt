@@ -1,25 +1,18 @@
-use mathlib.Core.Path.{◌≡◌, refl}
-use native.Mathlib.Omega.{arith}
-use lib.ListN.{length-set}
+-- `widen_all` meets its contract: the closure gives the widened set of each entry. Assumes nothing.
+use mathlib.Core.Path.{◌≡◌}
+use borrow.Author.Rules.{rules}
 use Rattle.plans.specs.Entries.{max_entries}
 use Rattle.conflicts.specs.Conflict.{conflicts_of}
-use Rattle.masks.specs.Tabulation.{tabulate}
-use Rattle.masks.proofs.Tabulate.{fill_more, filled_whole}
+use Rattle.masks.proofs.Made.{made_whole}
+use Rattle.conflicts.proofs.WidenedSets.{widened_at}
 use Rattle.conflicts.proofs.widen_all.Goals as goal
-
-pub loop-i-init : goal.loop-i-init
-unfolding tabulate
-loop-i-init c = (omega arith, refl, refl)
-
-pub loop-i-preserved : goal.loop-i-preserved
-loop-i-preserved c = (
-  omega arith,
-  simp length-set c.loop-i.invariant.1,
-  fill_more _ _ _ _ (omega arith) c.loop-i.invariant.2 c.widen_entry.ensures,
-)
 
 pub returns : goal.returns
 unfolding conflicts_of
 returns c =
-    let last : c.loop-i.i ≡ max_entries = omega arith in
-    filled_whole _ max_entries _ c.loop-i.invariant.1 (rw last at c.loop-i.invariant.2)
+    made_whole _ (λ p. p.0.now ≡ c.args.plan) (widened_at c.args.plan)
+    (λ p q i y kept called.
+    let gives : y ≡ widened_at p.0.now i = search (rules, called) in
+    let same : q ≡ p = search (rules, called) in
+    (rw (← kept) gives, rw same kept))
+    _ _ max_entries (search rules) c.from_fn.ensures.items

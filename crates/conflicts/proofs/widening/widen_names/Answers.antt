@@ -1,22 +1,16 @@
-use native.Mathlib.Omega.{arith}
-use mathlib.Core.Path.{◌≡◌, sym}
-use lib.ListN.{length}
-use Rattle.plans.specs.Entries.{max_entries}
-use Rattle.conflicts.proofs.widening.Names.{widened_by_none, widened_by_next}
+-- `widen_names` meets its contract: the fold goes from the last counted entry to the first. Assumes nothing.
+use Rattle.std.specs.Prelude.{reverse}
+use Rattle.std.specs.List.{fold}
+use mathlib.Core.Path.{◌≡◌, ap, ◌∙◌}
+use borrow.Author.Rules.{rules}
+use lib.Bits.{bit_or}
+use Rattle.conflicts.specs.Widening.{widen}
+use Rattle.conflicts.proofs.widening.Names.{brought_to, widened_by_fold}
 use Rattle.conflicts.proofs.widening.widen_names.Goals as goal
 
-pub loop-i-init : goal.loop-i-init
-loop-i-init c =
-    let full : length c.args.plan.entries ≡ max_entries =
-    c.well_formed.0.1.1.1.1.1.0.1.0.1 in
-    (omega arith, rw c.counted_of-i.ensures (sym (widened_by_none c.args.plan _ full)))
-
-pub loop-i-preserved : goal.loop-i-preserved
-loop-i-preserved c =
-    let full : length c.args.plan.entries ≡ max_entries =
-    c.well_formed.0.1.1.1.1.1.0.1.0.1 in (
-      omega arith,
-      widened_by_next c.args.plan _ full _ _ _
-          c.loop-i-test.true
-          c.loop-i.invariant.0 c.loop-i.invariant.1 c.brought-out.ensures,
-    )
+pub returns : goal.returns
+returns c =
+    let names = c.args.names in
+    let es = c.counted_entries.result.now in
+    let folds : c.rfold.result ≡ fold (λ out e. bit_or out (brought_to names e)) names (reverse es) = search rules in
+    folds ∙ widened_by_fold names es ∙ ap (widen names) c.counted_entries.ensures.are
