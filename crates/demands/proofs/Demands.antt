@@ -66,8 +66,8 @@ use Rattle.logs.specs.Records.{fields_in, record_fault, read_record}
 --   calls_in_place::withdraw_in_place  the same with withdrawn
 --   calls_in_place::handover_in_place  the same with handed_over
 --   queries::phase_of         `phase_as_numbers` r ≡ phase_query board state processor
---   queries::direct_waits     `mask_as_numbers` r ≡ waits_query board state processor
---   reach::reach              `mask_as_numbers` r ≡ reach_query board state processor scratch,
+--   queries::direct_waits     `outcome_as_numbers` r ≡ waits_query board state processor
+--   reach::reach              `outcome_as_numbers` r ≡ reach_query board state processor scratch,
 --                             and the scratch after it ≡ reach_scratch ..
 --   queries::list_board       `outcome_as_numbers` r ≡ board_query board buffer, and the buffer after it ≡ board_buffer ..
 --   queries::list_board_in_place       the same, for the board and the state that it is lent

@@ -1,11 +1,12 @@
 -- What two entries of a board share. Specification, clauses 3.4 and 7.10.
-use Rattle.std.specs.Prelude.{Result, Ok, Err}
+use Rattle.std.specs.Prelude.{Result, Ok, Err, Option}
 use Rattle.refusals.specs.declared.Refusal.{Refusal}
 use Rattle.std.specs.Prelude.{ℕ, cond, not, ◌&&◌, List, eqb, ltb, get_or}
 use Rattle.std.specs.Int.Bits.{bit_and}
 use Rattle.masks.specs.Sets.{bit}
 use Rattle.refusals.specs.Number.{number_of}
 use Rattle.refusals.specs.Due.{due}
+use Rattle.conflicts.specs.declared.sharing.Conflict.{Conflict}
 use Rattle.conflicts.specs.Sharing.{shared_by, Over, no_conflict, conflict_as_numbers, over}
 use Rattle.rules.specs.declared.states.Terms.{Terms}
 use Rattle.rules.specs.declared.states.Board.{Board}

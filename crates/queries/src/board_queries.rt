@@ -5,42 +5,40 @@ ghost use Rattle.encoding.specs.Buffers.{outcome_as_numbers};
 ghost use Rattle.rules.specs.InPlace.{board_by, state_by};
 ghost use Rattle.queries.specs.WholeBoard.{board_query, board_buffer};
 
-use plans::{MAX_ENTRIES, MAX_PROCESSORS};
-use rules::{Board, Moment, State, Terms};
+use crate::lending::lent;
+use board_list::Columns;
+use plans::MAX_PROCESSORS;
+use refusals::Refusal;
+use rules::{Board, LentFacts, Moment, State};
 use settling::clean;
 use waits::waits_of_all;
-use refusals::Refusal;
 
 // Fills the buffer with the list and returns how many bytes it took; bytes after it stay. The parts of a board and a
 // state are lent, as in a call in place. A buffer that is too short is refused with 16, and then nothing is written.
 pub fn list_board_in_place(
-    terms: Terms,
-    rows: &[u64; MAX_ENTRIES],
-    moment: Moment,
-    requested: &[u8; MAX_PROCESSORS],
+    facts: LentFacts<'_>,
     since: &[u64; MAX_PROCESSORS],
-    earlier: &[u32; MAX_PROCESSORS],
+    moment: Moment,
     buffer: &mut [u8],
 ) -> Result<usize, Refusal>
     ensures outcome { outcome_as_numbers result
-        ≡ board_query (board_by terms rows.now []) buffer.old }
+        ≡ board_query (board_by facts.entry.terms facts.entry.rows.now []) buffer.old }
     ensures bytes { buffer.new ≡ board_buffer
-        (board_by terms rows.now [])
-        (state_by moment requested.now since.now earlier.now)
+        (board_by facts.entry.terms facts.entry.rows.now [])
+        (state_by moment facts.entry.requested.now since.now facts.entry.earlier.now)
         buffer.old }
 {
-    let given = moment.phases;
-    let phases = clean(terms, *requested, given);
-    let waits = waits_of_all(rows, terms.writes, requested, earlier, phases);
-    board_list::write(
-        terms.processors,
-        phases,
-        moment.last,
-        requested,
+    let phases = clean(facts.terms, *facts.requested, moment.phases);
+    let columns = Columns {
+        moment: Moment {
+            last: moment.last,
+            phases,
+        },
+        requested: facts.requested,
         since,
-        &waits,
-        buffer,
-    )
+        waits: &waits_of_all(facts, phases),
+    };
+    board_list::write(facts.terms.processors, columns, buffer)
 }
 
 // The same by value.
@@ -48,15 +46,9 @@ pub fn list_board(board: Board, state: State, buffer: &mut [u8]) -> Result<usize
     ensures outcome { outcome_as_numbers result ≡ board_query board buffer.old }
     ensures bytes { buffer.new ≡ board_buffer board state buffer.old }
 {
-    let terms = board.terms;
-    let rows = board.rows;
-    let given = state.phases;
     let moment = Moment {
         last: state.last,
-        phases: given,
+        phases: state.phases,
     };
-    let requested = state.requested;
-    let since = state.since;
-    let earlier = state.earlier;
-    list_board_in_place(terms, &rows, moment, &requested, &since, &earlier, buffer)
+    list_board_in_place(lent(&board, &state), &state.since, moment, buffer)
 }

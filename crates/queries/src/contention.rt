@@ -1,21 +1,14 @@
 // Which resources two entries of a board conflict over, for an integrator who sees that they conflict. Nothing is
 // changed.
-ghost use Rattle.std.specs.Prelude.{◌≡◌, get_or};
+ghost use Rattle.std.specs.Prelude.{◌≡◌};
 ghost use Rattle.conflicts.specs.Sharing.{conflict_as_numbers, over};
 ghost use Rattle.queries.specs.Contention.{shared_in, shared_as_numbers, shared_query, shared_of};
 
 use conflicts::{Conflict, conflict_by};
 use masks::{Mask, row_at};
 use plans::MAX_ENTRIES;
-use refusals::Refusal;
+use refusals::{Refusal, refuse_unless};
 use rules::{Board, Terms};
-
-// What the two entries conflict over, or the refusal.
-#[derive(Clone, Copy)]
-pub enum SharedAnswer {
-    Is(Conflict),
-    Refused(Refusal),
-}
 
 // The conflict of two entries, given which entries are writes and the names and widened sets of all entries.
 fn conflict_in(
@@ -53,12 +46,7 @@ pub fn shared_on(
 ) -> Result<Option<Conflict>, Refusal>
     ensures { shared_as_numbers result ≡ shared_of terms names.now widened.now first second }
 {
-    if terms.count <= first {
-        return Err(Refusal::Entry);
-    }
-    if terms.count <= second {
-        return Err(Refusal::Entry);
-    }
+    refuse_unless(first < terms.count && second < terms.count, Refusal::Entry)?;
     Ok(conflict_in(terms.writes, names, widened, first, second))
 }
 
@@ -66,8 +54,5 @@ pub fn shared_on(
 pub fn shared_by(board: Board, first: u8, second: u8) -> Result<Option<Conflict>, Refusal>
     ensures { shared_as_numbers result ≡ shared_query board first second }
 {
-    let terms = board.terms;
-    let names = board.names;
-    let widened = board.widened;
-    shared_on(terms, &names, &widened, first, second)
+    shared_on(board.terms, &board.names, &board.widened, first, second)
 }

@@ -5,14 +5,15 @@
 
 mod board_queries;
 mod contention;
+mod lending;
 mod phase_queries;
-mod query_answers;
 mod query_checks;
 mod wait_queries;
 
+pub use board_list::Phase;
 pub use board_queries::{list_board, list_board_in_place};
 pub use contention::{shared_by, shared_on};
+pub use lending::lent;
 pub use phase_queries::{phase_in_place, phase_of};
-pub use query_answers::Phase;
 pub use query_checks::check_processor;
 pub use wait_queries::{direct_rows, direct_waits, direct_waits_in_place};

@@ -12,7 +12,7 @@ pub fn check_processor(terms: Terms, processor: u8) -> Result<(), Refusal>
     ensures { verdict_number result ≡ processor_fault terms processor }
 {
     refuse_unless(
-        (processor < MAX_PROCESSORS as u8) & (processor < terms.processors),
+        processor < MAX_PROCESSORS as u8 && processor < terms.processors,
         Refusal::Processor,
     )
 }

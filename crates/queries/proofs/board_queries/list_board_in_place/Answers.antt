@@ -10,11 +10,12 @@ use Rattle.queries.proofs.board_queries.list_board_in_place.Goals as goal
 pub returns : goal.returns
 returns c =
     let a = c.args in
-    let b = board_by a.terms a.rows.now [] in
-    let s = state_by a.moment a.requested.now a.since.now a.earlier.now in
+    let f = a.facts in
+    let b = board_by f.terms f.rows.now [] in
+    let s = state_by a.moment f.requested.now a.since.now f.earlier.now in
     let counted = c.clean-phases.ensures in
     record {
       outcome = c.write.ensures.outcome;
       bytes = c.write.ensures.bytes
-          ∙ board_found b s _ _ counted (rows_counted b s _ counted _ c.waits_of_all-waits.ensures) a.buffer.now;
+          ∙ board_found b s _ _ counted (rows_counted b s _ counted _ c.waits_of_all.ensures) a.buffer.now;
     }

@@ -3,8 +3,8 @@ use Rattle.queries.specs.Queries.{state_number}
 use Rattle.queries.proofs.Answers.{accepted_says}
 use Rattle.queries.proofs.phase_queries.phase_in_place.Goals as goal
 
-pub returns-in-Ok : goal.returns-in-Ok
+pub returns : goal.returns
 unfolding state_number
-returns-in-Ok c =
-    accepted_says _ _ _ _ c.check_processor-verdict.ensures c.in-Ok.is
-    (rw c.clean.ensures at c.phase_at.ensures)
+returns c =
+    accepted_says _ _ _ _ c.check_processor.ensures c.in_ok-check_processor.was
+    (rw c.clean-counted.ensures at c.phase_at.ensures)
