@@ -7,37 +7,19 @@ pub fn copy_in(bytes: &[u8], buffer: &mut [u8]) -> usize
     ensures size { result ≡ min (length bytes.now) (length buffer.old) }
     ensures bytes { buffer.new ≡ copied_in bytes.now buffer.old }
 {
-    let most = if bytes.len() < buffer.len() {
-        bytes.len()
-    } else {
-        buffer.len()
-    };
-    let mut i = 0;
-    while i < most {
-        buffer[i] = bytes[i];
-        i += 1;
-    }
-    i
+    let most = bytes.len().min(buffer.len());
+    buffer[..most].copy_from_slice(&bytes[..most]);
+    most
 }
 
-// How many bytes are between two positions. The second position counts only as far as the buffer goes.
-fn between(from: usize, have: usize, size: usize) -> usize
-    ensures { result ≡ min have size - from }
-{
-    let end = if have < size { have } else { size };
-    if from < end { end - from } else { 0 }
-}
-
-// Moves the bytes between two positions of the buffer to its front, and returns how many there are.
+// Moves the bytes between two positions of the buffer to its front, and returns how many there are. The positions count
+// only as far as the buffer goes.
 pub fn bring_to_front(buffer: &mut [u8], from: usize, have: usize) -> usize
     ensures size { result ≡ min have (length buffer.old) - from }
     ensures bytes { buffer.new ≡ brought_front from have buffer.old }
 {
-    let rest = between(from, have, buffer.len());
-    let mut i = 0;
-    while i < rest {
-        buffer[i] = buffer[from + i];
-        i += 1;
-    }
-    rest
+    let end = have.min(buffer.len());
+    let start = from.min(end);
+    buffer.copy_within(start..end, 0);
+    end - start
 }

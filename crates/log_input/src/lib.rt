@@ -8,7 +8,7 @@ mod front_bytes;
 mod needed_input;
 mod reads;
 
-pub use failures::{Source, tell};
+pub use failures::tell;
 pub use front_bytes::{bring_to_front, copy_in};
 pub use needed_input::due_size;
 pub use reads::{Fed, fill_plan, fill_to};

@@ -1,27 +1,15 @@
 // How many bytes to wait for when a log arrives in pieces. Specification, clause 9.10.
-ghost use Rattle.std.specs.Prelude.{◌≡◌, eqb};
-ghost use Rattle.encoding.specs.Buffers.{outcome_as_numbers};
+ghost use Rattle.std.specs.Prelude.{◌≡◌};
 ghost use Rattle.log_input.specs.Stages.{is_short, due_size};
 
 use logs::RECORD_BYTES;
 use refusals::Refusal;
 
-fn short_outcome(outcome: Result<usize, Refusal>) -> bool
-    ensures { result ≡ eqb (outcome_as_numbers outcome).number 1 }
-{
-    match outcome {
-        Ok(_) => false,
-        Err(refusal) => u8::from(refusal) == 1,
-    }
-}
-
 // Whether more bytes of a plan are needed: the bytes so far are refused for that reason alone.
 pub fn is_short(bytes: &[u8]) -> bool
     ensures { result ≡ is_short bytes.now }
 {
-    let read = plan_bytes::read(bytes);
-    let outcome = read.outcome;
-    short_outcome(outcome)
+    matches!(plan_bytes::read(bytes), Err(Refusal::Short))
 }
 
 // How many bytes to wait for with this number of calls left: a record, or a single byte after the last call.

@@ -1,47 +1,67 @@
 // Reads into a lent buffer, after the bytes that it already contains.
-ghost use Rattle.std.specs.Prelude.{◌≡◌, ◌+◌, ◌≤◌, min, true, length, take};
+ghost use Rattle.std.specs.Prelude.{◌≡◌, ◌+◌, ◌≤◌, ◌<◌, Bool, true, false, length, take, IfOk, OnSome};
+ghost use Rattle.std.specs.Fn.{FnReturnsAt};
 ghost use Rattle.log_input.specs.Reads.{at_hand, EnoughIsLeft, FailsShort, FailsUndecided};
 
 use crate::needed_input::is_short;
+use std::io;
 use std::io::Read;
 
-// How many bytes a buffer contains after some reads, and whether the last read failed.
+// How many bytes a buffer contains after some reads, and why the last read failed, if it did.
+// Kept: no `Result`, since the bytes that came before a failure still count: their calls are carried out.
 #[derive(Clone, Copy)]
 pub struct Fed {
     pub have: usize,
-    pub failed: bool,
+    pub failure: Option<io::Error>,
 }
 
-// How many bytes one read stored, and whether it failed. No bytes without a failure mean the end of the input.
-#[derive(Clone, Copy)]
-struct Got {
-    bytes: usize,
-    failed: bool,
-}
-
-// One read, into the buffer after its first bytes. A read that fails counts no byte.
-fn read_behind<R: Read>(input: &mut R, buffer: &mut [u8], have: usize) -> Got
+// One read, into the buffer after its first bytes. No bytes mean the end of the input.
+fn read_behind<R: Read>(input: &mut R, buffer: &mut [u8], have: usize) -> io::Result<usize>
     requires { have ≤ length buffer.old }
-    ensures within { have + result.bytes ≤ length buffer.new }
+    ensures size { length buffer.new ≡ length buffer.old }
+    ensures within { IfOk result (λ bytes. have + bytes ≤ length buffer.new) }
     ensures kept { take have buffer.new ≡ take have buffer.old }
-    ensures failure { result.failed ≡ true → result.bytes ≡ 0 }
 {
-    match input.read(&mut buffer[have..]) {
-        Ok(bytes) => Got {
-            bytes: bytes,
-            failed: false, // these bytes, or the end
-        },
-        Err(_) => Got {
-            bytes: 0,
-            failed: true,
-        },
-    }
+    input.read(&mut buffer[have..])
 }
 
-fn least(a: usize, b: usize) -> usize
-    ensures { result ≡ min a b }
+// Reads while the bytes so far ask for more, until the buffer is full, or the input ends, or a read fails. The first
+// bytes are at hand: they stay and are counted.
+fn fill_while<R: Read, F: Fn(&[u8]) -> bool>(
+    input: &mut R,
+    buffer: &mut [u8],
+    first: usize,
+    waits: F,
+) -> Fed
+    requires callable { F.IsAlwaysCallable waits }
+    requires inside { first ≤ length buffer.old }
+    ensures within { result.have ≤ length buffer.new }
+    ensures kept { take first buffer.new ≡ take first buffer.old }
+    ensures size { length buffer.new ≡ length buffer.old }
+    ensures counted { first ≤ result.have }
+    ensures enough { ((more : Bool) → FnReturnsAt F.Fn waits (take first buffer.old) more → more ≡ false)
+        → (buffer.new ≡ buffer.old) × (result.have ≡ first) }
+    ensures failure { OnSome result.failure
+        ((result.have < length buffer.new) × FnReturnsAt F.Fn waits (take result.have buffer.new) true) }
 {
-    if a < b { a } else { b }
+    let mut have = first;
+    while have < buffer.len() && waits(&buffer[..have]) {
+        match read_behind(input, buffer, have) {
+            Ok(0) => return Fed {
+                have,
+                failure: None,
+            },
+            Ok(bytes) => have += bytes,
+            Err(reason) => return Fed {
+                have,
+                failure: Some(reason),
+            },
+        }
+    }
+    Fed {
+        have,
+        failure: None,
+    }
 }
 
 // Reads until the buffer contains as many bytes as are needed, or is full, or the input ends, or a read fails. The
@@ -52,24 +72,10 @@ pub fn fill_to<R: Read>(input: &mut R, buffer: &mut [u8], first: usize, needed: 
     ensures size { length buffer.new ≡ length buffer.old }
     ensures counted { at_hand first buffer.old ≤ result.have }
     ensures enough { EnoughIsLeft first needed buffer.old buffer.new result.have }
-    ensures failure { FailsShort needed buffer.old result.have result.failed }
+    ensures failure { FailsShort needed buffer.old result.have result.failure }
 {
-    let most = least(needed, buffer.len());
-    let mut have = least(first, buffer.len());
-    while have < most {
-        let got = read_behind(input, buffer, have);
-        if got.bytes == 0 {
-            return Fed {
-                have: have,
-                failed: got.failed,
-            };
-        }
-        have += got.bytes;
-    }
-    Fed {
-        have: have,
-        failed: false, // enough, or full
-    }
+    let at_hand = first.min(buffer.len());
+    fill_while(input, buffer, at_hand, |bytes| bytes.len() < needed)
 }
 
 // Reads until the bytes so far decide that the plan at the start of the buffer is accepted or refused, or the input
@@ -77,21 +83,7 @@ pub fn fill_to<R: Read>(input: &mut R, buffer: &mut [u8], first: usize, needed: 
 pub fn fill_plan<R: Read>(input: &mut R, buffer: &mut [u8]) -> Fed
     ensures within { result.have ≤ length buffer.new }
     ensures kept { length buffer.new ≡ length buffer.old }
-    ensures failure { FailsUndecided buffer.new result.have result.failed }
+    ensures failure { FailsUndecided buffer.new result.have result.failure }
 {
-    let mut have = 0;
-    while have < buffer.len() && is_short(&buffer[..have]) {
-        let got = read_behind(input, buffer, have);
-        if got.bytes == 0 {
-            return Fed {
-                have: have,
-                failed: got.failed,
-            };
-        }
-        have += got.bytes;
-    }
-    Fed {
-        have: have,
-        failed: false, // decided, or full
-    }
+    fill_while(input, buffer, 0, is_short)
 }

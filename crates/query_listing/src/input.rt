@@ -1,6 +1,6 @@
 // The log as it arrives, by value: the program waits for no more bytes than it needs to go on. A failed read is
 // reported here.
-use log_input::{Fed, Source, bring_to_front, fill_plan, fill_to, tell};
+use log_input::{Fed, bring_to_front, fill_plan, fill_to, tell};
 use std::io::Stdin;
 
 // More than the size of the longest plan.
@@ -17,32 +17,29 @@ pub struct Input {
 
 fn input_of(
     rt: &HostRuntime,
-    source: &Source<Stdin>,
     bytes: [u8; INPUT_ROOM],
     fed: Fed,
     ended: bool,
 ) -> Input {
-    if fed.failed {
-        tell(rt, "query_listing: standard input", source.reason);
-    }
+    tell(rt, "query_listing: standard input", fed.failure);
     Input {
         bytes: bytes,
         have: fed.have,
-        over: fed.failed | ended,
+        over: fed.failure.is_some() | ended,
     }
 }
 
 // The start of the input, at least up to the plan's end.
-pub fn opening(rt: &HostRuntime, source: &mut Source<Stdin>) -> Input {
+pub fn opening(rt: &HostRuntime, source: &mut Stdin) -> Input {
     let mut bytes = [0u8; INPUT_ROOM];
     let fed = fill_plan(source, &mut bytes);
-    input_of(rt, source, bytes, fed, false)
+    input_of(rt, bytes, fed, false)
 }
 
 // So many bytes are used. After them so many are needed, or none if the replay has ended.
 pub fn after(
     rt: &HostRuntime,
-    source: &mut Source<Stdin>,
+    source: &mut Stdin,
     input: Input,
     used: usize,
     needed: usize,
@@ -51,5 +48,5 @@ pub fn after(
     let mut bytes = input.bytes;
     let first = bring_to_front(&mut bytes, used, input.have);
     let fed = fill_to(source, &mut bytes, first, needed);
-    input_of(rt, source, bytes, fed, ended)
+    input_of(rt, bytes, fed, ended)
 }

@@ -12,7 +12,7 @@ mod text;
 use board_line::put_list;
 use input::{INPUT_ROOM, Input, after, opening};
 use listings::line_size;
-use log_input::{Source, due_size};
+use log_input::due_size;
 use logs::{CALL_COUNT_BYTES, RECORD_BYTES};
 use plans::MAX_PROCESSORS;
 use query_line::query_line;
@@ -69,7 +69,7 @@ fn print_call(rt: &HostRuntime, board: Board, state: State, bytes: [u8; INPUT_RO
 // A call, and then as much of the input as is needed with so many calls left: none after the end.
 fn take_turn(
     rt: &HostRuntime,
-    source: &mut Source<Stdin>,
+    source: &mut Stdin,
     board: Board,
     turn: Turn,
     left: u16,
@@ -112,7 +112,7 @@ fn print_end(rt: &HostRuntime, left: u16, input: Input) {
 // The calls, one by one as they arrive.
 fn print_calls(
     rt: &HostRuntime,
-    source: &mut Source<Stdin>,
+    source: &mut Stdin,
     board: Board,
     state: State,
     calls: u16,
@@ -143,7 +143,7 @@ fn print_count(rt: &HostRuntime, input: Input) -> Result<u16, Refusal> {
 // After the plan: the call count, and then the calls. A failed read leaves too few bytes for a count.
 fn print_rest(
     rt: &HostRuntime,
-    source: &mut Source<Stdin>,
+    source: &mut Stdin,
     board: Board,
     state: State,
     input: Input,
@@ -166,10 +166,7 @@ fn print_plan(rt: &HostRuntime, input: Input) -> Begun {
 
 // A failed read leaves less than a plan.
 fn main(rt: HostRuntime) {
-    let mut source = Source {
-        input: rt.stdin(),
-        reason: None,
-    };
+    let mut source = rt.stdin();
     let input = opening(&rt, &mut source);
     let begun = print_plan(&rt, input);
     let outcome = begun.outcome;

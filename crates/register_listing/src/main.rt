@@ -8,7 +8,7 @@ mod driver;
 mod text;
 
 use driver::{read_lent, write_lent};
-use log_input::{Source, bring_to_front, fill_plan, fill_to, tell};
+use log_input::{bring_to_front, fill_plan, fill_to, tell};
 use plans::Plan;
 use refusals::Refusal;
 use registers::{BLOCK, Block};
@@ -105,13 +105,11 @@ fn has_operation(input: Input) -> bool {
 }
 
 // So many bytes are used. After them the next operation is read, as far as the input goes.
-fn after(rt: &HostRuntime, source: &mut Source<Stdin>, input: Input, used: usize) -> Input {
+fn after(rt: &HostRuntime, source: &mut Stdin, input: Input, used: usize) -> Input {
     let mut bytes = input.bytes;
     let first = bring_to_front(&mut bytes, used, input.have);
     let fed = fill_to(source, &mut bytes, first, OPERATION);
-    if fed.failed {
-        tell(rt, "register_listing: standard input", source.reason);
-    }
+    tell(rt, "register_listing: standard input", fed.failure);
     Input {
         bytes: bytes,
         have: fed.have,
@@ -120,7 +118,7 @@ fn after(rt: &HostRuntime, source: &mut Source<Stdin>, input: Input, used: usize
 
 // A proved loop must end, and nothing states that the input does. So the loop counts its turns down, from a number that
 // no run uses up.
-fn take_turns(rt: &HostRuntime, source: &mut Source<Stdin>, first: Kept, given: Input) {
+fn take_turns(rt: &HostRuntime, source: &mut Stdin, first: Kept, given: Input) {
     let mut kept = first;
     let mut input = given;
     let mut turns = u64::MAX;
@@ -146,7 +144,7 @@ fn opened(plan: Plan) -> Kept {
 }
 
 // The count of bytes is taken modulo the number of counts, so that it is in range.
-fn print_listing(rt: &HostRuntime, source: &mut Source<Stdin>, input: Input) {
+fn print_listing(rt: &HostRuntime, source: &mut Stdin, input: Input) {
     let bytes = input.bytes;
     let end = input.have % COUNTS;
     let read = plan_bytes::read(&bytes[..end]);
@@ -162,14 +160,11 @@ fn print_listing(rt: &HostRuntime, source: &mut Source<Stdin>, input: Input) {
 }
 
 fn main(rt: HostRuntime) {
-    let mut source = Source {
-        input: rt.stdin(),
-        reason: None,
-    };
+    let mut source = rt.stdin();
     let mut bytes = [0u8; INPUT_ROOM];
     let fed = fill_plan(&mut source, &mut bytes);
-    if fed.failed {
-        tell(&rt, "register_listing: standard input", source.reason);
+    if fed.failure.is_some() {
+        tell(&rt, "register_listing: standard input", fed.failure);
     } else {
         let input = Input {
             bytes: bytes,
