@@ -8,7 +8,7 @@ ghost use Rattle.rules.specs.InPlace.{facts_lent};
 ghost use Rattle.rules.specs.inner.Moves.{Known, unopposed_in, first_in_line};
 
 use crate::known_requests::add_if;
-use masks::{EachPlace, meet64};
+use masks::meet64;
 use plans::{MAX_ENTRIES, MAX_PROCESSORS};
 use rules::LentFacts;
 
@@ -47,8 +47,11 @@ pub fn known_among(requested: &[u8; MAX_PROCESSORS], set: u64, among: u32) -> u3
     ensures { result ≡ mask_of max_processors (λ p. bit among p && bit set (get_or requested.now p 0)) }
 {
     let mut out: u32 = 0;
-    for p in EachPlace(among) {
+    let mut left = among;
+    while left != 0 {
+        let p = u32::trailing_zeros(left);
         out = add_if_in(out, p, set, entry_at(requested, p));
+        left = left & (left - 1);
     }
     out
 }
@@ -70,8 +73,11 @@ pub fn those_in(requested: &[u8; MAX_PROCESSORS], set: u64, among: u32) -> u32
     ensures { result ≡ mask_of max_processors (λ p. bit among p && bit set (get_or requested.now p 0)) }
 {
     let mut out: u32 = 0;
-    for p in EachPlace(among) {
+    let mut left = among;
+    while left != 0 {
+        let p = u32::trailing_zeros(left);
         out = add_if_there(out, p, set, entry_at(requested, p));
+        left = left & (left - 1);
     }
     out
 }
@@ -83,8 +89,10 @@ fn entries_of(requested: &[u8; MAX_PROCESSORS], among: u32) -> u64
         ≡ some max_processors (λ q. bit among q && bit row (get_or requested.now q 0)) }
 {
     let mut set: u64 = 0;
-    for p in EachPlace(among) {
-        set = set | (1 << entry_at(requested, p));
+    let mut left = among;
+    while left != 0 {
+        set = set | (1 << entry_at(requested, u32::trailing_zeros(left)));
+        left = left & (left - 1);
     }
     set
 }
@@ -94,10 +102,12 @@ fn in_row(row: u64, requested: &[u8; MAX_PROCESSORS], among: u32) -> bool
     requires { Known requested.now among }
     ensures { result ≡ some max_processors (λ q. bit among q && bit row (get_or requested.now q 0)) }
 {
-    for p in EachPlace(among) {
-        if (row >> entry_at(requested, p)) % 2 == 1 {
+    let mut left = among;
+    while left != 0 {
+        if (row >> entry_at(requested, u32::trailing_zeros(left))) % 2 == 1 {
             return true;
         }
+        left = left & (left - 1);
     }
     false
 }
@@ -109,8 +119,11 @@ fn clear_of(facts: LentFacts<'_>, candidates: u32, set: u64) -> u32
         && not (meets (get_or facts.entry.rows.now (get_or facts.entry.requested.now p 0) 0) set)) }
 {
     let mut out: u32 = 0;
-    for p in EachPlace(candidates) {
+    let mut left = candidates;
+    while left != 0 {
+        let p = u32::trailing_zeros(left);
         out = add_if(out, p, !meet64(row_at(facts, p), set));
+        left = left & (left - 1);
     }
     out
 }
@@ -138,13 +151,16 @@ pub fn first_in_queue(facts: LentFacts<'_>, candidates: u32, others: u32) -> u32
     ensures { result ≡ first_in_line (facts_lent facts.entry) candidates others }
 {
     let mut out: u32 = 0;
-    for p in EachPlace(candidates) {
+    let mut left = candidates;
+    while left != 0 {
+        let p = u32::trailing_zeros(left);
         let before = in_row(
             row_at(facts, p),
             facts.requested,
             facts.earlier[p as usize] & others,
         );
         out = add_if(out, p, !before);
+        left = left & (left - 1);
     }
     out
 }

@@ -8,8 +8,10 @@ use Rattle.rules.specs.inner.Moves.{Known}
 use Rattle.settling.proofs.conflict_walks.Opposed.{opposed}
 use Rattle.settling.proofs.conflict_walks.first_in_queue.Given as goal
 
-abbrev pub invariant-loop-p : goal.invariant-loop-p
-invariant-loop-p l =
-    (goal.iterator-loop-p).can_next l.p-iterator × (goal.iterator-loop-p).is_finite l.p-iterator
-    × Kept max_processors 32 (λ p. not (opposed (facts_lent l.facts) l.others p)) l.fn.candidates l.p-iterator.0 l.out
-    × Known l.facts.requested.now l.p-iterator.0
+abbrev pub invariant-loop-left : goal.invariant-loop-left
+invariant-loop-left l =
+    Kept max_processors 32 (λ p. not (opposed (facts_lent l.facts) l.others p)) l.candidates l.left l.out
+    × Known l.facts.requested.now l.left
+
+abbrev pub decreases-loop-left : goal.decreases-loop-left
+decreases-loop-left l = l.left

@@ -5,7 +5,8 @@ use Rattle.masks.proofs.Walks.{Kept}
 use Rattle.plans.specs.Entries.{max_processors}
 use Rattle.settling.proofs.conflict_walks.those_in.Given as goal
 
-abbrev pub invariant-loop-p : goal.invariant-loop-p
-invariant-loop-p l =
-    (goal.iterator-loop-p).can_next l.p-iterator × (goal.iterator-loop-p).is_finite l.p-iterator
-    × Kept max_processors 32 (λ p. bit l.set (get_or l.requested p 0)) l.fn.among l.p-iterator.0 l.out
+abbrev pub invariant-loop-left : goal.invariant-loop-left
+invariant-loop-left l = Kept max_processors 32 (λ p. bit l.set (get_or l.requested p 0)) l.among l.left l.out
+
+abbrev pub decreases-loop-left : goal.decreases-loop-left
+decreases-loop-left l = l.left
