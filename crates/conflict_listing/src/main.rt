@@ -5,67 +5,49 @@
 use conflicts::Conflict;
 use log_input::fill_to;
 use plans::MAX_PLAN_BYTES;
+use probe_io::Refused;
 use queries::shared_by;
 use refusals::Refusal;
 use rules::Board;
 
-fn print_refusal(rt: &HostRuntime, refusal: Refusal) {
-    let number = u8::from(refusal);
-    let _ = print!(rt; "refused {number}");
-}
-
-fn print_conflict(rt: &HostRuntime, conflict: Option<Conflict>) {
-    let _ = match conflict {
-        None => print!(rt; "none"),
-        Some(Conflict { lowest, count }) => print!(rt; "{lowest} {count}"),
+fn print_pair(rt: &HostRuntime, board: &Board, first: u8, second: u8) {
+    let _ = match shared_by(*board, first, second) {
+        Ok(None) => println!(rt; "{first} {second} none"),
+        Ok(Some(Conflict { lowest, count })) => println!(rt; "{first} {second} {lowest} {count}"),
+        Err(refusal) => println!(rt; "{first} {second} {}", Refused(refusal)),
     };
 }
 
-fn print_pair(rt: &HostRuntime, board: Board, first: u8, second: u8) {
-    let _ = print!(rt; "{first} {second} ");
-    let answer = shared_by(board, first, second);
-    match answer {
-        Ok(conflict) => print_conflict(rt, conflict),
-        Err(refusal) => print_refusal(rt, refusal),
-    }
-    let _ = println!(rt);
-}
-
 // The pairs of an entry with itself and with each later one.
-fn print_row(rt: &HostRuntime, board: Board, first: u8, count: u8) {
-    let mut second = first;
-    while second < count {
+fn print_row(rt: &HostRuntime, board: &Board, first: u8) {
+    for second in first..board.terms.count {
         print_pair(rt, board, first, second);
-        second += 1;
     }
 }
 
 // All pairs, and then one with the first number that is not an entry.
-fn print_pairs(rt: &HostRuntime, board: Board, count: u8) {
-    let mut first: u8 = 0;
-    while first < count {
-        print_row(rt, board, first, count);
-        first += 1;
+fn print_pairs(rt: &HostRuntime, board: &Board) {
+    let count = board.terms.count;
+    for first in 0..count {
+        print_row(rt, board, first);
     }
     print_pair(rt, board, 0, count);
+}
+
+// The board of the plan at the start of the bytes.
+fn board_of(bytes: &[u8]) -> Result<Board, Refusal> {
+    let read = plan_bytes::read(bytes)?;
+    let fresh = boards::fresh_of(read.plan)?;
+    Ok(fresh.board)
 }
 
 fn main(rt: HostRuntime) {
     let mut bytes = [0u8; MAX_PLAN_BYTES];
     let fed = fill_to(&mut rt.stdin(), &mut bytes, 0, MAX_PLAN_BYTES);
-    let filled = fed.have;
-    let read = plan_bytes::read(&bytes[..filled]);
-    let outcome = read.outcome;
-    match outcome {
-        Ok(_) => {
-            let plan = read.plan;
-            let fresh = boards::fresh_of(plan);
-            let board = fresh.board;
-            print_pairs(&rt, board, plan.count);
-        }
+    match board_of(&bytes[..fed.have]) {
+        Ok(board) => print_pairs(&rt, &board),
         Err(refusal) => {
-            print_refusal(&rt, refusal);
-            let _ = println!(rt);
+            let _ = println!(rt; "{}", Refused(refusal));
         }
     }
 }
