@@ -4,12 +4,12 @@ ghost use Rattle.std.specs.Prelude.{◌≡◌};
 ghost use Rattle.refusals.specs.Number.{verdict_number};
 ghost use Rattle.rules.specs.Faults.{handover_fault};
 
-use crate::conditions::{is_active, is_counted, is_in_time, is_unsatisfied};
+use crate::conditions::{check_caller, is_active, is_unsatisfied};
 use refusals::{Refusal, refuse_unless};
 use rules::{Phases, Terms};
 
 // Clause 4.5: refuses with 10, 11, 12, 14, 15, in this order.
-#[tactic(auto, using(refusals::proofs::Numbers::first_refuses_verdict, refusals::proofs::Numbers::first_accepts_verdict), unfolding(rules::specs::Faults::handover_fault))]
+#[tactic(auto, using(refusals::proofs::Numbers::first_refuses_verdict, refusals::proofs::Numbers::first_accepts_verdict, refusals::proofs::Numbers::first_assoc), unfolding(rules::specs::Faults::handover_fault))]
 pub fn check_handover(
     terms: Terms,
     last: u64,
@@ -20,8 +20,7 @@ pub fn check_handover(
 ) -> Result<(), Refusal>
     ensures { verdict_number result ≡ handover_fault terms last phases processor entry tick }
 {
-    refuse_unless(is_in_time(last, tick), Refusal::Tick)?;
-    refuse_unless(is_counted(terms, processor), Refusal::Processor)?;
+    check_caller(terms, last, processor, tick)?;
     refuse_unless(entry < terms.count, Refusal::Entry)?;
     refuse_unless(is_active(phases, processor), Refusal::Idle)?;
     refuse_unless(!is_unsatisfied(phases, processor), Refusal::Unheld)
