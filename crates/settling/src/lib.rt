@@ -5,6 +5,7 @@
 mod conflict_walks;
 mod counted_requests;
 mod known_requests;
+mod picking;
 mod settle_phases;
 mod steps;
 

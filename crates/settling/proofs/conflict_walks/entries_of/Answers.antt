@@ -10,14 +10,14 @@ use Rattle.settling.proofs.Processors.{lowest_entry}
 use Rattle.settling.proofs.conflict_walks.entries_of.Goals as goal
 
 pub overflow_shl-set : goal.overflow_shl-set
-overflow_shl-set c = rw c.entry_at.ensures (lowest_entry c.loop-left.invariant.1 (omega arith))
+overflow_shl-set c = lowest_entry c.loop-left.invariant.1 (omega arith)
 
 pub loop-left-preserved : goal.loop-left-preserved
 loop-left-preserved c =
     let loop = c.loop-left in
     let below = lowest_entry loop.invariant.1 (omega arith) in (
       gathered_more _ (omega arith) loop.invariant.0 below
-          (rw c.entry_at.ensures (ap (λ (x : ℕ). bit_or loop.set x) (one_shifted max_entries _ below))),
+          (ap (λ (x : ℕ). bit_or loop.set x) (one_shifted max_entries _ below)),
       known_and _ loop.invariant.1,
     )
 

@@ -4,6 +4,7 @@ use mathlib.Core.Path.{◌≡◌, sym, ap, ◌∙◌}
 use mathlib.Core.Bool.{not, ◌&&◌, and-true}
 use Prim.Native.Nat.{ℕ, ◌^◌, ◌<◌}
 use lib.ListN.{get_or}
+use borrow.Author.Rules.{rules}
 use Rattle.masks.specs.Sets.{bit, some, meets, mask_of}
 use Rattle.masks.proofs.Masks.{is_mask, mask_agree}
 use Rattle.masks.proofs.Walks.{none_kept, some_last}
@@ -33,6 +34,9 @@ returns-then-candidates-eq0 c = none_kept max_processors _ _ c.if-candidates-eq0
 
 pub returns-then-others-eq0 : goal.returns-then-others-eq0
 returns-then-others-eq0 c =
-    let a = c.args in
-    no-others (facts_lent a.facts) _ _ c.ranges.candidates.fits
-    c.if-others-eq0.true
+    no-others (facts_lent c.args.facts) _ _ c.ranges.candidates.fits c.if-others-eq0.true
+
+pub returns : goal.returns
+returns c =
+    clear-of-others (facts_lent c.args.facts) _ _ _ _ c.entries_of-set.ensures
+    (c.those.ensures _ (λ p r l h e. search rules))
