@@ -1,52 +1,23 @@
 // Known requests: those whose entries are below a count, as masks of processors. With the number of a plan's entries as
 // the count, they are the requests that count (specification, clause 4.10). With the number of rows, they are those
 // that can conflict at all (clause 5.7).
-ghost use Rattle.std.specs.Prelude.{◌≡◌, cond, ◌&&◌, ℕ, ◌<◌, ◌≤◌, ltb, get_or};
-ghost use Rattle.masks.specs.Sets.{bit, added, mask_of};
+ghost use Rattle.std.specs.Prelude.{◌≡◌, ◌&&◌, ℕ, ◌<◌, ◌≤◌, ltb, get_or};
+ghost use Rattle.masks.specs.Sets.{bit, mask_of};
 ghost use Rattle.plans.specs.Entries.{max_processors};
 
+use crate::picking::those;
 use plans::MAX_PROCESSORS;
 
-// A mask of all processors.
-pub const ALL: u32 = ((1u64 << MAX_PROCESSORS as u64) - 1) as u32;
-
-// Adds the place to the set if the test is true.
-pub fn add_if(set: u32, place: u32, test: bool) -> u32
-    requires { place < 32 }
-    ensures { result ≡ cond test (added set place) set }
-{
-    if test { set | (1 << place) } else { set }
-}
-
-// Those among the processors whose requests' entries are below the count, checked one by one.
-fn each_below(among: u32, count: u8, requested: &[u8; MAX_PROCESSORS]) -> u32
-    ensures { result ≡ mask_of max_processors (λ p. bit among p && ltb (get_or requested.now p 0) count) }
-{
-    let mut out: u32 = 0;
-    let mut left = among & ALL;
-    while left != 0 {
-        let p = u32::trailing_zeros(left);
-        out = add_if(out, p, requested[p as usize] < count);
-        left = left & (left - 1);
-    }
-    out
-}
-
-fn larger(a: u8, b: u8) -> u8
-    ensures { (a ≤ result) × (b ≤ result) }
-{
-    if a < b { b } else { a }
-}
+// A mask of all processors: a u32 has a place for each, and for nothing else.
+pub const ALL: u32 = u32::MAX;
 
 // The largest entry of a request. The loop does nothing else, so that the compiled code compares 16 entries at once.
 fn largest(requested: &[u8; MAX_PROCESSORS]) -> u8
     ensures { (p : ℕ) → p < max_processors → get_or requested.now p 0 ≤ result }
 {
     let mut most: u8 = 0;
-    let mut p: usize = 0;
-    while p < MAX_PROCESSORS {
-        most = larger(most, requested[p]);
-        p += 1;
+    for &entry in requested {
+        most = most.max(entry);
     }
     most
 }
@@ -58,9 +29,9 @@ pub fn entries_below(among: u32, count: u8, requested: &[u8; MAX_PROCESSORS]) ->
     ensures { result ≡ mask_of max_processors (λ p. bit among p && ltb (get_or requested.now p 0) count) }
 {
     if largest(requested) < count {
-        return among & ALL;
+        return among;
     }
-    each_below(among, count, requested)
+    those(among, |p| requested[p as usize] < count)
 }
 
 // All processors whose requests' entries are below the count. It compares the largest first: if all are below, the
