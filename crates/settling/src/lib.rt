@@ -6,10 +6,9 @@ mod conflict_walks;
 mod counted_requests;
 mod known_requests;
 mod picking;
-mod settle_phases;
 mod steps;
 
 pub use conflict_walks::those_in;
 pub use counted_requests::clean;
 pub use known_requests::ALL;
-pub use settle_phases::settle;
+pub use steps::settle;

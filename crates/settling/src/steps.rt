@@ -1,25 +1,34 @@
-// The four settling steps. Specification, section 5.
-ghost use Rattle.std.specs.Prelude.{◌≡◌};
+// Settling: which requests become entitled, and which begin to hold, after a request entered or left. It uses masks of
+// processors and changes only the phases. Specification, section 5.
+ghost use Rattle.std.specs.Prelude.{◌≡◌, length};
+ghost use Rattle.plans.specs.Entries.{max_entries};
 ghost use Rattle.rules.specs.InPlace.{facts_lent};
 ghost use Rattle.rules.specs.Settling.{settled};
-ghost use Rattle.rules.specs.declared.states.Phases.{Phases};
-ghost use Rattle.rules.specs.inner.Moves.{Table, known_in, Follows};
+ghost use Rattle.rules.specs.inner.Moves.{Table, known_in};
 
 use crate::conflict_walks::{first_in_queue, known_among, unopposed};
+use crate::known_requests::all_below;
+use plans::MAX_PROCESSORS;
 use rules::{LentFacts, Phases};
+
+// The processors whose requests' entries have a row. Every entry below 64 has one.
+fn known_in(rows: &[u64], requested: &[u8; MAX_PROCESSORS]) -> u32
+    requires { length rows.now ≡ max_entries }
+    ensures { (result ≡ known_in requested.now) × Table rows.now }
+{
+    all_below(rows.len() as u8, requested)
+}
 
 // The phases after the four steps. Each step uses the masks that the step before it left. Of the known processors, w
 // are the active ones whose requests are writes, and r are the others.
-pub fn four_steps(
-    facts: LentFacts<'_>,
-    known: u32,
-    mut waiting: u32,
-    mut entitled: u32,
-    mut holding: u32,
-) -> Phases
-    requires { (known ≡ known_in facts.requested.now) × Table facts.rows.now }
-    ensures { (ph : Phases) → Follows ph waiting entitled holding → result ≡ settled (facts_lent facts.entry) ph }
+pub fn settle(facts: LentFacts<'_>, phases: Phases) -> Phases
+    ensures { result ≡ settled (facts_lent facts.entry) phases }
 {
+    let mut waiting = phases.waiting;
+    let mut entitled = phases.entitled;
+    let mut holding = phases.holding;
+    let rows = facts.rows;
+    let known = known_in(rows, facts.requested);
     let w = known_among(
         facts.requested,
         facts.terms.writes,
