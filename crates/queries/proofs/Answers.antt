@@ -1,19 +1,16 @@
 -- What follows when the checks of a query accept it, and the direct waits of a processor that counts. Assumes nothing.
-use Rattle.std.specs.Prelude.{Result, Ok, Err}
-use Prim.Native.Nat.{ℕ, ◌<◌, ◌≤◌}
+use Rattle.std.specs.Prelude.{Result, Ok}
+use Prim.Native.Nat.{ℕ, ◌<◌}
 use mathlib.Core.Path.{◌≡◌, refl, ap, ◌∙◌}
 use mathlib.Core.List.{List}
-use native.Mathlib.Omega.{arith}
 use lib.Dec.{ltb, lit<}
 use borrow.Author.Tests.{ltb-true, lt-ltb}
 use Rattle.masks.specs.Sets.{mask_of}
 use Rattle.masks.proofs.Truth.{and_left}
 use Rattle.refusals.specs.declared.Refusal.{Refusal}
-use Rattle.refusals.specs.Number.{number_of, verdict_number}
-use Rattle.refusals.specs.Due.{AsNumbers, first_of, as_numbers}
-use Rattle.refusals.proofs.Numbers.{first_accepted, due_accepted, number_not_zero}
-use Rattle.encoding.specs.Buffers.{room_fault}
-use Rattle.encoding.proofs.Room.{room_fits}
+use Rattle.refusals.specs.Number.{verdict_number}
+use Rattle.refusals.specs.Due.{AsNumbers, as_numbers}
+use Rattle.refusals.proofs.Numbers.{due_accepted}
 use Rattle.plans.specs.Entries.{max_processors}
 use Rattle.masks.specs.Tabulation.{tabulate}
 use Rattle.rules.specs.declared.states.Phases.{Phases}
@@ -24,7 +21,7 @@ use Rattle.rules.specs.CountedRequests.{has_processor}
 use Rattle.rules.specs.Faults.{processor_fault}
 use Rattle.rules.specs.Calls.{facts_of, phases_of}
 use Rattle.waits.specs.Waits.{waits_in, waits_of}
-use Rattle.queries.specs.Queries.{waits_for, scratch_size}
+use Rattle.queries.specs.Queries.{waits_for}
 use Rattle.queries.specs.inner.Rows.{direct_rows}
 
 -- ---- an answer says what its check found
@@ -34,25 +31,12 @@ pub accepted_says : (verdict : Result Unit Refusal) (fault v x : ℕ) → verdic
     → ◌≡◌ {A = AsNumbers} (record { number = 0; value = v }) (as_numbers fault x)
 accepted_says verdict fault v x checked accepted e = rw (← checked, accepted, e) refl
 
-pub refused_says : (verdict : Result Unit Refusal) (fault x : ℕ) (r : Refusal) → verdict_number verdict ≡ fault → verdict
-    ≡ Err r
-    → ◌≡◌ {A = AsNumbers} (record { number = number_of r; value = 0 }) (as_numbers fault x)
-refused_says verdict fault x r checked refused = rw (← checked, refused, number_not_zero r) refl
-
 -- ---- an accepted query
 
 pub processor_below : (terms : Terms) (p : ℕ) → processor_fault terms p ≡ 0 → p < max_processors
 processor_below terms p e =
     ltb-true p max_processors (and_left (ltb p max_processors) (ltb p terms.processors)
     (due_accepted (has_processor terms p) 11 (lit< tt) e))
-
-pub reach_accepted : (terms : Terms) (p size : ℕ)
-    → first_of (processor_fault terms p) (room_fault (scratch_size terms.processors) size 0) ≡ 0
-    → (p < max_processors) × (scratch_size terms.processors ≤ size)
-reach_accepted terms p size e =
-    let both = first_accepted (processor_fault terms p) _ e in
-    let room = room_fits (scratch_size terms.processors) size 0 both.later in
-    (processor_below terms p both.first, omega (arith, room))
 
 -- ---- direct waits with the phases of the requests that count
 

@@ -2,7 +2,6 @@
 use Prim.Native.Nat.{ℕ, ◌+◌, ◌*◌, ◌≤◌, ◌<◌}
 use mathlib.Core.Path.{◌≡◌, ap, ◌∙◌}
 use mathlib.Core.List.{List}
-use native.Mathlib.Nat.{mul-le-mul_left}
 use native.Mathlib.Omega.{arith}
 use lib.ListN.{length}
 use lib.Seq.{sets}
@@ -10,19 +9,7 @@ use Rattle.encoding.specs.Numbers.{bytes_of}
 use Rattle.encoding.specs.Buffers.{room_fault, buffer_after}
 use Rattle.encoding.proofs.Numbers.{length_bytes_of}
 use Rattle.encoding.proofs.InTurn.{in_turn_agree, length_in_turn, turn_stores}
-use Rattle.queries.specs.Words.{word_count, words_size, words_of}
-
--- Words of at most four bytes take at most 128.
-pub words_small : (k : ℕ) → k ≤ 4 → words_size k ≤ 128
-words_small k few =
-    let count : word_count k ≤ 32 = omega arith in
-    omega (arith, mul-le-mul_left k count)
-
--- A word is within the bytes of the words that include it.
-pub word_inside : (k i : ℕ) → i < word_count k → k * i ≤ words_size k
-word_inside k i low =
-    let below : i ≤ word_count k = omega arith in
-    mul-le-mul_left k below
+use Rattle.queries.specs.Words.{words_of}
 
 module _ (k : ℕ) (f : ℕ → ℕ) where
   pub length_words : (n : ℕ) → length (words_of k n f) ≡ k * n

@@ -9,8 +9,8 @@ ghost use Rattle.queries.specs.Queries.{scratch_size};
 use crate::row_words::room_of;
 use encoding::check_room;
 use queries::check_processor;
-use rules::Terms;
 use refusals::Refusal;
+use rules::Terms;
 
 // Refuses with 11, then with 16 a scratch that is too short.
 pub fn check_reach(terms: Terms, processor: u8, size: usize) -> Result<(), Refusal>

@@ -9,19 +9,15 @@ use board_list::listed;
 use masks::{Mask, join_if};
 use plans::MAX_PROCESSORS;
 
-// Every row, joined with row k if it contains k.
-fn join_through(rows: [u32; MAX_PROCESSORS], k: usize) -> [u32; MAX_PROCESSORS]
+// Joins every row with row k if it contains k.
+fn join_through(rows: &mut [u32; MAX_PROCESSORS], k: usize)
     requires { k < max_processors }
-    ensures { result ≡ tabulate max_processors (joined_row rows k) }
+    ensures { rows.new ≡ tabulate max_processors (joined_row rows.old k) }
 {
     let row = rows[k];
-    let mut next: [u32; MAX_PROCESSORS] = [0; MAX_PROCESSORS];
-    let mut p: usize = 0;
-    while p < MAX_PROCESSORS {
-        next[p] = join_if(rows[p], row, rows[p].has(k as u32));
-        p += 1;
+    for own in rows.iter_mut() {
+        *own = join_if(*own, row, own.has(k as u32));
     }
-    next
 }
 
 // Clause 7.3: computes all that each processor reaches from the direct waits of all, on a board with this many
@@ -30,13 +26,9 @@ fn join_through(rows: [u32; MAX_PROCESSORS], k: usize) -> [u32; MAX_PROCESSORS]
 pub fn reach_rows(processors: u8, direct: [u32; MAX_PROCESSORS]) -> [u32; MAX_PROCESSORS]
     ensures { result ≡ rows_through (listed_of processors) direct }
 {
-    let count = listed(processors);
     let mut rows = direct;
-    let mut k: usize = 0;
-    while k < count {
-        let next = join_through(rows, k);
-        rows = next;
-        k += 1;
+    for k in 0..listed(processors) {
+        join_through(&mut rows, k);
     }
     rows
 }

@@ -7,7 +7,7 @@ ghost use Rattle.encoding.specs.Buffers.{outcome_as_numbers};
 ghost use Rattle.plans.specs.Entries.{mask_size_for};
 ghost use Rattle.queries.specs.Words.{word_count, words_of, words_size, words_fault, words_scratch};
 
-use encoding::{has_room, write_number};
+use encoding::{check_room, write_number};
 use plans::{MAX_PROCESSORS, mask_size};
 use refusals::Refusal;
 
@@ -31,17 +31,19 @@ fn store_rows(size: usize, rows: [u32; MAX_PROCESSORS], scratch: &mut [u8])
     requires { (size ≤ 4) × (words_size size ≤ length scratch.old) }
     ensures { scratch.new ≡ sets scratch.old 0 (words_of size (word_count size) (λ p. get_or rows p 0)) }
 {
-    let words = BITS * size;
-    let mut i: usize = 0;
-    while i < words {
-        write_number(rows[i] as u64, size, scratch, size * i);
-        i += 1;
+    for i in 0..BITS * size {
+        // There is room, so this is not refused.
+        let _ = write_number(u64::from(rows[i]), size, scratch, size * i);
     }
 }
 
 // Clause 7.4: writes the rows into the scratch, a word for each, low byte first. The bytes after them stay. Refuses
 // with 16 a scratch that is too short, and then writes nothing.
-pub fn write_rows(processors: u8, rows: [u32; MAX_PROCESSORS], scratch: &mut [u8]) -> Result<usize, Refusal>
+pub fn write_rows(
+    processors: u8,
+    rows: [u32; MAX_PROCESSORS],
+    scratch: &mut [u8],
+) -> Result<usize, Refusal>
     ensures outcome { outcome_as_numbers result ≡ as_numbers
         (words_fault (mask_size_for processors) scratch.old)
         (words_size (mask_size_for processors)) }
@@ -49,10 +51,7 @@ pub fn write_rows(processors: u8, rows: [u32; MAX_PROCESSORS], scratch: &mut [u8
 {
     let word = mask_size(processors);
     let room = room_of(processors);
-    if has_room(room, scratch.len(), 0) {
-        store_rows(word, rows, scratch);
-        Ok(room)
-    } else {
-        Err(Refusal::Room)
-    }
+    check_room(room, scratch.len(), 0)?;
+    store_rows(word, rows, scratch);
+    Ok(room)
 }

@@ -13,7 +13,7 @@ use Rattle.masks.proofs.Masks.{mask_agree}
 use Rattle.masks.proofs.Truth.{and_left, and_right}
 use Rattle.encoding.specs.Buffers.{overwritten}
 use Rattle.encoding.proofs.Room.{fits_room}
-use Rattle.plans.specs.Entries.{max_processors, mask_size_for}
+use Rattle.plans.specs.Entries.{max_processors}
 use Rattle.masks.specs.Tabulation.{tabulate}
 use Rattle.masks.proofs.Tabulate.{get_d_tabulate, tabulate_agree}
 use Rattle.rules.specs.declared.states.Board.{Board}
@@ -21,10 +21,10 @@ use Rattle.rules.specs.declared.states.State.{State}
 use Rattle.board_list.specs.Sizes.{listed_of}
 use Rattle.board_list.proofs.Sizes.{mask_size_small}
 use Rattle.reach.specs.Rows.{rows_through}
-use Rattle.queries.specs.Words.{word_count, words_of, words_scratch}
+use Rattle.queries.specs.Words.{word_count, words_scratch}
 use Rattle.reach.proofs.Words.{words_agree}
 use Rattle.reach.proofs.reaching.Through.{via, Path, step, over, rows_via, path_via, via_gives}
-use Rattle.queries.specs.Queries.{waits_for, Chain, direct, through, reaches, scratch_size, reach_bytes}
+use Rattle.queries.specs.Queries.{waits_for, Chain, direct, through, reaches, scratch_size, mask_size_of, reach_bytes}
 use Rattle.queries.specs.inner.Rows.{direct_rows}
 use Rattle.queries.proofs.Waits.{Counted, waits_counted}
 use Rattle.queries.proofs.Chains.{chain_reaches, reaches_chain}
@@ -66,22 +66,16 @@ module _ (b : Board) (s : State) where
       (λ e. chain_reaches b s p q (via_gives (waits_for b s) (Chain b s) (λ x y. direct) chain_join m p q e))
       (λ e. path_via (waits_for b s) m p q (chain_path p q (reaches_chain b s p q e)))
 
-  pub rows_reached : (processors : ℕ) → processors ≡ b.terms.processors → (given rows : List ℕ)
-      → given ≡ direct_rows b s → rows ≡ rows_through (listed_of processors) given
+  pub rows_reached : (given rows : List ℕ) → given ≡ direct_rows b s → rows ≡ rows_through m given
       → rows ≡ reached_rows b s
-  rows_reached processors same given rows are e =
+  rows_reached given rows are e =
       let places : m ≤ max_processors = omega arith in
       e
-      ∙ ap (λ (x : ℕ). rows_through (listed_of x) given) same
       ∙ ap (rows_through m) are
       ∙ rows_via (waits_for b s) m places
       ∙ tabulate_agree max_processors (λ p. mask_of max_processors (via (waits_for b s) m p))
       (λ p. mask_of max_processors (reaches b s p))
       (λ p l. mask_agree max_processors (via (waits_for b s) m p) (reaches b s p) (λ q k. via_reaches p q))
-
-  -- The words of k bytes of all that each processor reaches.
-  abbrev reached_words : ℕ → List ℕ
-  reached_words k = words_of k (word_count k) (λ p. mask_of max_processors (reaches b s p))
 
   module _ (rows : List ℕ) (are : rows ≡ reached_rows b s) where
     pub row_asked : (p : ℕ) → p < max_processors → get_or rows p 0 ≡ mask_of max_processors (reaches b s p)
@@ -90,16 +84,16 @@ module _ (b : Board) (s : State) where
         (λ q. mask_of max_processors (reaches b s q)) p 0 l
 
     -- The scratch after `write_rows`, if there is room. There are no more words than rows.
-    pub words_stored : (m : ℕ) → m ≡ b.terms.processors → (scratch after : List ℕ) → scratch_size m ≤ length scratch
-        → after ≡ words_scratch (mask_size_for m) rows scratch
+    pub words_stored : (scratch after : List ℕ) → scratch_size b.terms.processors ≤ length scratch
+        → after ≡ words_scratch (mask_size_of b) rows scratch
         → after ≡ overwritten scratch 0 (reach_bytes b s)
     unfolding reach_bytes
-    words_stored m same scratch after room stored =
-        let k : ℕ = mask_size_for m in
-        let fits : 0 + scratch_size m ≤ length scratch = omega (arith, room) in
-        let inside : (p : ℕ) → p < word_count k → p < max_processors = λ p l. omega (arith, mask_size_small m) in
+    words_stored scratch after room stored =
+        let n : ℕ = b.terms.processors in
+        let k : ℕ = mask_size_of b in
+        let fits : 0 + scratch_size n ≤ length scratch = omega (arith, room) in
+        let inside : (p : ℕ) → p < word_count k → p < max_processors = λ p l. omega (arith, mask_size_small n) in
         let words = words_agree k (word_count k) (λ p. get_or rows p 0) (λ p. mask_of max_processors (reaches b s p))
         (λ p l. row_asked p (inside p l)) in
-        rw (fits_room (scratch_size m) (length scratch) 0 fits) at stored
+        rw (fits_room (scratch_size n) (length scratch) 0 fits) at stored
         ∙ ap (λ (bytes : List ℕ). overwritten scratch 0 bytes) words
-        ∙ ap (λ (x : ℕ). overwritten scratch 0 (reached_words (mask_size_for x))) same

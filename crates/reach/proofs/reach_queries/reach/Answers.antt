@@ -1,15 +1,10 @@
--- `reach` meets its contract: it passes on the parts of the board and the state. Assumes nothing.
-use mathlib.Core.Path.{refl}
-use Rattle.queries.specs.Queries.{waits_for}
+-- `reach` meets its contract: it lends the parts of the board and the state. Assumes nothing.
+use Rattle.queries.specs.Queries.{waits_for, chained, reaches, reach_fault, reach_bytes, reach_scratch}
 use Rattle.reach.proofs.reach_queries.reach.Goals as goal
 
 pub returns : goal.returns
-unfolding waits_for
+unfolding waits_for chained reaches reach_fault reach_bytes reach_scratch
 returns c =
-    let b = c.args.board in
-    let s = c.args.state in
-    record {
-      mask = c.reach_from.ensures.mask b s refl c.direct_rows-direct.ensures;
-      stored = c.reach_from.ensures.stored b s refl
-          c.direct_rows-direct.ensures;
-    }
+    let parts = c.lent.ensures in
+    let both = rw (parts.terms, parts.rows, parts.requested, parts.earlier) at c.reach_in_place.ensures in
+    record { mask = both.mask; stored = both.stored }

@@ -9,13 +9,12 @@ use Rattle.reach.proofs.row_words.store_rows.Goals as goal
 
 pub loop-i-init : goal.loop-i-init
 unfolding words_of in_turn
-loop-i-init c = (omega arith, refl, refl)
+loop-i-init c = (refl, refl)
 
 pub loop-i-preserved : goal.loop-i-preserved
 loop-i-preserved c =
     let loop = c.loop-i in
     let size : ℕ = c.args.size in
     let low : loop.i < word_count size = omega arith in
-    let next = word_stored size _ (word_count size) loop.i _ _ _ low c.requires.1 loop.invariant.1 loop.invariant.2
-    c.write_number.ensures.bytes in
-    (omega arith, next.0, next.1)
+    word_stored size _ (word_count size) loop.i _ _ _ low c.requires.1 loop.invariant.0 loop.invariant.1
+    (rw c.from.ensures at c.write_number.ensures.bytes)
