@@ -1,7 +1,7 @@
 // The plan of the benchmarks: 64 resources and 64 entries, a third of them writes.
 ghost use Rattle.std.specs.Prelude.{◌<◌};
 
-use plans::{Entry, MAX_ENTRIES, Plan};
+use plans::{Entry, Plan};
 
 // Entry i of the plan: every third writes, over two or three resources.
 fn entry(i: u64) -> Entry
@@ -18,20 +18,10 @@ fn entry(i: u64) -> Entry
 }
 
 pub fn plan(processors: u8) -> Plan {
-    let mut entries = [Entry {
-        kind: 0,
-        set: 0,
-        length: 0,
-    }; MAX_ENTRIES];
-    let mut i: u64 = 0;
-    while i < 64 {
-        entries[i as usize] = entry(i);
-        i += 1;
-    }
     Plan {
-        processors: processors,
+        processors,
         resources: 64,
         count: 64,
-        entries: entries,
+        entries: std::array::from_fn(|i| entry(i as u64)),
     }
 }

@@ -3,7 +3,8 @@
 ghost use Rattle.std.specs.Prelude.{◌<◌, ◌≤◌};
 
 use crate::board::plan;
-use rules::{Done, Board, Moment, Reply, State};
+use calls_in_place::{complete_in_place, issue_in_place};
+use rules::{Board, Done, LentArrays, LentBoard, Moment, Reply, State};
 
 // The next number of a fixed sequence.
 fn next(seed: u64) -> u64 {
@@ -40,12 +41,16 @@ fn holder_from(holding: u32, place: u32) -> u32
 
 fn mixed(sum: u64, reply: Reply) -> u64 {
     match reply {
-        Ok(Done {
-            granted,
-            entitled,
-            late,
-        }) => (sum % 4294967296 * 31 + granted as u64 * 65536 + entitled as u64 * 2 + late as u64)
-            % 4294967296,
+        Ok(
+            Done {
+                granted,
+                entitled,
+                late,
+            },
+        ) => {
+            let masks = u64::from(granted) * 65536 + u64::from(entitled) * 2;
+            (sum % 4294967296 * 31 + masks + u64::from(late)) % 4294967296
+        }
         Err(_) => sum,
     }
 }
@@ -55,58 +60,43 @@ fn filled(board: Board, fresh: State, busy: u8) -> State
     requires { busy ≤ 32 }
 {
     let mut state = fresh;
-    let mut p: u8 = 0;
-    while p < busy {
-        let answered = arbiter::issue(board, state, p, p * 3 % 64, 0);
-        state = answered.state;
-        p += 1;
+    for p in 0..busy {
+        state = arbiter::issue(board, state, p, p * 3 % 64, 0).state;
     }
     state
 }
 
 // The turns, and the checksum of their answers. The arrays of the state are lent to each call.
-fn sum_from(board: Board, full: State, processors: u8, turns: u64) -> u64
+fn sum_from(board: &Board, full: State, processors: u8, turns: u64) -> u64
     requires { (processors ≤ 32) × (turns < 1000000000) }
 {
-    let terms = board.terms;
-    let rows = board.rows;
-    let lengths = board.lengths;
+    let lent = LentBoard {
+        terms: board.terms,
+        rows: &board.rows,
+        lengths: &board.lengths,
+    };
     let mut requested = full.requested;
     let mut since = full.since;
     let mut earlier = full.earlier;
     let mut moment = Moment {
         last: full.last,
-        phases: arbiter::phases_of(board, full),
+        phases: arbiter::phases_of(*board, full),
     };
     let mut seed: u64 = 1;
     let mut sum: u64 = 0;
-    let mut tick: u64 = 0;
-    while tick < turns {
-        tick += 1;
+    for tick in 1..=turns {
         seed = next(seed);
         let p = holder_from(moment.phases.holding, place(seed, processors)) as u8;
         let e = (seed / 1048576 % 64) as u8;
-        let first = calls_in_place::complete_in_place(
-            terms, &rows, &lengths, moment, &requested, &mut since, &earlier, p, tick,
-        );
-        let left = first.moment;
-        let second = calls_in_place::issue_in_place(
-            terms,
-            &rows,
-            &lengths,
-            left,
-            &mut requested,
-            &mut since,
-            &mut earlier,
-            p,
-            e,
-            tick,
-        );
-        let completed = first.reply;
-        let issued = second.reply;
-        let settled = second.moment;
-        moment = settled;
-        sum = mixed(mixed(sum, completed), issued);
+        let completed = complete_in_place(lent, moment, &requested, &mut since, &earlier, p, tick);
+        let mut arrays = LentArrays {
+            requested: &mut requested,
+            since: &mut since,
+            earlier: &mut earlier,
+        };
+        let issued = issue_in_place(lent, completed.moment, &mut arrays, p, e, tick);
+        moment = issued.moment;
+        sum = mixed(mixed(sum, completed.reply), issued.reply);
     }
     sum
 }
@@ -115,9 +105,11 @@ pub fn sum_of(busy: u8, turns: u64) -> u64
     requires { (busy ≤ 32) × (turns < 1000000000) }
 {
     let processors = processors_for(busy);
-    let fresh = boards::fresh_of(plan(processors));
-    let board = fresh.board;
-    let start = fresh.state;
-    let full = filled(board, start, busy);
-    sum_from(board, full, processors, turns)
+    match boards::fresh_of(plan(processors)) {
+        Ok(fresh) => {
+            let full = filled(fresh.board, fresh.state, busy);
+            sum_from(&fresh.board, full, processors, turns)
+        }
+        Err(_) => 0,
+    }
 }
