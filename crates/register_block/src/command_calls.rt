@@ -6,28 +6,25 @@ use registers::{BLOCK, tick_in};
 use rules::Call;
 
 // Clause 10.7: the call that a command makes from the registers.
+#[tactic(auto, using(std::proofs::lemmas::Bool::Decides::nat_tests), unfolding(crate::specs::Calls::command_call))]
 pub fn call_of(bytes: [u8; BLOCK], command: u8) -> Call
     ensures { result ≡ command_call bytes command }
 {
     let processor = bytes[1];
     let entry = bytes[2];
     let tick = tick_in(bytes);
-    if command == 1 {
-        return Call::Issue {
+    match command {
+        1 => Call::Issue {
             processor,
             entry,
             tick,
-        };
-    }
-    if command == 2 {
-        return Call::Complete { processor, tick };
-    }
-    if command == 3 {
-        return Call::Withdraw { processor, tick };
-    }
-    Call::Handover {
-        processor,
-        entry,
-        tick,
+        },
+        2 => Call::Complete { processor, tick },
+        3 => Call::Withdraw { processor, tick },
+        _ => Call::Handover {
+            processor,
+            entry,
+            tick,
+        },
     }
 }

@@ -9,17 +9,16 @@ mod commands;
 mod register_writes;
 
 ghost use Rattle.std.specs.Prelude.{◌≡◌};
-ghost use Rattle.rules.specs.InPlace.{board_by};
+ghost use Rattle.rules.specs.InPlace.{board_lent};
 ghost use Rattle.encoding.specs.Buffers.{outcome_as_numbers};
 ghost use Rattle.registers.specs.Registers.{register_read};
 ghost use Rattle.register_block.specs.Commands.{register_write, written_as_numbers};
 
-pub use commands::{Change, Written};
-use plans::MAX_ENTRIES;
+pub use commands::Change;
+use refusals::Refusal;
 pub use register_writes::write;
 use registers::{Block, read};
-use rules::{State, Terms};
-use refusals::Refusal;
+use rules::{LentBoard, State};
 
 // Reads an offset of the block. Refused with 18.
 pub fn read_register(block: &Block, offset: u8) -> Result<u8, Refusal>
@@ -28,21 +27,19 @@ pub fn read_register(block: &Block, offset: u8) -> Result<u8, Refusal>
     read(*block, offset)
 }
 
-// Writes a byte to an offset of the block. Refused with 18; then block and state stay as they were.
+// Writes a byte to an offset of the block, and returns the state after it. Refused with 18; then the block stays as it
+// was, and so does the state, which the caller still has.
 pub fn write_register(
     block: &mut Block,
-    terms: Terms,
-    rows: &[u64; MAX_ENTRIES],
-    lengths: &[u16; MAX_ENTRIES],
+    board: LentBoard<'_>,
     state: State,
     offset: u8,
     value: u8,
-) -> Written
-    ensures { written_as_numbers result block.new
-        ≡ register_write (board_by terms rows.now lengths.now) state
-        block.old offset value }
+) -> Result<State, Refusal>
+    ensures { written_as_numbers result state block.new
+        ≡ register_write (board_lent board.entry) state block.old offset value }
 {
-    let change = write(terms, rows, lengths, state, *block, offset, value);
+    let change = write(board, state, *block, offset, value)?;
     *block = change.block;
-    change.written
+    Ok(change.state)
 }
