@@ -2,16 +2,14 @@
 -- nothing.
 use Prim.Native.Nat.{ℕ, suc, ◌+◌, ◌-◌, ◌*◌, ◌≤◌, ◌<◌}
 use mathlib.Core.Path.{◌≡◌, refl, ap, sym, ◌∙◌}
-use mathlib.Core.Bool.{Bool, true, false, cond, not, ◌&&◌}
+use mathlib.Core.Bool.{Bool, true, false, cond, not}
 use mathlib.Core.List.{List, [], ◌++◌}
 use native.Mathlib.Nat.{add-zero, le_refl}
 use native.Mathlib.Omega.{arith}
-use borrow.Author.Tests.{ltb-true, ltb-false, not-true}
 use mir.Val.{bool_byte}
-use lib.Dec.{eqb, ltb}
+use lib.Dec.{eqb}
 use lib.ListN.{length, take, drop, length-append, length-drop, take-append-drop}
 use lib.Seq.{drop-drop, take_all}
-use Rattle.masks.proofs.Truth.{and_left, and_right}
 use Rattle.rules.specs.declared.states.Board.{Board}
 use Rattle.rules.specs.declared.states.State.{State}
 use Rattle.encoding.specs.Buffers.{overwritten}
@@ -40,39 +38,10 @@ pub record Leaves (whole : Ran) (b : Board) (due : ℕ) (s out₀ : List ℕ) (s
   pub counts : calls + (remaining ended b st (due - calls) (drop (8 * calls) s)).calls ≡ whole.calls
   pub ends : (remaining ended b st (due - calls) (drop (8 * calls) s)).ended ≡ whole.ended
 
-pub first_turn : (b : Board) (st : State) (due : ℕ) (s out : List ℕ)
-    → Leaves (ran b st due s) b due s out st 0 0 false out
-first_turn b st due s out =
-    let all : due - 0 ≡ due = omega arith in
-    record {
-      some = omega arith;
-      room = λ e. omega arith;
-      long = refl;
-      stands = rw all refl;
-      size = rw all (omega arith);
-      after = rw all refl;
-      counts = rw all (omega arith);
-      ends = rw all refl;
-    }
-
--- Another turn is due if a call is left and no refusal ended the replay.
-module _ (calls due : ℕ) (ended : Bool) where
-  pub more_due : (ltb calls due && not ended) ≡ true → calls < due
-  more_due e = ltb-true calls due (and_left (ltb calls due) (not ended) e)
-
-  pub not_ended : (ltb calls due && not ended) ≡ true → ended ≡ false
-  not_ended e = not-true ended (and_right (ltb calls due) (not ended) e)
-
 -- A record is one call, or it ends the replay and is no call.
-pub at_most_one : (ended : Bool) → bool_byte (not ended) ≤ 1
+at_most_one : (ended : Bool) → bool_byte (not ended) ≤ 1
 at_most_one true = omega arith
 at_most_one false = omega arith
-
--- Each turn leaves less to do: one call fewer, or the replay has just ended.
-pub fewer : (calls due : ℕ) (ended later : Bool) → (ltb calls due && not ended) ≡ true
-    → due - (calls + bool_byte (not later)) + bool_byte (not later) < due - calls + bool_byte (not ended)
-fewer calls due ended later e =
-    rw (not_ended calls due ended e) (omega (arith, more_due calls due ended e, at_most_one later))
 
 -- A line takes no more bytes than its room, wherever it is written.
 pub written_room : (pairs : List ℕ) (b : Board) (st : State) (s : List ℕ) (size at : ℕ) (r : Stands) → pairs ≡ hex_pairs
@@ -93,26 +62,14 @@ written_room pairs b st s size at r table told =
     at_most true n = omega arith
     at_most false n = omega arith
 
--- If no turn is due, nothing is left.
-none_left : (b : Board) (st : State) (calls due : ℕ) (ended : Bool) (s : List ℕ) → (ltb calls due && not ended) ≡ false
-    → remaining ended b st (due - calls) s ≡ record { lines = []; state = st; calls = 0; ended = ended }
-unfolding ran
-none_left b st calls due true s e = refl
-none_left b st calls due false s e = go (ltb calls due) refl e
-  where
-    go : (t : Bool) → ltb calls due ≡ t → (t && true) ≡ false → ran b st (due - calls) s
-        ≡ record { lines = []; state = st; calls = 0; ended = false }
-    go true h f = absurd (let z : ◌≡◌ {A = ℕ} 0 1 = cc in omega arith)
-    go false h f = let none : due - calls ≡ 0 = omega (arith, ltb-false calls due h) in rw none refl
-
-module _ (whole : Ran) (b : Board) (due : ℕ) (s out₀ : List ℕ) (st : State) (calls at : ℕ) (ended : Bool) (out : List ℕ)
-    (h : Leaves whole b due s out₀ st calls at ended out) where
-  -- After the last turn.
-  pub last_turn : (ltb calls due && not ended) ≡ false
+-- After the last call, and after a refusal, nothing is left.
+module _ (whole : Ran) (b : Board) (due : ℕ) (s out₀ : List ℕ) (st : State) (calls at : ℕ) (out : List ℕ) where
+  all_done : (ended : Bool) → Leaves whole b due s out₀ st calls at ended out
+      → remaining ended b st (due - calls) (drop (8 * calls) s)
+      ≡ record { lines = []; state = st; calls = 0; ended = ended }
       → (◌≡◌ {A = RanBlock} (record { state = st; calls = calls; written = at; ended = ended }) (ran_block whole))
       × (out ≡ overwritten out₀ 0 whole.lines)
-  last_turn e =
-      let none = none_left b st calls due ended (drop (8 * calls) s) e in
+  all_done ended h none =
       let size : at + 0 ≡ length whole.lines = rw none at h.size in
       let counts : calls + 0 ≡ whole.calls = rw none at h.counts in
       let after : st ≡ whole.state = rw none at h.after in
@@ -124,24 +81,35 @@ module _ (whole : Ran) (b : Board) (due : ℕ) (s out₀ : List ℕ) (st : State
         rw (add-zero, take-append-drop) at stands,
       )
 
-  module _ (test : (ltb calls due && not ended) ≡ true) (fits : line_room * due ≤ length out₀) where
-    more : calls < due
-    more = more_due calls due ended test
+  pub after_refusal : Leaves whole b due s out₀ st calls at true out
+      → (◌≡◌ {A = RanBlock} (record { state = st; calls = calls; written = at; ended = true }) (ran_block whole))
+      × (out ≡ overwritten out₀ 0 whole.lines)
+  after_refusal h = all_done true h refl
 
-    go_on : ended ≡ false
-    go_on = not_ended calls due ended test
+  pub after_last : due ≤ calls → Leaves whole b due s out₀ st calls at false out
+      → (◌≡◌ {A = RanBlock} (record { state = st; calls = due; written = at; ended = false }) (ran_block whole))
+      × (out ≡ overwritten out₀ 0 whole.lines)
+  unfolding ran
+  after_last e h =
+      let none : due - calls ≡ 0 = omega arith in
+      let all : due ≡ calls = omega (arith, h.some) in
+      let both = all_done false h (rw none refl) in
+      (ap (λ (n : ℕ). record { state = st; calls = n; written = at; ended = false }) all ∙ both.0, both.1)
 
+module _ (whole : Ran) (b : Board) (due : ℕ) (s out₀ : List ℕ) (st : State) (calls at : ℕ) (out : List ℕ)
+    (h : Leaves whole b due s out₀ st calls at false out) (more : calls < due) (fits : line_room * due ≤ length out₀)
+  where
     -- The bytes after the calls so far, and the step of the record at their start.
     abbrev rest : List ℕ
     rest = drop (8 * calls) s
 
     line_fits : at + length (step b st rest).line ≤ length out
-    line_fits = omega (arith, more, h.room go_on, h.long, step_room b st rest)
+    line_fits = omega (arith, h.room refl, h.long, step_room b st rest)
 
     module _ (pairs : List ℕ) (table : pairs ≡ hex_pairs) (r : Stands) (out' : List ℕ)
         (told : r ≡ stands (record_step pairs b st (take (length s - 8 * calls) (drop (8 * calls) s))) (length out) at)
         (put : out' ≡ line_buffer (record_step pairs b st (take (length s - 8 * calls) (drop (8 * calls) s))).line out
-        at) where
+        at) (kept : length out' ≡ length out) where
       -- All bytes from the position on are lent.
       lent : take (length s - 8 * calls) (drop (8 * calls) s) ≡ drop (8 * calls) s
       lent = take_all (length s - 8 * calls) (drop (8 * calls) s) (rw length-drop (le_refl _))
@@ -172,14 +140,13 @@ module _ (whole : Ran) (b : Board) (due : ℕ) (s out₀ : List ℕ) (st : State
             let eight : 8 * calls + 8 ≡ 8 * (calls + 1) = omega arith in
             rw (k, drop-drop 8 (8 * calls) s, eight) refl
 
-        split : remaining ended b st (due - calls) rest ≡ front (step b st rest).line n later
+        split : remaining false b st (due - calls) rest ≡ front (step b st rest).line n later
         unfolding stands
         split =
             let left_over : due - calls ≡ suc (due - (calls + 1)) = omega (arith, more) in
             let state : r.state ≡ (step b st rest).state = ap (λ (x : Stands). x.state) e in
             let end : r.ended ≡ (step b st rest).ended = ap (λ (x : Stands). x.ended) e in
             rw (
-              go_on,
               left_over,
               step_then_more b st (due - (calls + 1)) rest,
               ← end,
@@ -190,14 +157,13 @@ module _ (whole : Ran) (b : Board) (due : ℕ) (s out₀ : List ℕ) (st : State
             ) refl
 
         -- After a record.
-        pub next_turn : length out' ≡ length out
-            → Leaves whole b due s out₀ r.state (calls + n) (at + r.written) r.ended out'
-        next_turn kept =
-            let lines : (remaining ended b st (due - calls) rest).lines
+        next_turn : Leaves whole b due s out₀ r.state (calls + n) (at + r.written) r.ended out'
+        next_turn =
+            let lines : (remaining false b st (due - calls) rest).lines
             ≡ (step b st rest).line ++ later.lines = ap (λ (x : Ran). x.lines) split in
             record {
               some = omega (arith, more, one, at_most_one r.ended);
-              room = λ k. omega (arith, h.room go_on, one_call k, one_written, step_room b st rest);
+              room = λ k. omega (arith, h.room refl, one_call k, one_written, step_room b st rest);
               long = kept ∙ h.long;
               stands = rw (eo, one_written) (over_over out at (step b st rest).line later.lines line_fits
                   ∙ ap (overwritten out at) (sym lines) ∙ h.stands);
@@ -212,3 +178,9 @@ module _ (whole : Ran) (b : Board) (due : ℕ) (s out₀ : List ℕ) (st : State
               counts = omega (arith, ap (λ (x : Ran). x.calls) split, h.counts);
               ends = sym (ap (λ (x : Ran). x.ended) split) ∙ h.ends;
             }
+
+      pub after_call : r.ended ≡ false → Leaves whole b due s out₀ r.state (calls + 1) (at + r.written) false out'
+      after_call go_on = rw go_on at (next_turn 1 (rw go_on refl))
+
+      pub at_refusal : r.ended ≡ true → Leaves whole b due s out₀ r.state calls (at + r.written) true out'
+      at_refusal stop = rw (stop, add-zero) at (next_turn 0 (rw stop refl))

@@ -4,7 +4,8 @@ use Rattle.rules.specs.declared.calls.Call.{Call}
 use Rattle.rules.specs.declared.states.Board.{Board}
 use Rattle.rules.specs.declared.states.State.{State}
 use Rattle.rules.specs.Calls.{answered}
-use Rattle.rules.specs.InPlace.{state_by}
+use Rattle.rules.specs.declared.states.LentArrays.{LentArrays}
+use Rattle.rules.specs.InPlace.{state_lent}
 use Rattle.listings.specs.PlainLines.{line_as_numbers}
 use Rattle.listings.specs.Lines.{call_line_by}
 use Rattle.replay.specs.declared.carrying_out.Replayed.{Replayed}
@@ -37,7 +38,6 @@ unfoldable pub stands : Step → ℕ → ℕ → Stands
 stands step size at =
     record { state = step.state; written = (line_as_numbers step.line size at).value; ended = step.ended }
 
--- The same for what a function returns and leaves in the arrays of the state.
-abbrev pub replayed_by : Replayed → List ℕ → List ℕ → List ℕ → Stands
-replayed_by c entry since earlier =
-    record { state = state_by c.moment entry since earlier; written = c.written; ended = c.ended }
+-- The same for what a function returns, with the lent arrays as it leaves them.
+abbrev pub replayed_lent : Replayed → LentArrays → Stands
+replayed_lent r arrays = record { state = state_lent r.moment arrays; written = r.written; ended = r.ended }

@@ -14,10 +14,5 @@ pub fn budget_of(left: u16, size: usize, room: usize) -> u16
 {
     let whole = size / RECORD_BYTES;
     let lines = room / LINE_ROOM;
-    let most = if whole < lines { whole } else { lines };
-    if most < left as usize {
-        most as u16
-    } else {
-        left
-    }
+    whole.min(lines).min(left as usize) as u16
 }

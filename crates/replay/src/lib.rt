@@ -11,24 +11,24 @@ mod replay_records;
 
 ghost use Rattle.std.specs.Prelude.{◌≡◌, ◌*◌, ◌≤◌, length};
 ghost use Rattle.encoding.specs.Buffers.{overwritten};
-ghost use Rattle.rules.specs.InPlace.{board_by, state_by};
+ghost use Rattle.rules.specs.InPlace.{board_lent, state_lent, SameArrays};
 ghost use Rattle.logs.specs.Records.{record_size};
 ghost use Rattle.digits.specs.Digits.{hex_pairs};
 ghost use Rattle.replay.specs.Budgets.{line_room};
 ghost use Rattle.replay.specs.Blocks.{ran, budget, ran_block};
-ghost use Rattle.replay.specs.inner.Parts.{ran_by};
+ghost use Rattle.replay.specs.inner.Parts.{ran_lent};
 
 use budgets::budget_of;
 use digits::hex_pairs;
 pub use log_ends::{CallCount, count, finish};
-pub use log_openings::{Begun, begin};
+pub use log_openings::{Begun, Opened, begin};
 use logs::RECORD_BYTES;
-use plans::{MAX_ENTRIES, MAX_PROCESSORS};
 use replay_records::replay_record;
-use rules::{Board, Moment, State, Terms};
+use rules::{Board, LentArrays, LentBoard, Moment, State};
 
 // What some records did, apart from the arrays of the state: the moment after them, how many calls were carried out,
 // how many bytes their lines took, and whether a refusal ended the replay.
+// Kept: `ended` is no `Result`, here and in a block, since the calls before a refusal stay carried out and are counted.
 #[derive(Clone, Copy)]
 struct Progress {
     moment: Moment,
@@ -47,97 +47,51 @@ pub struct RanBlock {
     pub ended: bool,
 }
 
-// The part of a state that is not in its arrays.
-fn moment_of(state: State) -> Moment
-    ensures { state_by result state.requested state.since state.earlier ≡ state }
-{
-    let phases = state.phases;
-    Moment {
-        last: state.last,
-        phases: phases,
-    }
-}
-
-// The state of a moment and the three arrays.
-fn state_of(
-    moment: Moment,
-    requested: [u8; MAX_PROCESSORS],
-    since: [u64; MAX_PROCESSORS],
-    earlier: [u32; MAX_PROCESSORS],
-) -> State
-    ensures { result ≡ state_by moment requested since earlier }
-{
-    let phases = moment.phases;
-    State {
-        last: moment.last,
-        phases: phases,
-        since: since,
-        earlier: earlier,
-        requested: requested,
-    }
-}
-
 // Carries out so many records one by one, up to the first that is refused. Their lines are written at the start of
-// `out`. The arrays of the board and of the state are lent, and so is the table with the digits of every byte.
+// `out`. The table with the digits of every byte is lent.
 fn run_records(
-    terms: Terms,
-    rows: &[u64; MAX_ENTRIES],
-    lengths: &[u16; MAX_ENTRIES],
+    board: LentBoard<'_>,
     pairs: &[u16],
     first: Moment,
-    requested: &mut [u8; MAX_PROCESSORS],
-    since: &mut [u64; MAX_PROCESSORS],
-    earlier: &mut [u32; MAX_PROCESSORS],
+    arrays: &mut LentArrays<'_>,
     due: u16,
     bytes: &[u8],
     out: &mut [u8],
 ) -> Progress
     requires { (pairs.now ≡ hex_pairs) × ((record_size * due ≤ length bytes.now) × (line_room * due ≤ length out.old)) }
-    ensures result { ran_by result requested.new since.new earlier.new
-        ≡ ran_block
-        (ran (board_by terms rows.now lengths.now)
-        (state_by first requested.old since.old earlier.old) due bytes.now) }
+    ensures same { SameArrays arrays.old arrays.new }
+    ensures result { ran_lent result arrays.new
+        ≡ ran_block (ran (board_lent board.entry) (state_lent first arrays.old) due bytes.now) }
     ensures written { out.new
-        ≡ overwritten out.old 0
-        (ran (board_by terms rows.now lengths.now)
-        (state_by first requested.old since.old earlier.old)
-        due bytes.now).lines }
+        ≡ overwritten out.old 0 (ran (board_lent board.entry) (state_lent first arrays.old) due bytes.now).lines }
 {
     let mut moment = first;
-    let mut calls: u16 = 0;
-    let mut at: usize = 0;
-    let mut ended = false;
-    while (calls < due) & !ended {
-        let from = RECORD_BYTES * (calls as usize);
-        let carried = replay_record(
-            terms,
-            rows,
-            lengths,
-            pairs,
-            moment,
-            requested,
-            since,
-            earlier,
-            &bytes[from..],
-            out,
-            at,
-        );
-        let after = carried.moment;
-        moment = after;
-        at += carried.written;
-        ended = carried.ended;
-        calls += !ended as u16;
+    let mut written: usize = 0;
+    for calls in 0..due {
+        let record = &bytes[RECORD_BYTES * calls as usize..];
+        let carried = replay_record(board, pairs, moment, arrays, record, out, written);
+        moment = carried.moment;
+        written += carried.written;
+        if carried.ended {
+            return Progress {
+                moment,
+                calls,
+                written,
+                ended: true,
+            };
+        }
     }
     Progress {
-        moment: moment,
-        calls: calls,
-        written: at,
-        ended: ended,
+        moment,
+        calls: due,
+        written,
+        ended: false,
     }
 }
 
 // Carries out the records of a block one by one, up to the first that is refused. Their lines are written at the start
 // of `out`.
+#[tactic(auto, using(crate::proofs::Turns::ran_reads))]
 pub fn run(board: Board, state: State, left: u16, bytes: &[u8], out: &mut [u8]) -> RanBlock
     ensures result { result
         ≡ ran_block
@@ -146,31 +100,35 @@ pub fn run(board: Board, state: State, left: u16, bytes: &[u8], out: &mut [u8]) 
         ≡ overwritten out.old 0
         (ran board state (budget left bytes.now (length out.old)) bytes.now).lines }
 {
-    let terms = board.terms;
     let rows = board.rows;
-    let lengths = board.lengths;
-    let pairs = hex_pairs();
-    let due = budget_of(left, bytes.len(), out.len());
-    let moment = moment_of(state);
+    let lent = LentBoard {
+        terms: board.terms,
+        rows: &rows,
+        lengths: &board.lengths,
+    };
+    let first = Moment {
+        last: state.last,
+        phases: state.phases,
+    };
     let mut requested = state.requested;
     let mut since = state.since;
     let mut earlier = state.earlier;
-    let done = run_records(
-        terms,
-        &rows,
-        &lengths,
-        &pairs,
-        moment,
-        &mut requested,
-        &mut since,
-        &mut earlier,
-        due,
-        bytes,
-        out,
-    );
-    let after = done.moment;
+    let mut arrays = LentArrays {
+        requested: &mut requested,
+        since: &mut since,
+        earlier: &mut earlier,
+    };
+    let pairs = hex_pairs();
+    let due = budget_of(left, bytes.len(), out.len());
+    let done = run_records(lent, &pairs, first, &mut arrays, due, bytes, out);
     RanBlock {
-        state: state_of(after, requested, since, earlier),
+        state: State {
+            last: done.moment.last,
+            phases: done.moment.phases,
+            since,
+            earlier,
+            requested,
+        },
         calls: done.calls,
         written: done.written,
         ended: done.ended,

@@ -31,15 +31,6 @@ fn verdict_line(verdict: Result<(), Refusal>, out: &mut [u8]) -> Result<usize, R
     }
 }
 
-fn count_verdict(calls: Result<u16, Refusal>) -> Result<(), Refusal>
-    ensures { verdict_number result ≡ (count_as_numbers calls).number }
-{
-    match calls {
-        Ok(_) => Ok(()),
-        Err(refusal) => Err(refusal),
-    }
-}
-
 // Reads the call count at the start of the bytes after the plan. If it is refused, the line of the refusal is written
 // at the start of `out`.
 pub fn count(bytes: &[u8], out: &mut [u8]) -> CallCount
@@ -48,28 +39,22 @@ pub fn count(bytes: &[u8], out: &mut [u8]) -> CallCount
     ensures written { out.new ≡ line_buffer (count_line bytes.now) out.old 0 }
 {
     let calls = read_count(bytes);
-    let verdict = count_verdict(calls);
-    let line = verdict_line(verdict, out);
-    CallCount {
-        calls: calls,
-        line: line,
-    }
+    let line = verdict_line(calls.map(|_| ()), out);
+    CallCount { calls, line }
 }
 
 // ---- after the calls
 
 // The refusal of the bytes at the end of the input: a call is due, or there is a byte after the last call.
+#[tactic(auto, using(refusals::proofs::Numbers::number_not_zero), unfolding(crate::specs::Ends::end_fault, logs::specs::Records::read_record))]
 fn end_fault(left: u16, bytes: &[u8]) -> Result<(), Refusal>
     ensures { verdict_number result ≡ end_fault left bytes.now }
 {
     if left == 0 {
         return check_tail(bytes);
     }
-    let found = read_record(bytes);
-    match found {
-        Ok(_) => Ok(()),
-        Err(refusal) => Err(refusal),
-    }
+    read_record(bytes)?;
+    Ok(())
 }
 
 // The line that ends the listing, if any. The input has ended with less than a record left over, or no call is left.
@@ -77,6 +62,5 @@ pub fn finish(left: u16, bytes: &[u8], out: &mut [u8]) -> Result<usize, Refusal>
     ensures outcome { outcome_as_numbers result ≡ line_as_numbers (end_line left bytes.now) (length out.old) 0 }
     ensures written { out.new ≡ line_buffer (end_line left bytes.now) out.old 0 }
 {
-    let verdict = end_fault(left, bytes);
-    verdict_line(verdict, out)
+    verdict_line(end_fault(left, bytes), out)
 }

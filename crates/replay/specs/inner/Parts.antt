@@ -1,15 +1,10 @@
 -- What some records did.
-use Rattle.std.specs.Prelude.{ℕ, List}
-use Rattle.rules.specs.InPlace.{state_by}
+use Rattle.rules.specs.declared.states.LentArrays.{LentArrays}
+use Rattle.rules.specs.InPlace.{state_lent}
 use Rattle.replay.specs.declared.RanBlock.{RanBlock}
 use Rattle.replay.specs.declared.Progress.{Progress}
 
--- What a block returns, from what its records return and leave in the arrays of the state.
-abbrev pub ran_by : Progress → List ℕ → List ℕ → List ℕ → RanBlock
-ran_by p entry since earlier =
-    record {
-      state = state_by p.moment entry since earlier;
-      calls = p.calls;
-      written = p.written;
-      ended = p.ended;
-    }
+-- What a block returns, from what its records return and leave in the lent arrays.
+abbrev pub ran_lent : Progress → LentArrays → RanBlock
+ran_lent p arrays =
+    record { state = state_lent p.moment arrays; calls = p.calls; written = p.written; ended = p.ended }
