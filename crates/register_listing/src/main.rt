@@ -9,10 +9,9 @@ mod text;
 
 use driver::{read_lent, write_lent};
 use log_input::{bring_to_front, fill_plan, fill_to, tell};
-use plans::Plan;
 use refusals::Refusal;
 use registers::{BLOCK, Block};
-use rules::{Board, State};
+use rules::{Board, LentBoard, State};
 use std::io::Stdin;
 use text::{Line, empty_line, print, put, put_block, put_number, put_word};
 
@@ -66,22 +65,22 @@ fn print_line(rt: &HostRuntime, line: Line, block: Block) {
 }
 
 fn write_at(rt: &HostRuntime, kept: Kept, offset: u8, value: u8) -> Kept {
-    let board = kept.board;
-    let rows = board.rows;
-    let lengths = board.lengths;
-    let terms = board.terms;
-    let state = kept.state;
-    let block = kept.block;
-    let change = write_lent(terms, &rows, &lengths, state, block, offset, value);
-    let written = change.written;
-    let verdict = written.verdict;
-    let after = change.block;
-    print_line(rt, write_line(offset, value, verdict), after);
-    let next = written.state;
+    let Kept {
+        board,
+        state,
+        block,
+    } = kept;
+    let lent = LentBoard {
+        terms: board.terms,
+        rows: &board.rows,
+        lengths: &board.lengths,
+    };
+    let (block, written) = write_lent(lent, state, block, offset, value);
+    print_line(rt, write_line(offset, value, written.map(|_| ())), block);
     Kept {
-        board: board,
-        state: next,
-        block: after,
+        board,
+        state: written.unwrap_or(state),
+        block,
     }
 }
 
@@ -129,31 +128,27 @@ fn take_turns(rt: &HostRuntime, source: &mut Stdin, first: Kept, given: Input) {
     }
 }
 
-// A fresh board, and a block of zeros.
-fn opened(plan: Plan) -> Kept {
-    let fresh = boards::fresh_of(plan);
-    let board = fresh.board;
-    let state = fresh.state;
-    Kept {
-        board: board,
-        state: state,
+// A fresh board of the plan at the start of the bytes, and a block of zeros; and how many bytes the plan took.
+fn opened(bytes: &[u8]) -> Result<(Kept, usize), Refusal> {
+    let read = plan_bytes::read(bytes)?;
+    let fresh = boards::fresh_of(read.plan)?;
+    let kept = Kept {
+        board: fresh.board,
+        state: fresh.state,
         block: Block {
             bytes: [0u8; BLOCK],
         },
-    }
+    };
+    Ok((kept, read.bytes))
 }
 
 // The count of bytes is taken modulo the number of counts, so that it is in range.
 fn print_listing(rt: &HostRuntime, source: &mut Stdin, input: Input) {
-    let bytes = input.bytes;
     let end = input.have % COUNTS;
-    let read = plan_bytes::read(&bytes[..end]);
-    let outcome = read.outcome;
-    match outcome {
-        Ok(size) => {
-            let plan = read.plan;
+    match opened(&input.bytes[..end]) {
+        Ok((kept, size)) => {
             let rest = after(rt, source, input, size);
-            take_turns(rt, source, opened(plan), rest);
+            take_turns(rt, source, kept, rest);
         }
         Err(refusal) => print(rt, put(put_refusal(empty_line(), refusal), 10)),
     }
