@@ -22,26 +22,23 @@ fn largest(requested: &[u8; MAX_PROCESSORS]) -> u8
     most
 }
 
-// Those among the processors whose requests' entries are below the count. On a board that was made from a plan all are,
-// and one comparison with the largest is enough. The walk is over a mask that is not a constant, so that it compiles to
-// a short loop.
+// Those among the processors whose requests' entries are below the count, checked one by one.
+#[inline(never)]
+fn each_below(among: u32, count: u8, requested: &[u8; MAX_PROCESSORS]) -> u32
+    ensures { result ≡ mask_of max_processors (λ p. bit among p && ltb (get_or requested.now p 0) count) }
+{
+    those(among, |p| requested[p as usize] < count)
+}
+
+// Those among the processors whose requests' entries are below the count. On a board that was made from a plan all are:
+// one comparison with the largest is enough, and the compiled code calls nothing.
+#[inline]
 pub fn entries_below(among: u32, count: u8, requested: &[u8; MAX_PROCESSORS]) -> u32
     ensures { result ≡ mask_of max_processors (λ p. bit among p && ltb (get_or requested.now p 0) count) }
 {
     if largest(requested) < count {
-        return among;
+        among
+    } else {
+        each_below(among, count, requested)
     }
-    those(among, |p| requested[p as usize] < count)
-}
-
-// All processors whose requests' entries are below the count. It compares the largest first: if all are below, the
-// compiled code calls nothing.
-pub fn all_below(count: u8, requested: &[u8; MAX_PROCESSORS]) -> u32
-    ensures { result ≡ mask_of max_processors (λ p. ltb (get_or requested.now p 0) count) }
-{
-    let most = largest(requested);
-    if most < count {
-        return ALL;
-    }
-    entries_below(ALL, count, requested)
 }

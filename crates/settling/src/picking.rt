@@ -3,12 +3,12 @@ ghost use Rattle.std.specs.Prelude.{◌≡◌, cond, ◌&&◌, Bool, true, ℕ, 
 ghost use Rattle.masks.specs.Sets.{bit, added, mask_of};
 ghost use Rattle.plans.specs.Entries.{max_processors};
 
-// Adds the place to the set if the test holds. It does not branch, because a branch on a row is hard to predict.
+// Adds the place to the set if the test holds. The compiled code does not branch on it.
 fn add_if(set: u32, place: u32, test: bool) -> u32
     requires { place < 32 }
     ensures { result ≡ cond test (added set place) set }
 {
-    set | (test as u32) << place
+    if test { set | (1 << place) } else { set }
 }
 
 // The processors of the mask that pass the test.

@@ -7,16 +7,17 @@ ghost use Rattle.rules.specs.Settling.{settled};
 ghost use Rattle.rules.specs.inner.Moves.{Table, known_in};
 
 use crate::conflict_walks::{first_in_queue, known_among, unopposed};
-use crate::known_requests::all_below;
+use crate::known_requests::{ALL, entries_below};
 use plans::MAX_PROCESSORS;
 use rules::{LentFacts, Phases};
 
 // The processors whose requests' entries have a row. Every entry below 64 has one.
 fn known_in(rows: &[u64], requested: &[u8; MAX_PROCESSORS]) -> u32
     requires { length rows.now ≡ max_entries }
-    ensures { (result ≡ known_in requested.now) × Table rows.now }
+    ensures known { result ≡ known_in requested.now }
+    ensures table { Table rows.now }
 {
-    all_below(rows.len() as u8, requested)
+    entries_below(ALL, rows.len() as u8, requested)
 }
 
 // The phases after the four steps. Each step uses the masks that the step before it left. Of the known processors, w

@@ -19,9 +19,6 @@ module _ (f : ℕ → ℕ) (most count : ℕ) (bound : (k : ℕ) → k < max_pro
       ∙ and-true (bit among k)))
       (own_is max_processors among small)).is
 
-  pub everyone_below : 2 ^ max_processors - 1 ≡ mask_of max_processors (λ k. ltb (f k) count)
-  everyone_below = (agree_is (λ k l. sym (lt-ltb (f k) count (omega (arith, bound k l)))) (all_is max_processors)).is
-
 -- Those of all the processors.
 pub of_all : (P : ℕ → Bool) → mask_of max_processors (λ k. bit (2 ^ max_processors - 1) k && P k) ≡ mask_of max_processors P
 of_all P = mask_agree max_processors _ _ (λ k l. ap (λ t. t && P k) (bit_is (all_is max_processors) k l))

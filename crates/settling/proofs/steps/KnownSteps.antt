@@ -1,11 +1,14 @@
 -- The four steps with the masks that the code uses: only the known reads. Assumes nothing.
 use mathlib.Core.Path.{◌≡◌, refl, ap, ◌∙◌}
 use mathlib.Core.Bool.{false, ◌&&◌, and-false}
-use Prim.Native.Nat.{ℕ, ◌^◌, ◌<◌}
+use mathlib.Core.List.{List}
+use Prim.Native.Nat.{ℕ, ◌-◌, ◌^◌, ◌<◌}
 use lib.Bits.{bit_and, bit_or}
 use lib.Dec.{ltb}
+use lib.ListN.{get_or}
 use Rattle.masks.specs.Sets.{bit, without, mask_of}
 use Rattle.masks.proofs.Tests.{own_is, and_is}
+use Rattle.settling.proofs.known_requests.Below.{of_all}
 use Rattle.plans.specs.Entries.{max_processors, max_entries}
 use Rattle.rules.specs.Requests.{Facts, entry_of, is_writer, active}
 use Rattle.rules.specs.Settling.{step1, step2, step3, step4}
@@ -24,6 +27,14 @@ own_follows ph w e h =
       entitles = (own_is max_processors ph.entitled e).is;
       holds = (own_is max_processors ph.holding h).is;
     }
+
+-- The known processors, as the code finds them among all.
+pub all_known : (requested : List ℕ) (count k : ℕ) → count ≡ max_entries
+    → k ≡ mask_of max_processors (λ p. bit (2 ^ max_processors - 1) p && ltb (get_or requested p 0) count)
+    → k ≡ known_in requested
+all_known requested count k rows e =
+    e ∙ of_all (λ p. ltb (get_or requested p 0) count)
+    ∙ ap (λ (n : ℕ). mask_of max_processors (λ p. ltb (get_or requested p 0) n)) rows
 
 -- The writes among the known processors of a mask.
 pub known_writes : (f : Facts) {k w : ℕ} (a : ℕ) → k ≡ known_in f.requested → w
