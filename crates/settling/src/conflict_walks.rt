@@ -44,7 +44,8 @@ pub fn those_in(requested: &[u8; MAX_PROCESSORS], set: u64, among: u32) -> u32
 // The same for known processors, whose entries need no test of their own.
 pub fn known_among(requested: &[u8; MAX_PROCESSORS], set: u64, among: u32) -> u32
     requires { Known requested.now among }
-    ensures { result ≡ mask_of max_processors (λ p. bit among p && bit set (get_or requested.now p 0)) }
+    ensures those { result ≡ mask_of max_processors (λ p. bit among p && bit set (get_or requested.now p 0)) }
+    ensures known { Known requested.now result }
 {
     those(among, |p| has_entry(requested, set, p))
 }
@@ -85,7 +86,8 @@ fn in_row(row: u64, requested: &[u8; MAX_PROCESSORS], among: u32) -> bool
 // row.
 pub fn unopposed(facts: LentFacts<'_>, candidates: u32, others: u32) -> u32
     requires { Known facts.requested.now candidates × Known facts.requested.now others }
-    ensures { result ≡ unopposed_in (facts_lent facts.entry) candidates others }
+    ensures those { result ≡ unopposed_in (facts_lent facts.entry) candidates others }
+    ensures known { Known facts.entry.requested.now result }
 {
     if candidates == 0 {
         return 0;

@@ -4,7 +4,7 @@ ghost use Rattle.std.specs.Prelude.{◌≡◌, length};
 ghost use Rattle.plans.specs.Entries.{max_entries};
 ghost use Rattle.rules.specs.InPlace.{facts_lent};
 ghost use Rattle.rules.specs.Settling.{settled};
-ghost use Rattle.rules.specs.inner.Moves.{Table, known_in};
+ghost use Rattle.rules.specs.inner.Moves.{Table, Known, known_in};
 
 use crate::conflict_walks::{first_in_queue, known_among, unopposed};
 use crate::known_requests::{ALL, entries_below};
@@ -14,7 +14,8 @@ use rules::{LentFacts, Phases};
 // The processors whose requests' entries have a row. Every entry below 64 has one.
 fn known_in(rows: &[u64], requested: &[u8; MAX_PROCESSORS]) -> u32
     requires { length rows.now ≡ max_entries }
-    ensures known { result ≡ known_in requested.now }
+    ensures those { result ≡ known_in requested.now }
+    ensures known { Known requested.now result }
     ensures table { Table rows.now }
 {
     entries_below(ALL, rows.len() as u8, requested)

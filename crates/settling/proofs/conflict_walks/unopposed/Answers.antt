@@ -12,6 +12,7 @@ use Rattle.plans.specs.Entries.{max_processors}
 use Rattle.rules.specs.Requests.{Facts, entry_of, conflicts}
 use Rattle.rules.specs.InPlace.{facts_lent}
 use Rattle.rules.specs.inner.Moves.{unopposed_in}
+use Rattle.rules.proofs.Known.{known_kept}
 use Rattle.settling.proofs.conflict_walks.unopposed.Goals as goal
 
 module _ (f : Facts) (candidates others : ℕ) where
@@ -30,13 +31,19 @@ module _ (f : Facts) (candidates others : ℕ) where
       (has (get_or f.rows (entry_of f p) 0)))
 
 pub returns-then-candidates-eq0 : goal.returns-then-candidates-eq0
-returns-then-candidates-eq0 c = none_kept max_processors _ _ c.if-candidates-eq0.true
+returns-then-candidates-eq0 c =
+    let kept = none_kept max_processors _ _ c.if-candidates-eq0.true in
+    record { those = kept; known = known_kept _ c.requires.0 kept }
 
 pub returns-then-others-eq0 : goal.returns-then-others-eq0
 returns-then-others-eq0 c =
-    no-others (facts_lent c.args.facts) _ _ c.ranges.candidates.fits c.if-others-eq0.true
+    record {
+      those = no-others (facts_lent c.args.facts) _ _ c.ranges.candidates.fits c.if-others-eq0.true;
+      known = c.requires.0;
+    }
 
 pub returns : goal.returns
 returns c =
-    clear-of-others (facts_lent c.args.facts) _ _ _ _ c.entries_of-set.ensures
-    (c.those.ensures _ (λ p r l h e. search rules))
+    let kept = clear-of-others (facts_lent c.args.facts) _ _ _ _ c.entries_of-set.ensures
+    (c.those.ensures _ (λ p r l h e. search rules)) in
+    record { those = kept; known = known_kept _ c.requires.0 kept }
