@@ -1,45 +1,30 @@
 // What a program in C or Rust gets back when it reads a plan or makes a query, in numbers. Specification, section 11,
 // clauses 11.2 and 11.4.
 ghost use Rattle.std.specs.Prelude.{◌≡◌};
-ghost use Rattle.refusals.specs.Number.{number_of};
-ghost use Rattle.queries.specs.Answers.{phase_as_numbers, mask_as_numbers};
+ghost use Rattle.encoding.specs.Buffers.{outcome_as_numbers};
 ghost use Rattle.c_boards.specs.Answers.{c_answer_as_numbers};
 
-use crate::CAnswer;
 use refusals::Refusal;
 
-// A refusal: its number, and 0 as the value.
-fn refusal_for_c(refusal: Refusal) -> CAnswer
-    ensures { c_answer_as_numbers result ≡ record { number = number_of refusal; value = 0 } }
-{
-    CAnswer {
-        refusal: u8::from(refusal) as u32,
-        value: 0,
-    }
+// An answer in numbers: the number of the refusal, 0 if there is none, and a value, which is 0 with a refusal.
+#[repr(C)]
+#[derive(Clone, Copy)]
+pub struct CAnswer {
+    pub refusal: u32,
+    pub value: u64,
 }
 
-// The number of a processor's state, or the refusal.
-pub fn phase_for_c(answer: Result<Phase, Refusal>) -> CAnswer
-    ensures { c_answer_as_numbers result ≡ phase_as_numbers answer }
-{
-    match answer {
-        Ok(phase) => CAnswer {
-            refusal: 0,
-            value: phase_number(phase) as u64,
-        },
-        Err(refusal) => refusal_for_c(refusal),
-    }
-}
+// A count of bytes, a mask of processors or the number of a state, or the refusal.
+impl From<Result<u64, Refusal>> for CAnswer {
+    ghost from_gives = { λ answer told. c_answer_as_numbers told ≡ outcome_as_numbers answer };
 
-// A mask of processors, or the refusal.
-pub fn mask_for_c(answer: Result<u32, Refusal>) -> CAnswer
-    ensures { c_answer_as_numbers result ≡ mask_as_numbers answer }
-{
-    match answer {
-        Ok(mask) => CAnswer {
-            refusal: 0,
-            value: mask as u64,
-        },
-        Err(refusal) => refusal_for_c(refusal),
+    fn from(answer: Result<u64, Refusal>) -> CAnswer {
+        match answer {
+            Ok(value) => CAnswer { refusal: 0, value },
+            Err(refusal) => CAnswer {
+                refusal: u32::from(u8::from(refusal)),
+                value: 0,
+            },
+        }
     }
 }

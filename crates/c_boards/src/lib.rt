@@ -3,17 +3,8 @@
 // `c_queries`. Specification, section 11.
 #![tactic(auto)]
 
-mod bytes;
 mod c_answers;
 mod parts;
 
-pub use bytes::bytes_for_c;
-pub use c_answers::{mask_for_c, phase_for_c};
-pub use parts::{moment_of, phases_of, store_moment};
-// An answer in numbers: the number of the refusal, 0 if there is none, and a value, which is 0 with a refusal.
-#[repr(C)]
-#[derive(Clone, Copy)]
-pub struct CAnswer {
-    pub refusal: u32,
-    pub value: u64,
-}
+pub use c_answers::CAnswer;
+pub use parts::{moment_of, phases_of, store_moment, terms_of};

@@ -13,12 +13,12 @@ ghost use Rattle.queries.specs.WholeBoard.{board_query, board_buffer};
 ghost use Rattle.c_boards.specs.Parts.{terms_by, phases_by, moment_by};
 ghost use Rattle.c_boards.specs.Answers.{c_answer_as_numbers};
 
-use c_boards::{CAnswer, bytes_for_c, mask_for_c, moment_of, phase_for_c, phases_of};
+use c_boards::{CAnswer, moment_of, phases_of, terms_of};
 pub use c_contention::{CConflict, bittmelon_shared_parts};
 use plans::{MAX_ENTRIES, MAX_PROCESSORS};
 use queries::{direct_waits_in_place, list_board_in_place, phase_in_place};
 use reach::reach_in_place;
-use rules::Terms;
+use rules::LentFacts;
 
 // Clause 7.1: the number of a processor's state. Refused with 11.
 pub fn bittmelon_state_parts(
@@ -32,13 +32,9 @@ pub fn bittmelon_state_parts(
         (board_with (terms_by processors entries 0) [])
         (state_with requested.now [] (phases_by phases.now)) processor }
 {
-    let terms = Terms {
-        processors: processors,
-        count: entries,
-        writes: 0,
-    };
-    let given = phases_of(*phases);
-    phase_for_c(phase_in_place(terms, requested, given, processor))
+    let terms = terms_of(processors, entries, 0);
+    let answer = phase_in_place(terms, requested, phases_of(*phases), processor);
+    CAnswer::from(answer.map(|phase| u64::from(u8::from(phase))))
 }
 
 // Clause 7.2: the direct waits of a processor, as a mask. Refused with 11.
@@ -56,13 +52,14 @@ pub fn bittmelon_waits_parts(
         (board_with (terms_by processors entries writes) rows.now)
         (state_with requested.now earlier.now (phases_by phases.now)) processor }
 {
-    let terms = Terms {
-        processors: processors,
-        count: entries,
-        writes: writes,
+    let facts = LentFacts {
+        terms: terms_of(processors, entries, writes),
+        rows,
+        requested,
+        earlier,
     };
-    let given = phases_of(*phases);
-    mask_for_c(direct_waits_in_place(terms, rows, requested, earlier, given, processor))
+    let answer = direct_waits_in_place(facts, phases_of(*phases), processor);
+    CAnswer::from(answer.map(u64::from))
 }
 
 // Clause 7.3: the reach of a processor, as a mask. The query leaves a word for each processor in the scratch, and bytes
@@ -87,14 +84,14 @@ pub fn bittmelon_reach_parts(
         (state_with requested.now earlier.now (phases_by phases.now)) processor
         scratch.old }
 {
-    let terms = Terms {
-        processors: processors,
-        count: entries,
-        writes: writes,
+    let facts = LentFacts {
+        terms: terms_of(processors, entries, writes),
+        rows,
+        requested,
+        earlier,
     };
-    let given = phases_of(*phases);
-    let answer = reach_in_place(terms, rows, requested, earlier, given, processor, scratch);
-    mask_for_c(answer)
+    let answer = reach_in_place(facts, phases_of(*phases), processor, scratch);
+    CAnswer::from(answer.map(u64::from))
 }
 
 // Clause 7.7: fills the buffer with the list of the whole board and returns how many bytes it took; bytes after the
@@ -119,12 +116,12 @@ pub fn bittmelon_list_parts(
         requested.now since.now earlier.now)
         buffer.old }
 {
-    let terms = Terms {
-        processors: processors,
-        count: entries,
-        writes: writes,
+    let facts = LentFacts {
+        terms: terms_of(processors, entries, writes),
+        rows,
+        requested,
+        earlier,
     };
-    let moment = moment_of(last, *phases);
-    let outcome = list_board_in_place(terms, rows, moment, requested, since, earlier, buffer);
-    bytes_for_c(outcome)
+    let outcome = list_board_in_place(facts, since, moment_of(last, *phases), buffer);
+    CAnswer::from(outcome.map(|count| count as u64))
 }
