@@ -3,7 +3,7 @@ ghost use Rattle.std.specs.Prelude.{◌≡◌, cond, eqb};
 ghost use Rattle.refusals.specs.Due.{as_numbers};
 ghost use Rattle.plans.specs.Entries.{plan_size};
 ghost use Rattle.plans.specs.Reading.{blank_plan, plan_in, read_as_numbers, plan_read, taken_as_numbers, plan_taken};
-ghost use Rattle.plan_bytes.specs.inner.Body.{body_fault, CountsThere, whole_read};
+ghost use Rattle.plan_bytes.specs.inner.Body.{body_fault, CountsThere};
 
 use crate::entry_reader::entry_of;
 use crate::plan_head::check_head;
@@ -17,22 +17,6 @@ const BLANK: Entry = Entry {
     set: 0,
     length: 0,
 };
-
-// Clause 2.8: the plan with the counts in the bytes and these entries, and the number of bytes that it took.
-fn whole(bytes: &[u8], entries: [Entry; MAX_ENTRIES], taken: usize) -> Read
-    requires { CountsThere bytes.now }
-    ensures { result ≡ whole_read bytes.now entries taken }
-{
-    Read {
-        plan: Plan {
-            processors: bytes[0],
-            resources: bytes[1],
-            count: bytes[2],
-            entries: entries,
-        },
-        bytes: taken,
-    }
-}
 
 // Clause 2.9: reads the entries after accepted counts. The first fault ends the reading.
 fn read_entries(bytes: &[u8]) -> Result<Read, Refusal>
@@ -70,7 +54,15 @@ fn read_entries(bytes: &[u8]) -> Result<Read, Refusal>
         i += 1;
     };
     verdict?;
-    Ok(whole(bytes, entries, at))
+    Ok(Read {
+        plan: Plan {
+            processors: bytes[0],
+            resources: bytes[1],
+            count: bytes[2],
+            entries,
+        },
+        bytes: at,
+    })
 }
 
 // Clause 2.8: the plan and the number of bytes that it took, or the refusal. Bytes after the plan are ignored.

@@ -1,7 +1,7 @@
 use native.Mathlib.Omega.{arith}
 use borrow.Author.Rules.{rules}
 use Rattle.std.specs.Prelude.{Ok, Err}
-use mathlib.Core.Path.{◌≡◌}
+use mathlib.Core.Path.{◌≡◌, refl}
 use Rattle.refusals.specs.Number.{number_of}
 use Rattle.plans.proofs.Sizes.{sized_due}
 use Rattle.plan_bytes.proofs.plan_reader.Answers.{refused_only}
@@ -46,7 +46,7 @@ returns c =
       | else-count-i+else-bytes-at-lt-ENTRY_BYTES+in_default+in_default-set+in-Err-length w ↦
           absurd (not_both _ _ w.verdict-is accepted)
     ])
-    _ c.whole.ensures
+    _ refl
     in
     record { outcome = both.0; plan = both.1 }
 
