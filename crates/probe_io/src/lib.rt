@@ -1,9 +1,12 @@
-// What the test probes share: how they show bytes, in hexadecimal digits, and refusals.
+// What the test probes share: their input as it arrives, and how they show bytes, in hexadecimal digits, and refusals.
 #![tactic(auto)]
+
+mod inputs;
 
 ghost use Rattle.std.specs.Prelude.{Some};
 ghost use Rattle.probe_io.specs.Texts.{hex_of, refused};
 
+pub use inputs::Input;
 use refusals::Refusal;
 use std::fmt;
 
