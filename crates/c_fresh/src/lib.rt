@@ -3,8 +3,8 @@
 // sections 4 and 11.
 #![tactic(auto)]
 
-mod board;
-mod state;
+mod fresh_reads;
+mod stores;
 
 ghost use Rattle.std.specs.Prelude.{◌≡◌};
 ghost use Rattle.plans.specs.Reading.{read_as_numbers};
@@ -13,10 +13,10 @@ ghost use Rattle.c_boards.specs.Parts.{terms_by, moment_by, board_in};
 ghost use Rattle.c_boards.specs.Answers.{c_answer_as_numbers};
 ghost use Rattle.c_fresh.specs.Fresh.{version_number, board_after, state_after_plan};
 
-use board::store_board;
-use c_boards::{CAnswer, bytes_for_c};
+use c_boards::CAnswer;
+use fresh_reads::{Opened, read_fresh};
 use plans::{MAX_ENTRIES, MAX_PROCESSORS};
-use state::store_state;
+use stores::{store_board, store_state};
 
 // The version of the archive, to compare with the header's.
 pub fn bittmelon_version_number() -> u32
@@ -53,12 +53,21 @@ pub fn bittmelon_fresh_parts(
         ≡ state_after_plan plan.now (state_by (moment_by last.old phases.old)
         requested.old since.old earlier.old) }
 {
-    let read = plan_bytes::read(plan);
-    let outcome = read.outcome;
-    let value = read.plan;
-    store_board(
-        outcome, value, processors, entries, writes, lengths, names, widened, rows,
-    );
-    store_state(outcome, last, phases, requested, since, earlier);
-    bytes_for_c(outcome)
+    match read_fresh(plan) {
+        Ok(Opened { fresh, bytes }) => {
+            store_board(
+                &fresh.board,
+                processors,
+                entries,
+                writes,
+                lengths,
+                names,
+                widened,
+                rows,
+            );
+            store_state(&fresh.state, last, phases, requested, since, earlier);
+            CAnswer::from(Ok(bytes as u64))
+        }
+        Err(refusal) => CAnswer::from(Err(refusal)),
+    }
 }
