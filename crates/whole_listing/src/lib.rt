@@ -14,21 +14,20 @@ pub const BLOCK_ROOM: usize = 4096;
 
 pub const LINES_ROOM: usize = 65536;
 
-// The sizes of the program's buffers are those of the definition. The plan's buffer has room for the longest plan.
-pub fn plan_room() -> usize
-    ensures { result ≡ plan_room }
-{
-    PLAN_ROOM
+#[derive(Clone, Copy)]
+pub struct Rooms {
+    pub plan: usize,
+    pub block: usize,
+    pub lines: usize,
 }
 
-pub fn block_room() -> usize
-    ensures { result ≡ block_room }
+// The sizes of the program's buffers are those of the definitions. The plan's buffer has room for the longest plan.
+pub fn buffer_rooms() -> Rooms
+    ensures { result ≡ record { plan = plan_room; block = block_room; lines = lines_room } }
 {
-    BLOCK_ROOM
-}
-
-pub fn lines_room() -> usize
-    ensures { result ≡ lines_room }
-{
-    LINES_ROOM
+    Rooms {
+        plan: PLAN_ROOM,
+        block: BLOCK_ROOM,
+        lines: LINES_ROOM,
+    }
 }
