@@ -1,7 +1,7 @@
 // The opening of a log: its plan is read, the plan's fresh arbiter is made, and the line that opens the listing is
 // written at the start of a lent buffer (specification, sections 2, 5 and 9). `log_ends` handles the call count and the
 // end.
-ghost use Rattle.std.specs.Prelude.{◌≡◌, length};
+ghost use Rattle.std.specs.Prelude.{◌≡◌, ◌≤◌, length, IfOk};
 ghost use Rattle.encoding.specs.Buffers.{outcome_as_numbers};
 ghost use Rattle.plans.specs.Acceptance.{plan_fault};
 ghost use Rattle.plans.specs.Reading.{read_as_numbers, plan_read, taken_as_numbers, plan_taken};
@@ -66,6 +66,7 @@ fn opening_line(read: Result<Read, Refusal>, out: &mut [u8]) -> Result<usize, Re
 #[tactic(auto, using(crate::proofs::Openings::accepted_if_read))]
 pub fn begin(bytes: &[u8], out: &mut [u8]) -> Begun
     ensures outcome { opened_as_numbers result.plan ≡ read_as_numbers bytes.now }
+    ensures inside { IfOk result.plan (λ opened. opened.bytes ≤ length bytes.now) }
     ensures board { board_opened result.plan ≡ fresh_board (plan_read bytes.now) }
     ensures state { state_opened result.plan ≡ fresh_state }
     ensures line { outcome_as_numbers result.line ≡ line_as_numbers (opening_line bytes.now) (length out.old) 0 }
