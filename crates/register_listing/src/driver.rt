@@ -1,34 +1,55 @@
-// A driver's own block, lent to the functions that read and write it.
-ghost use Rattle.std.specs.Prelude.{◌≡◌};
-ghost use Rattle.rules.specs.InPlace.{board_lent};
+// A driver: it keeps a board, a state and a register block, and lends them to the functions that read and write the
+// block.
+ghost use Rattle.std.specs.Prelude.{◌≡◌, OnErr};
+ghost use Rattle.rules.specs.InPlace.{board_by};
 ghost use Rattle.encoding.specs.Buffers.{outcome_as_numbers};
 ghost use Rattle.registers.specs.Registers.{register_read};
 ghost use Rattle.register_block.specs.Commands.{register_write, written_as_numbers};
+ghost use Rattle.register_listing.specs.Driving.{state_or_refusal};
 
+use boards::Fresh;
 use refusals::Refusal;
 use register_block::{read_register, write_register};
-use registers::Block;
-use rules::{LentBoard, State};
+use registers::{BLOCK, Block};
+use rules::{Board, LentBoard, State};
 
-// The block after the write, and the state after it or the refusal.
-pub fn write_lent(
-    board: LentBoard<'_>,
-    state: State,
-    block: Block,
-    offset: u8,
-    value: u8,
-) -> (Block, Result<State, Refusal>)
-    ensures { written_as_numbers result.1 state result.0
-        ≡ register_write (board_lent board.entry) state block offset value }
-{
-    let mut kept = block;
-    let written = write_register(&mut kept, board, state, offset, value);
-    (kept, written)
+#[derive(Clone, Copy)]
+pub struct Driver {
+    pub board: Board,
+    pub state: State,
+    pub block: Block,
 }
 
-pub fn read_lent(block: Block, offset: u8) -> Result<u8, Refusal>
-    ensures { outcome_as_numbers result ≡ register_read block offset }
-{
-    let kept = block;
-    read_register(&kept, offset)
+impl Driver {
+    // A fresh board, and a block of zeros.
+    pub fn new(fresh: Fresh) -> Driver {
+        Driver {
+            board: fresh.board,
+            state: fresh.state,
+            block: Block { bytes: [0; BLOCK] },
+        }
+    }
+
+    pub fn read(&self, offset: u8) -> Result<u8, Refusal>
+        ensures { outcome_as_numbers result ≡ register_read self.now.block offset }
+    {
+        read_register(&self.block, offset)
+    }
+
+    // If the write is refused, the block and the state stay as they are.
+    pub fn write(&mut self, offset: u8, value: u8) -> Result<(), Refusal>
+        ensures board { self.new.board ≡ self.old.board }
+        ensures state { OnErr result (self.new.state ≡ self.old.state) }
+        ensures change { written_as_numbers (state_or_refusal result self.new.state) self.old.state self.new.block
+            ≡ register_write (board_by self.old.board.terms self.old.board.rows self.old.board.lengths)
+            self.old.state self.old.block offset value }
+    {
+        let lent = LentBoard {
+            terms: self.board.terms,
+            rows: &self.board.rows,
+            lengths: &self.board.lengths,
+        };
+        self.state = write_register(&mut self.block, lent, self.state, offset, value)?;
+        Ok(())
+    }
 }

@@ -5,166 +5,88 @@
 #![tactic(auto)]
 
 mod driver;
-mod text;
 
-use driver::{read_lent, write_lent};
-use log_input::{bring_to_front, fill_plan, fill_to, tell};
-use refusals::Refusal;
-use registers::{BLOCK, Block};
-use rules::{Board, LentBoard, State};
+use driver::Driver;
+use log_input::tell;
+use probe_io::{Hex, Input, Refused};
+use std::io;
 use std::io::Stdin;
-use text::{Line, empty_line, print, put, put_block, put_number, put_word};
 
-// The size of the input's buffer, which has room for the longest plan, and of an operation.
-const INPUT_ROOM: usize = 4096;
-
+// The bytes of an operation.
 const OPERATION: usize = 3;
 
-// How many counts of bytes are possible in the buffer, from none to all.
-const COUNTS: usize = INPUT_ROOM + 1;
-
-// What a driver keeps.
 #[derive(Clone, Copy)]
-struct Kept {
-    board: Board,
-    state: State,
-    block: Block,
+enum Operation {
+    Read { offset: u8 },
+    Write { offset: u8, value: u8 },
 }
 
-// The bytes of the input that were read and not yet used come first.
-#[derive(Clone, Copy)]
-struct Input {
-    bytes: [u8; INPUT_ROOM],
-    have: usize,
-}
-
-fn put_refusal(line: Line, refusal: Refusal) -> Line {
-    put_number(put_word(line, b"refused"), u8::from(refusal))
-}
-
-fn read_line(offset: u8, answer: Result<u8, Refusal>) -> Line {
-    let lead = put_number(put(empty_line(), b'r'), offset);
-    match answer {
-        Ok(value) => put_number(lead, value),
-        Err(refusal) => put_refusal(put(lead, 32), refusal),
+// The operation at the start of the input, if there is one.
+fn operation_in(bytes: &[u8]) -> Option<Operation> {
+    match *bytes {
+        [0, offset, 0, ..] => Some(Operation::Read { offset }),
+        [1, offset, value, ..] => Some(Operation::Write { offset, value }),
+        _ => None,
     }
 }
 
-fn write_line(offset: u8, value: u8, verdict: Result<(), Refusal>) -> Line {
-    let lead = put_number(put_number(put(empty_line(), b'w'), offset), value);
-    match verdict {
-        Ok(()) => lead,
-        Err(refusal) => put_refusal(put(lead, 32), refusal),
-    }
-}
-
-// Prints a line, and the bytes of the block after it.
-fn print_line(rt: &HostRuntime, line: Line, block: Block) {
-    let bytes = block.bytes;
-    print(rt, put(put_block(put(line, 32), bytes), 10));
-}
-
-fn write_at(rt: &HostRuntime, kept: Kept, offset: u8, value: u8) -> Kept {
-    let Kept {
-        board,
-        state,
-        block,
-    } = kept;
-    let lent = LentBoard {
-        terms: board.terms,
-        rows: &board.rows,
-        lengths: &board.lengths,
-    };
-    let (block, written) = write_lent(lent, state, block, offset, value);
-    print_line(rt, write_line(offset, value, written.map(|_| ())), block);
-    Kept {
-        board,
-        state: written.unwrap_or(state),
-        block,
-    }
-}
-
-// Carries out the operation at the start of the input, and prints it.
-fn operate(rt: &HostRuntime, kept: Kept, input: Input) -> Kept {
-    let offset = input.bytes[1];
-    if input.bytes[0] == 0 {
-        let block = kept.block;
-        print_line(rt, read_line(offset, read_lent(block, offset)), block);
-        kept
-    } else {
-        write_at(rt, kept, offset, input.bytes[2])
-    }
-}
-
-// Whether an operation is at the start of the input.
-fn has_operation(input: Input) -> bool {
-    let kind = input.bytes[0];
-    let value = input.bytes[2];
-    (OPERATION <= input.have) & ((kind == 1) | ((kind == 0) & (value == 0)))
-}
-
-// So many bytes are used. After them the next operation is read, as far as the input goes.
-fn after(rt: &HostRuntime, source: &mut Stdin, input: Input, used: usize) -> Input {
-    let mut bytes = input.bytes;
-    let first = bring_to_front(&mut bytes, used, input.have);
-    let fed = fill_to(source, &mut bytes, first, OPERATION);
-    tell(rt, "register_listing: standard input", fed.failure);
-    Input {
-        bytes: bytes,
-        have: fed.have,
-    }
-}
-
-// A proved loop must end, and nothing states that the input does. So the loop counts its turns down, from a number that
-// no run uses up.
-fn take_turns(rt: &HostRuntime, source: &mut Stdin, first: Kept, given: Input) {
-    let mut kept = first;
-    let mut input = given;
-    let mut turns = u64::MAX;
-    while (turns > 0) & has_operation(input) {
-        kept = operate(rt, kept, input);
-        input = after(rt, source, input, OPERATION);
-        turns -= 1;
-    }
-}
-
-// A fresh board of the plan at the start of the bytes, and a block of zeros; and how many bytes the plan took.
-fn opened(bytes: &[u8]) -> Result<(Kept, usize), Refusal> {
-    let read = plan_bytes::read(bytes)?;
-    let fresh = boards::fresh_of(read.plan)?;
-    let kept = Kept {
-        board: fresh.board,
-        state: fresh.state,
-        block: Block {
-            bytes: [0u8; BLOCK],
-        },
-    };
-    Ok((kept, read.bytes))
-}
-
-// The count of bytes is taken modulo the number of counts, so that it is in range.
-fn print_listing(rt: &HostRuntime, source: &mut Stdin, input: Input) {
-    let end = input.have % COUNTS;
-    match opened(&input.bytes[..end]) {
-        Ok((kept, size)) => {
-            let rest = after(rt, source, input, size);
-            take_turns(rt, source, kept, rest);
+// Carries out an operation, and prints it with the block after it.
+fn operate(rt: &HostRuntime, driver: &mut Driver, operation: Operation) -> io::Result<()> {
+    match operation {
+        Operation::Read { offset } => {
+            let block = Hex(&driver.block.bytes);
+            match driver.read(offset) {
+                Ok(value) => println!(rt; "r {offset} {value} {block}"),
+                Err(refusal) => println!(rt; "r {offset} {} {block}", Refused(refusal)),
+            }
         }
-        Err(refusal) => print(rt, put(put_refusal(empty_line(), refusal), 10)),
+        Operation::Write { offset, value } => {
+            let verdict = driver.write(offset, value);
+            let block = Hex(&driver.block.bytes);
+            match verdict {
+                Ok(()) => println!(rt; "w {offset} {value} {block}"),
+                Err(refusal) => println!(rt; "w {offset} {value} {} {block}", Refused(refusal)),
+            }
+        }
+    }
+}
+
+// A proved loop must end, and nothing states that the input does. So the loop counts its turns, up to a number that no
+// run reaches.
+fn operate_all(rt: &HostRuntime, input: &mut Input<Stdin>, driver: &mut Driver) -> io::Result<()> {
+    for _ in 0..u64::MAX {
+        match operation_in(input.unread()) {
+            None => break,
+            Some(operation) => {
+                let _ = operate(rt, driver, operation);
+            }
+        }
+        input.advance(OPERATION, OPERATION)?;
+    }
+    Ok(())
+}
+
+// The plan, and then the operations. A read that fails ends it.
+fn list(rt: &HostRuntime, input: &mut Input<Stdin>) -> io::Result<()> {
+    input.read_plan()?;
+    let opened = plan_bytes::read(input.unread()).and_then(|read| boards::fresh_of(read.plan).map(
+        |fresh| (read.bytes, fresh),
+    ));
+    match opened {
+        Ok((bytes, fresh)) => {
+            input.advance(bytes, OPERATION)?;
+            operate_all(rt, input, &mut Driver::new(fresh))
+        }
+        Err(refusal) => {
+            let _ = println!(rt; "{}", Refused(refusal));
+            Ok(())
+        }
     }
 }
 
 fn main(rt: HostRuntime) {
-    let mut source = rt.stdin();
-    let mut bytes = [0u8; INPUT_ROOM];
-    let fed = fill_plan(&mut source, &mut bytes);
-    if fed.failure.is_some() {
-        tell(&rt, "register_listing: standard input", fed.failure);
-    } else {
-        let input = Input {
-            bytes: bytes,
-            have: fed.have,
-        };
-        print_listing(&rt, &mut source, input);
+    let mut input = Input::new(rt.stdin());
+    if let Err(reason) = list(&rt, &mut input) {
+        tell(&rt, "register_listing: standard input", Some(reason));
     }
 }
