@@ -1,7 +1,7 @@
 -- What a call from C or Rust returns, and what it leaves in the caller's memory. Specification, sections 4 and 11.
-use Rattle.std.specs.Prelude.{Result, Ok, Err}
+use Rattle.std.specs.Prelude.{ℕ, List, Result, Ok, Err}
 use Rattle.refusals.specs.declared.Refusal.{Refusal}
-use Rattle.std.specs.Prelude.{ℕ, List}
+use Rattle.rules.specs.declared.calls.Done.{Done}
 use Rattle.rules.specs.Replies.{Response}
 use Rattle.rules.specs.declared.states.Moment.{Moment}
 use Rattle.rules.specs.Calls.{Answer}

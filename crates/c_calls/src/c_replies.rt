@@ -1,14 +1,12 @@
 // What a call returns to a program in C or Rust, in numbers, and the moment that it leaves in that program's memory.
 // Specification, sections 4 and 11.
 ghost use Rattle.std.specs.Prelude.{◌≡◌};
-ghost use Rattle.refusals.specs.Number.{number_of};
-ghost use Rattle.rules.specs.Replies.{reply_as_numbers, refused_with};
+ghost use Rattle.rules.specs.Replies.{reply_as_numbers};
 ghost use Rattle.c_boards.specs.Parts.{moment_by};
 ghost use Rattle.c_calls.specs.Replies.{response, moment_left};
 
 use c_boards::store_moment;
-use refusals::Refusal;
-use rules::{Done, Changed, Reply};
+use rules::{Changed, Reply};
 
 // A reply in numbers: the number of the refusal, 0 if the call is accepted; the granted and the entitled mask; late.
 // With a refusal the other three are 0.
@@ -21,27 +19,25 @@ pub struct CReply {
     pub late: u32,
 }
 
-// What a call that was carried out returns.
-fn done(granted: u32, entitled: u32, late: u8) -> CReply
-    ensures { response result ≡ record { number = 0; granted = granted; entitled = entitled; late = late } }
-{
-    CReply {
-        refusal: 0,
-        granted: granted,
-        entitled: entitled,
-        late: late as u32,
-    }
-}
+// What a call that was carried out or refused returns.
+impl From<Reply> for CReply {
+    ghost from_gives = { λ reply told. response told ≡ reply_as_numbers reply };
 
-// What a refused call returns.
-fn refused(refusal: Refusal) -> CReply
-    ensures { response result ≡ refused_with (number_of refusal) }
-{
-    CReply {
-        refusal: u8::from(refusal) as u32,
-        granted: 0,
-        entitled: 0,
-        late: 0,
+    fn from(reply: Reply) -> CReply {
+        match reply {
+            Ok(done) => CReply {
+                refusal: 0,
+                granted: done.granted,
+                entitled: done.entitled,
+                late: u32::from(done.late),
+            },
+            Err(refusal) => CReply {
+                refusal: u32::from(u8::from(refusal)),
+                granted: 0,
+                entitled: 0,
+                late: 0,
+            },
+        }
     }
 }
 
@@ -52,17 +48,8 @@ pub fn store_and_reply(changed: Changed, last: &mut u64, phases: &mut [u32; 3]) 
     ensures moment { moment_by last.new phases.new
         ≡ moment_left changed.reply changed.moment (moment_by last.old phases.old) }
 {
-    let reply = changed.reply;
-    match reply {
-        Ok(Done {
-            granted,
-            entitled,
-            late,
-        }) => {
-            let after = changed.moment;
-            store_moment(after, last, phases);
-            done(granted, entitled, late)
-        }
-        Err(refusal) => refused(refusal),
+    if changed.reply.is_ok() {
+        store_moment(changed.moment, last, phases);
     }
+    CReply::from(changed.reply)
 }

@@ -6,10 +6,10 @@ ghost use Rattle.c_boards.specs.Parts.{terms_by, moment_by};
 ghost use Rattle.c_calls.specs.Replies.{answer_in};
 
 use crate::c_replies::{CReply, store_and_reply};
-use c_boards::moment_of;
+use c_boards::{moment_of, terms_of};
 use calls_in_place::issue_in_place;
 use plans::{MAX_ENTRIES, MAX_PROCESSORS};
-use rules::Terms;
+use rules::{LentArrays, LentBoard};
 
 // The processor issues a request for an entry at a tick. Refused with 10, 11, 12 or 13, checked in this order.
 pub fn bittmelon_issue_parts(
@@ -33,14 +33,17 @@ pub fn bittmelon_issue_parts(
         (state_by (moment_by last.old phases.old)
         requested.old since.old earlier.old) processor entry tick }
 {
-    let terms = Terms {
-        processors: processors,
-        count: entries,
-        writes: writes,
+    let board = LentBoard {
+        terms: terms_of(processors, entries, writes),
+        rows,
+        lengths,
     };
     let moment = moment_of(*last, *phases);
-    let changed = issue_in_place(
-        terms, rows, lengths, moment, requested, since, earlier, processor, entry, tick,
-    );
+    let mut arrays = LentArrays {
+        requested,
+        since,
+        earlier,
+    };
+    let changed = issue_in_place(board, moment, &mut arrays, processor, entry, tick);
     store_and_reply(changed, last, phases)
 }

@@ -6,10 +6,10 @@ ghost use Rattle.c_boards.specs.Parts.{terms_by, moment_by};
 ghost use Rattle.c_calls.specs.Replies.{answer_in};
 
 use crate::c_replies::{CReply, store_and_reply};
-use c_boards::moment_of;
+use c_boards::{moment_of, terms_of};
 use calls_in_place::withdraw_in_place;
 use plans::{MAX_ENTRIES, MAX_PROCESSORS};
-use rules::Terms;
+use rules::LentBoard;
 
 // The processor leaves the queue at a tick; its request must not hold. Refused with 10, 11, 14 or 17, checked in this
 // order.
@@ -33,14 +33,12 @@ pub fn bittmelon_withdraw_parts(
         (state_by (moment_by last.old phases.old)
         requested.now since.old earlier.now) processor tick }
 {
-    let terms = Terms {
-        processors: processors,
-        count: entries,
-        writes: writes,
+    let board = LentBoard {
+        terms: terms_of(processors, entries, writes),
+        rows,
+        lengths,
     };
     let moment = moment_of(*last, *phases);
-    let changed = withdraw_in_place(
-        terms, rows, lengths, moment, requested, since, earlier, processor, tick,
-    );
+    let changed = withdraw_in_place(board, moment, requested, since, earlier, processor, tick);
     store_and_reply(changed, last, phases)
 }

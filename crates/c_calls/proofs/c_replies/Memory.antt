@@ -10,6 +10,7 @@ use Rattle.refusals.specs.declared.Refusal.{Refusal}
 use Rattle.refusals.specs.Number.{number_of}
 use Rattle.refusals.proofs.Numbers.{refused_not_zero}
 use Rattle.rules.specs.Replies.{reply_as_numbers, refused_with}
+use Rattle.rules.specs.declared.calls.Done.{Done}
 use Rattle.rules.specs.declared.calls.Changed.{Changed}
 use Rattle.rules.specs.Calls.{Answer, ruled}
 use Rattle.rules.specs.InPlace.{state_by, answer_by}

@@ -16,4 +16,4 @@ returns c =
     c.store_and_reply.ensures.told c.store_and_reply.ensures.moment
     (from_memory (λ s. withdrawn b s a.processor a.tick) _ _ _ a.requested.now a.since.now
     a.earlier.now _ c.moment_of-moment.ensures
-    c.withdraw_in_place-changed.ensures)
+    (rw c.terms_of.ensures at c.withdraw_in_place-changed.ensures))
