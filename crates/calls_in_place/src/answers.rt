@@ -7,22 +7,17 @@ ghost use Rattle.rules.specs.InPlace.{state_by, answer_by};
 
 use refusals::Refusal;
 use requests::Effect;
-use rules::{Changed, Done, Moment, Reply};
+use rules::{Changed, Moment};
 
 pub fn accepted(carried: Effect, tick: u64) -> Changed
     ensures { (requested : List ℕ) (since : List ℕ) (earlier : List ℕ)
         → answer_by result requested since earlier ≡ effect_as_numbers carried tick requested since earlier }
 {
-    let phases = carried.phases;
     Changed {
-        reply: Ok(Done {
-            granted: carried.granted,
-            entitled: carried.entitled,
-            late: carried.late,
-        }),
+        reply: Ok(carried.done),
         moment: Moment {
             last: tick,
-            phases: phases,
+            phases: carried.phases,
         },
     }
 }
@@ -33,6 +28,6 @@ pub fn refused(refusal: Refusal, moment: Moment) -> Changed
 {
     Changed {
         reply: Err(refusal),
-        moment: moment,
+        moment,
     }
 }

@@ -1,25 +1,17 @@
 // What a state keeps for each processor's request in addition to its phase: who is earlier, and since when it holds or
 // waits. A processor that a state has no place for changes nothing. Specification, clauses 4.2 and 4.8.
-ghost use Rattle.std.specs.Prelude.{◌≡◌, cond, not, eqb, get_or, length};
+ghost use Rattle.std.specs.Prelude.{◌≡◌, cond, not, eqb, get_or};
 ghost use Rattle.std.specs.Int.Bits.{bit_and};
 ghost use Rattle.masks.specs.Sets.{bit, mask_of};
 ghost use Rattle.plans.specs.Entries.{max_processors};
 ghost use Rattle.masks.specs.Tabulation.{tabulate};
 ghost use Rattle.rules.specs.Acts.{put_last};
 
+use crate::stores::store;
 use masks::remove32;
 use plans::MAX_PROCESSORS;
 use rules::Phases;
 use settling::ALL;
-
-// These two give the proofs the lengths of two lent arrays. They compile to nothing.
-fn ticks_are_whole(since: [u64; MAX_PROCESSORS])
-    ensures { length since ≡ max_processors }
-{}
-
-fn sets_are_whole(earlier: [u32; MAX_PROCESSORS])
-    ensures { length earlier ≡ max_processors }
-{}
 
 // Every processor but this one.
 pub fn all_but(processor: u8) -> u32
@@ -32,25 +24,21 @@ pub fn all_but(processor: u8) -> u32
 fn keep_each(sets: &mut [u32; MAX_PROCESSORS], keep: u32)
     ensures { sets.new ≡ tabulate max_processors (λ q. bit_and (get_or sets.old q 0) keep) }
 {
-    sets_are_whole(*sets);
-    let mut q: usize = 0;
-    while q < MAX_PROCESSORS {
-        sets[q] = sets[q] & keep;
-        q += 1;
+    for set in sets {
+        *set = *set & keep;
     }
 }
 
-// All active requests are earlier than the processor's new request, and it is earlier than none. A call has already
-// tested the processor: once this is inlined into the call, the compiler removes the test here.
+// All active requests are earlier than the processor's new request, and it is earlier than none.
 pub fn put_last(earlier: &mut [u32; MAX_PROCESSORS], phases: Phases, processor: u8)
     ensures { earlier.new ≡ put_last earlier.old phases processor }
 {
-    if (processor as usize) < MAX_PROCESSORS {
-        keep_each(earlier, all_but(processor));
-        earlier[processor as usize] = (phases.waiting | phases.entitled | phases.holding) & ALL;
-    } else {
-        keep_each(earlier, ALL);
-    }
+    keep_each(earlier, all_but(processor));
+    store(
+        earlier,
+        processor,
+        phases.waiting | phases.entitled | phases.holding,
+    );
 }
 
 // Stores this tick for the processors in the mask.
@@ -58,8 +46,7 @@ pub fn stamp(since: &mut [u64; MAX_PROCESSORS], among: u32, tick: u64)
     ensures { since.new
         ≡ tabulate max_processors (λ p. cond (bit among p) tick (get_or since.old p 0)) }
 {
-    ticks_are_whole(*since);
-    let mut left = among & ALL;
+    let mut left = among;
     while left != 0 {
         since[u32::trailing_zeros(left) as usize] = tick;
         left = left & (left - 1);

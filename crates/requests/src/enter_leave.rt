@@ -11,12 +11,13 @@ ghost use Rattle.requests.specs.Effect.{effect_as_numbers};
 use crate::effects::Effect;
 use crate::grants::accept;
 use crate::placing::{settle_left, settle_new, take_out};
-use crate::stores::{store_entry, store_tick};
+use crate::stores::store;
 use plans::MAX_PROCESSORS;
 use rules::{LentArrays, LentBoard, LentFacts, Phases};
 
 // The processor's request for the entry enters, in addition to the requests of these phases. The arrays already say who
 // is earlier. The effect is never late.
+#[inline]
 pub fn enter(
     board: LentBoard<'_>,
     arrays: &mut LentArrays<'_>,
@@ -35,8 +36,8 @@ pub fn enter(
         arrays.old.earlier.now)
         (put_in phases processor)) 0 }
 {
-    store_entry(arrays.requested, processor, entry);
-    store_tick(arrays.since, processor, tick);
+    store(arrays.requested, processor, entry);
+    store(arrays.since, processor, tick);
     let facts = LentFacts {
         terms: board.terms,
         rows: board.rows,
@@ -49,6 +50,7 @@ pub fn enter(
 
 // The processor's request leaves the requests of these phases, and the others are settled. Of the arrays it changes
 // only the ticks, so the other two are lent with the facts.
+#[inline]
 pub fn leave(
     facts: LentFacts<'_>,
     since: &mut [u64; MAX_PROCESSORS],

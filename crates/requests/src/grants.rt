@@ -9,7 +9,7 @@ use crate::ages::stamp;
 use crate::effects::Effect;
 use masks::without32;
 use plans::MAX_PROCESSORS;
-use rules::Phases;
+use rules::{Done, Phases};
 
 // The two masks. In `before` the request has entered or left, and `after` is settled. Those that began to hold get this
 // tick.
@@ -28,9 +28,11 @@ pub fn accept(
     let granted = without32(after.holding, before.holding);
     stamp(since, granted, tick);
     Effect {
-        granted: granted,
-        entitled: without32(after.entitled, before.entitled),
-        late: late,
+        done: Done {
+            granted,
+            entitled: without32(after.entitled, before.entitled),
+            late,
+        },
         phases: after,
     }
 }

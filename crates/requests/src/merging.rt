@@ -4,7 +4,7 @@ ghost use Rattle.rules.specs.Calls.{both};
 ghost use Rattle.requests.specs.Effect.{effect_as_numbers};
 
 use crate::effects::Effect;
-use settling::ALL;
+use rules::Done;
 
 // The second comes right after the first. A processor that is no longer entitled after both is not in the entitled
 // mask.
@@ -15,15 +15,15 @@ pub fn merge(first: Effect, second: Effect) -> Effect
         ≡ both (effect_as_numbers first tick requested since earlier)
         (effect_as_numbers second tick requested₂ since₂ earlier₂) }
 {
-    let granted = first.granted;
-    let granted_later = second.granted;
-    let entitled = first.entitled;
-    let entitled_later = second.entitled;
-    let after = second.phases;
+    let completed = first.done;
+    let issued = second.done;
+    let phases = second.phases;
     Effect {
-        granted: (granted | granted_later) & ALL,
-        entitled: (entitled | entitled_later) & (after.entitled & ALL),
-        late: first.late,
-        phases: after,
+        done: Done {
+            granted: completed.granted | issued.granted,
+            entitled: (completed.entitled | issued.entitled) & phases.entitled,
+            late: completed.late,
+        },
+        phases,
     }
 }

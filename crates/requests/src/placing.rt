@@ -9,14 +9,14 @@ use crate::ages::all_but;
 use masks::Mask;
 use plans::MAX_PROCESSORS;
 use rules::{LentFacts, Phases};
-use settling::{ALL, settle};
+use settling::settle;
 
 // The phases after the processor's new request enters. It waits.
 fn put_in(phases: Phases, processor: u8) -> Phases
     ensures { result ≡ put_in phases processor }
 {
     Phases {
-        waiting: phases.waiting.with(processor as u32) & ALL,
+        waiting: phases.waiting.with(processor as u32),
         entitled: phases.entitled,
         holding: phases.holding,
     }
@@ -24,19 +24,19 @@ fn put_in(phases: Phases, processor: u8) -> Phases
 
 // The phases after the processor's new request enters and all are settled. If nobody else is active and nobody is
 // earlier, it holds, read or write, and no row is read.
+#[inline]
 pub fn settle_new(facts: LentFacts<'_>, phases: Phases, processor: u8) -> Phases
     ensures { result ≡ settled (facts_lent facts.entry) (put_in phases processor) }
 {
-    if ((processor as usize) < MAX_PROCESSORS)
-        & (phases.waiting | phases.entitled | phases.holding == 0)
+    if phases.waiting | phases.entitled | phases.holding == 0
+        && (processor as usize) < MAX_PROCESSORS
+        && facts.earlier[processor as usize] == 0
     {
-        if facts.earlier[processor as usize] == 0 {
-            return Phases {
-                waiting: 0,
-                entitled: 0,
-                holding: 0u32.with(processor as u32),
-            };
-        }
+        return Phases {
+            waiting: 0,
+            entitled: 0,
+            holding: 0.with(processor as u32),
+        };
     }
     settle(facts, put_in(phases, processor))
 }
@@ -55,15 +55,13 @@ pub fn take_out(phases: Phases, processor: u8) -> Phases
 
 // The phases of the requests that are left, settled. If nobody waits or is entitled there is nothing to settle. A new
 // request always waits, so only this function needs the test.
+#[inline]
 pub fn settle_left(facts: LentFacts<'_>, phases: Phases) -> Phases
     ensures { result ≡ settled (facts_lent facts.entry) phases }
 {
-    if (phases.waiting & ALL) | (phases.entitled & ALL) == 0 {
-        return Phases {
-            waiting: 0,
-            entitled: 0,
-            holding: phases.holding & ALL,
-        };
+    if phases.waiting | phases.entitled == 0 {
+        phases
+    } else {
+        settle(facts, phases)
     }
-    settle(facts, phases)
 }

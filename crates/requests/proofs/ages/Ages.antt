@@ -1,17 +1,17 @@
 -- Who is earlier after a new request, in lists with a place for each processor. Assumes nothing.
-use mathlib.Core.Path.{◌≡◌, sym, ap, ap₂, ◌∙◌}
-use mathlib.Core.Bool.{Bool, cond, not, ◌&&◌, ◌||◌}
+use mathlib.Core.Path.{◌≡◌, refl, sym, ap, ap₂, ◌∙◌}
+use mathlib.Core.Bool.{Bool, true, false, cond, not, ◌&&◌}
 use mathlib.Core.List.{List}
 use Prim.Native.Nat.{ℕ, ◌-◌, ◌^◌, ◌<◌, ◌≤◌}
 use native.Mathlib.Omega.{arith}
 use lib.Bits.{bit_and, bit_or}
-use lib.Dec.{eqb}
+use lib.Dec.{eqb, ltb}
 use lib.ListN.{length, get_or, set, length-set}
 use lib.Seq.{ext_get_or}
-use borrow.Author.Tests.{ne_eqb}
+use Rattle.std.proofs.lemmas.List.{set_past}
+use borrow.Author.Tests.{ne_eqb, ltb-true, ltb-false}
 use Rattle.masks.specs.Sets.{bit, mask_of}
-use Rattle.masks.proofs.Places.{bit_or_law}
-use Rattle.masks.proofs.Tests.{Mask, agree_is, all_is, cut_is, any_and}
+use Rattle.masks.proofs.Tests.{Mask, own_is, or_is, any_and}
 use Rattle.masks.proofs.Stores.{stored_at}
 use Rattle.plans.specs.Entries.{max_processors}
 use Rattle.masks.specs.Tabulation.{tabulate}
@@ -31,15 +31,11 @@ is_tabulate n f xs full same =
 abbrev pub others : ℕ → ℕ → Bool
 others p q = not (eqb q p)
 
-active_is : (ph : Phases) → Mask max_processors (active ph)
-    (bit_and (bit_or (bit_or ph.waiting ph.entitled) ph.holding) (2 ^ max_processors - 1))
-active_is ph =
-    agree_is (λ k l. bit_or_law (bit_or ph.waiting ph.entitled) ph.holding k
-    ∙ ap (λ t. t || bit ph.holding k) (bit_or_law ph.waiting ph.entitled k)) (cut_is max_processors _)
-
--- If a state has no place for a processor, all but this processor are all.
-pub all_but_none : (p : ℕ) → max_processors ≤ p → 2 ^ max_processors - 1 ≡ mask_of max_processors (others p)
-all_but_none p h = (agree_is (λ k l. ap not (sym (ne_eqb k p (λ e. omega (arith, e))))) (all_is max_processors)).is
+active_is : (ph : Phases) → ph.waiting < 2 ^ 32 → ph.entitled < 2 ^ 32 → ph.holding < 2 ^ 32
+    → Mask max_processors (active ph) (bit_or (bit_or ph.waiting ph.entitled) ph.holding)
+active_is ph hw he hh =
+    or_is (or_is (own_is max_processors ph.waiting hw) (own_is max_processors ph.entitled he))
+    (own_is max_processors ph.holding hh)
 
 module _ (earlier kept : List ℕ) (ph : Phases) (p keep : ℕ) (ek : keep ≡ mask_of max_processors (others p))
     (et : kept ≡ tabulate max_processors (λ q. bit_and (get_or earlier q 0) keep)) where
@@ -53,17 +49,16 @@ module _ (earlier kept : List ℕ) (ph : Phases) (p keep : ℕ) (ek : keep ≡ m
       ap (λ xs. get_or xs k 0) et ∙ get_d_tabulate max_processors (λ q. bit_and (get_or earlier q 0) keep) k 0 m
       ∙ (any_and (get_or earlier k 0) (record { is = ek })).is
 
-  pub last_put : p < max_processors
-      → set kept p (bit_and (bit_or (bit_or ph.waiting ph.entitled) ph.holding) (2 ^ max_processors - 1))
-      ≡ put_last earlier ph p
+  last_put : (active_mask : ℕ) → Mask max_processors (active ph) active_mask → p < max_processors
+      → set kept p active_mask ≡ put_last earlier ph p
   unfolding put_last
-  last_put l =
+  last_put active_mask m l =
       is_tabulate max_processors _ _ (length-set kept p _ ∙ full)
-      (λ k m. stored_at kept p _ k (omega (arith, full))
-      ∙ ap₂ (λ (x y : ℕ). cond (eqb k p) x y) (active_is ph).is (kept_at k m))
+      (λ k h. stored_at kept p _ k (omega (arith, full))
+      ∙ ap₂ (λ (x y : ℕ). cond (eqb k p) x y) m.is (kept_at k h))
 
   -- A processor that a state has no place for is added nowhere.
-  pub none_put : max_processors ≤ p → kept ≡ put_last earlier ph p
+  none_put : max_processors ≤ p → kept ≡ put_last earlier ph p
   unfolding put_last
   none_put l =
       is_tabulate max_processors _ _ full
@@ -71,3 +66,14 @@ module _ (earlier kept : List ℕ) (ph : Phases) (p keep : ℕ) (ek : keep ≡ m
       ∙ ap (λ t. cond t (mask_of max_processors (active ph))
       (mask_of max_processors (λ r. bit (get_or earlier k 0) r && not (eqb r p))))
       (sym (ne_eqb k p (λ e. omega (arith, e)))))
+
+  pub any_put : ph.waiting < 2 ^ 32 → ph.entitled < 2 ^ 32 → ph.holding < 2 ^ 32
+      → set kept p (bit_or (bit_or ph.waiting ph.entitled) ph.holding) ≡ put_last earlier ph p
+  any_put hw he hh = go (ltb p max_processors) refl
+    where
+      go : (t : Bool) → ltb p max_processors ≡ t
+          → set kept p (bit_or (bit_or ph.waiting ph.entitled) ph.holding) ≡ put_last earlier ph p
+      go true e = last_put _ (active_is ph hw he hh) (ltb-true p max_processors e)
+      go false e =
+          let past : max_processors ≤ p = ltb-false p max_processors e in
+          set_past kept p _ (omega (arith, full)) ∙ none_put past

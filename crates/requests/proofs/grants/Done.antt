@@ -31,8 +31,10 @@ pub carried_done : (tick : ℕ) (before after : Phases) (late granted entitled :
     ≡ without 32 after.entitled before.entitled
     → stamps ≡ tabulate max_processors (λ p. cond (bit granted p) tick (get_or since p 0))
     → ◌≡◌ {A = Answer}
-    (effect_as_numbers (record { granted = granted; entitled = entitled; late = late; phases = after }) tick entry stamps
-    earlier)
+    (effect_as_numbers (record {
+      done = record { granted = granted; entitled = entitled; late = late };
+      phases = after;
+    }) tick entry stamps earlier)
     (done (state_by (record { last = tick; phases = before }) entry since earlier) after late)
 unfolding stamped done
 carried_done tick before after late granted entitled entry since earlier stamps ae ah le lh eg ee es =

@@ -16,6 +16,7 @@ use Rattle.rules.specs.declared.states.Phases.{Phases}
 use Rattle.rules.specs.Requests.{Facts}
 use Rattle.rules.specs.Settling.{settled}
 use Rattle.rules.proofs.Idle.{alone_holds}
+use Rattle.rules.proofs.Quiet.{quiet}
 use Rattle.rules.specs.Acts.{put_in, taken_out}
 use Rattle.requests.proofs.ages.Ages.{others}
 
@@ -39,28 +40,20 @@ taken_out_law ph p keep e = λ i. record {
     out n = (any_and n (record { is = e })).is
 
 module _ (ph : Phases) (p : ℕ) where
-  in_cut : (w : ℕ) → w < 2 ^ 32 → (t : Bool) → ltb p 32 ≡ t
-      → Mask max_processors (λ q. bit w q || eqb q p) (bit_and (cond t (added w p) w) (2 ^ max_processors - 1))
-  in_cut w small true e =
-      agree_is (λ k l. bit_is added_is k (omega arith)) (cut_is max_processors (added w p))
-    where
-      added_is : Mask 32 (λ q. bit w q || eqb q p) (added w p)
-      added_is = subst (λ t. Mask 32 (λ q. bit w q || eqb q p) (cond t (added w p) w)) e
-          (in_is 32 p (omega arith) (ltb-true p 32 e) (own_is 32 w small))
-  in_cut w small false e =
+  with_own : (w : ℕ) → w < 2 ^ 32 → (t : Bool) → ltb p 32 ≡ t
+      → Mask max_processors (λ q. bit w q || eqb q p) (cond t (added w p) w)
+  with_own w small true e =
+      subst (λ t. Mask 32 (λ q. bit w q || eqb q p) (cond t (added w p) w)) e
+      (in_is 32 p (omega arith) (ltb-true p 32 e) (own_is 32 w small))
+  with_own w small false e =
       agree_is (λ k l. sym (ap (λ t. bit w k || t) (ne_eqb k p (λ s. omega (arith, s, ltb-false p 32 e)))
-      ∙ or-false (bit w k))) (cut_is max_processors w)
+      ∙ or-false (bit w k))) (own_is max_processors w small)
 
   pub new_waits : ph.waiting < 2 ^ 32 → (waiting : ℕ) → waiting ≡ cond (ltb p 32) (added ph.waiting p) ph.waiting
-      → ◌≡◌ {A = Phases} (record {
-        waiting = bit_and waiting
-            (2 ^ max_processors - 1);
-        entitled = ph.entitled;
-        holding = ph.holding;
-      }) (put_in ph p)
+      → ◌≡◌ {A = Phases} (record { waiting = waiting; entitled = ph.entitled; holding = ph.holding }) (put_in ph p)
   unfolding put_in
   new_waits small waiting e =
-      let w = ap (λ (x : ℕ). bit_and x (2 ^ max_processors - 1)) e ∙ (in_cut ph.waiting small (ltb p 32) refl).is in
+      let w = e ∙ (with_own ph.waiting small (ltb p 32) refl).is in
       λ i. record { waiting = w i; entitled = ph.entitled; holding = ph.holding }
 
   -- If nobody else is active it holds.
@@ -84,3 +77,18 @@ module _ (ph : Phases) (p : ℕ) where
       (sym (agree_is (λ q m. ap (λ t. t || eqb q p) (sym (bit_none ph.waiting q unsatisfied.0)))
       (one_is max_processors p l)).is)
       unsatisfied.1 any.1 first
+
+-- If nobody waits or is entitled, settling changes nothing.
+pub quiet_same : (f : Facts) (ph : Phases) → ph.waiting < 2 ^ 32 → ph.entitled < 2 ^ 32 → ph.holding < 2 ^ 32
+    → bit_or ph.waiting ph.entitled ≡ 0 → ph ≡ settled f ph
+quiet_same f ph hw he hh e =
+    let waits = own_is max_processors ph.waiting hw in
+    let entitles = own_is max_processors ph.entitled he in
+    let none = neither waits entitles e in
+    (λ i. record { waiting = none.0 i; entitled = none.1 i; holding = ph.holding })
+    ∙ quiet f ph ph.holding
+    (record {
+      waits = sym none.0 ∙ waits.is;
+      entitles = sym none.1 ∙ entitles.is;
+      holds = (own_is max_processors ph.holding hh).is;
+    })

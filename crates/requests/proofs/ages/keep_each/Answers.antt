@@ -4,5 +4,5 @@ use Rattle.requests.proofs.ages.Ages.{is_tabulate}
 use Rattle.requests.proofs.ages.keep_each.Goals as goal
 
 pub returns : goal.returns
-returns c = is_tabulate max_processors _ _ c.loop-q.invariant.full
-    (each_last c.loop-q-test.false c.loop-q.invariant)
+returns c = is_tabulate max_processors _ _ c.loop-set.invariant.full
+    (each_last c.loop-set-test.false c.loop-set.invariant)

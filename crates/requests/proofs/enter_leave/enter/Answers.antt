@@ -8,4 +8,4 @@ returns-clause-effect c =
     let a = c.args in
     entered_done a.board.rows.now a.board.terms.writes a.tick a.processor a.phases a.arrays.now.earlier.now
     (set a.arrays.now.requested.now a.processor a.entry) (set a.arrays.now.since.now a.processor a.tick)
-    c.store_entry.ensures c.store_tick.ensures c.settle_new-after.ensures (c.accept.ensures _ _)
+    c.store.ensures c.store-2.ensures c.settle_new-after.ensures (c.accept.ensures _ _)
