@@ -30,6 +30,7 @@ fn keep_each(sets: &mut [u32; MAX_PROCESSORS], keep: u32)
 }
 
 // All active requests are earlier than the processor's new request, and it is earlier than none.
+#[inline(always)]
 pub fn put_last(earlier: &mut [u32; MAX_PROCESSORS], phases: Phases, processor: u8)
     ensures { earlier.new ≡ put_last earlier.old phases processor }
 {

@@ -21,7 +21,9 @@ fn processors_of(terms: Terms) -> u32
     }
 }
 
-// Clause 4.10: the phases of the requests that count. Each request is in at most one phase.
+// Clause 4.10: the phases of the requests that count. Each request is in at most one phase. Every call begins with it,
+// so it is inlined, and the entries are not copied.
+#[inline(always)]
 pub fn clean(terms: Terms, requested: [u8; MAX_PROCESSORS], phases: Phases) -> Phases
     ensures { result ≡ cleaned terms requested phases }
 {

@@ -12,6 +12,7 @@ use plans::MAX_PROCESSORS;
 pub const ALL: u32 = u32::MAX;
 
 // The largest entry of a request. The loop does nothing else, so that the compiled code compares 16 entries at once.
+#[inline(always)]
 fn largest(requested: &[u8; MAX_PROCESSORS]) -> u8
     ensures { (p : ℕ) → p < max_processors → get_or requested.now p 0 ≤ result }
 {
@@ -32,7 +33,7 @@ fn each_below(among: u32, count: u8, requested: &[u8; MAX_PROCESSORS]) -> u32
 
 // Those among the processors whose requests' entries are below the count. On a board that was made from a plan all are:
 // one comparison with the largest is enough, and the compiled code calls nothing.
-#[inline]
+#[inline(always)]
 pub fn entries_below(among: u32, count: u8, requested: &[u8; MAX_PROCESSORS]) -> u32
     ensures { result ≡ mask_of max_processors (λ p. bit among p && ltb (get_or requested.now p 0) count) }
 {
