@@ -18,7 +18,8 @@ fn write_word(word: &[u8], buffer: &mut [u8], at: usize)
 }
 
 // A word and a decimal number, stored if both fit with `more` bytes after them. The number goes first, because storing
-// it shows whether they fit.
+// it shows whether they fit. It is inlined where the word is known, so that its copy is no call.
+#[inline(always)]
 fn put_field(word: &[u8], n: u64, more: u16, buffer: &mut [u8], at: usize) -> usize
     ensures size { result
         ≡ placed_size (length (labelled word.now n) + more) (labelled word.now n)
@@ -49,6 +50,7 @@ pub fn put_labelled(word: &[u8], n: u64, buffer: &mut [u8], at: usize) -> usize
 }
 
 // The same with a line feed: the end of a line.
+#[inline(always)]
 pub fn put_line_end(word: &[u8], n: u64, buffer: &mut [u8], at: usize) -> usize
     ensures size { result ≡ field_size (last_field word.now n) (length buffer.old) at }
     ensures bytes { buffer.new
