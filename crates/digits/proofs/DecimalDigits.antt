@@ -126,3 +126,6 @@ few (suc k) n =
 
 pub few_digits : (n : ℕ) → length (decimal n) ≤ 20
 few_digits n = few 20 n
+
+pub byte_most : (n : ℕ) → n < 256 → length (decimal n) ≤ 3
+byte_most n h = most_digits 2 n (omega arith)

@@ -17,6 +17,7 @@ fn write_two(n: u64, buffer: &mut [u8], at: usize)
 }
 
 // A number below 100, without a leading 0.
+#[tactic(auto, using(crate::proofs::DecimalDigits::decimal_one, crate::proofs::DecimalDigits::decimal_two, crate::proofs::DecimalDigits::length_one, crate::proofs::DecimalDigits::length_two))]
 fn write_lead(n: u64, buffer: &mut [u8], at: usize)
     requires { (n < 100) × (at + length (decimal n) ≤ length buffer.old) }
     ensures { buffer.new ≡ sets buffer.old at (decimal n) }
@@ -45,6 +46,7 @@ fn write_digits(n: u64, size: usize, buffer: &mut [u8], at: usize)
 
 // A decimal number, stored if it fits with `more` bytes after it: a field is begun only if all of it has room. Returns
 // how many bytes it stored.
+#[tactic(auto, using(encoding::proofs::Stores::sets_overwritten))]
 pub fn put_decimal(n: u64, more: u16, buffer: &mut [u8], at: usize) -> usize
     ensures size { result ≡ placed_size (length (decimal n) + more) (decimal n) (length buffer.old) at }
     ensures bytes { buffer.new ≡ placed_buffer (length (decimal n) + more) (decimal n) buffer.old at }

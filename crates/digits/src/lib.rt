@@ -27,6 +27,7 @@ pub fn pair_at(pairs: &[u16], byte: u8) -> u16
 }
 
 // How many digits a number below 10,000 has.
+#[tactic(auto, using(crate::proofs::DecimalDigits::length_one, crate::proofs::DecimalDigits::length_two, crate::proofs::DecimalDigits::length_two_more))]
 fn few_digits(n: u64) -> usize
     requires { n < 10000 }
     ensures { result ≡ length (decimal n) }
@@ -43,6 +44,7 @@ fn few_digits(n: u64) -> usize
 }
 
 // How many digits a decimal number has, counted four at a time.
+#[tactic(auto, using(crate::proofs::DecimalDigits::length_four_more, crate::proofs::DecimalDigits::few_digits))]
 pub fn digit_count(n: u64) -> usize
     ensures is { result ≡ length (decimal n) }
     ensures most { result ≤ 20 }
@@ -57,6 +59,7 @@ pub fn digit_count(n: u64) -> usize
 }
 
 // How many decimal digits a byte has.
+#[tactic(auto, using(crate::proofs::DecimalDigits::byte_most))]
 pub fn byte_digits(n: u8) -> usize
     ensures is { result ≡ length (decimal n) }
     ensures most { result ≤ 3 }
