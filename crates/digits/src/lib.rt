@@ -32,14 +32,11 @@ fn few_digits(n: u64) -> usize
     requires { n < 10000 }
     ensures { result ≡ length (decimal n) }
 {
-    if n < 10 {
-        1
-    } else if n < 100 {
-        2
-    } else if n < 1000 {
-        3
-    } else {
-        4
+    match n {
+        0..=9 => 1,
+        10..=99 => 2,
+        100..=999 => 3,
+        _ => 4,
     }
 }
 
@@ -59,6 +56,7 @@ pub fn digit_count(n: u64) -> usize
 }
 
 // How many decimal digits a byte has.
+// Kept: no generic one with `digit_count`, since a byte's has no loop and promises at most 3.
 #[tactic(auto, using(crate::proofs::DecimalDigits::byte_most))]
 pub fn byte_digits(n: u8) -> usize
     ensures is { result ≡ length (decimal n) }

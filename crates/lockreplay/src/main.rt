@@ -82,6 +82,7 @@ fn run_block(
 // The calls after the call count, as they arrive. A block that carries out no call is the last: no call is left, or the
 // input ended, or a read failed, which happens only if no call is whole in the block. After the last call that is there
 // comes the line of the fault at the log's end, if there is one. A write that fails also ends the replay.
+// Kept: how far the block is filled stays beside it, since the next bytes are read into the rest of it.
 fn replay_calls(
     streams: &mut Streams,
     opened: Opened,

@@ -29,6 +29,7 @@ use rules::{Board, LentArrays, LentBoard, Moment, State};
 // What some records did, apart from the arrays of the state: the moment after them, how many calls were carried out,
 // how many bytes their lines took, and whether a refusal ended the replay.
 // Kept: `ended` is no `Result`, here and in a block, since the calls before a refusal stay carried out and are counted.
+// Kept: no `RanBlock`, since the arrays of the state are lent while its records are carried out.
 #[derive(Clone, Copy)]
 struct Progress {
     moment: Moment,
