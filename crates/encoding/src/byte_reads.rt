@@ -7,6 +7,7 @@ ghost use Rattle.encoding.specs.Buffers.{short_fault};
 use refusals::{Refusal, refuse_unless};
 
 // The byte at a place, or 0 past the end.
+// Kept: not generic with `masks::row_at`, as said there.
 pub fn byte_at(bytes: &[u8], place: usize) -> u8
     ensures { result ≡ get_or bytes.now place 0 }
 {
