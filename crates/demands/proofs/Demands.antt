@@ -47,12 +47,12 @@ use Rattle.logs.specs.Records.{fields_in, record_fault, read_record}
 -- These definitions give the number that is due, or 0 if none is: read_fault, write_fault, plan_fault, issue_fault,
 -- complete_fault, withdraw_fault, handover_fault, processor_fault, reach_fault, list_fault, pair_fault, record_fault and
 -- tail_fault. The functions promise, for every value:
---   plan_bytes::read          `outcome_as_numbers` r.outcome ≡ `read_as_numbers` bytes, and r.plan ≡ plan_read bytes
+--   plan_bytes::read          `taken_as_numbers` r ≡ `read_as_numbers` bytes, and plan_taken r ≡ plan_read bytes
 --   plan_bytes::write         `outcome_as_numbers` r ≡ `write_as_numbers` plan buffer at,
 --                             and the buffer after it ≡ written_buffer plan buffer at
 --   plan_checks::check        verdict_number r ≡ plan_fault plan
---   boards::fresh_of          verdict_number r.verdict ≡ plan_fault plan, r.board ≡ fresh_board plan,
---                             r.state ≡ fresh_state
+--   boards::fresh_of          fresh_number r ≡ plan_fault plan, board_made r ≡ fresh_board plan,
+--                             state_made r ≡ fresh_state
 --   arbiter::answer           answer_of r ≡ answered board state call
 --   arbiter::issue            answer_of r ≡ issued board state processor entry tick
 --   arbiter::complete         answer_of r ≡ completed board state processor tick

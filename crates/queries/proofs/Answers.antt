@@ -1,15 +1,11 @@
 -- What follows when the checks of a query accept it, and the direct waits of a processor that counts. Assumes nothing.
-use Rattle.std.specs.Prelude.{Result, Ok}
 use Prim.Native.Nat.{ℕ, ◌<◌}
-use mathlib.Core.Path.{◌≡◌, refl, ap, ◌∙◌}
+use mathlib.Core.Path.{◌≡◌, ap, ◌∙◌}
 use mathlib.Core.List.{List}
 use lib.Dec.{ltb, lit<}
 use borrow.Author.Tests.{ltb-true, lt-ltb}
 use Rattle.masks.specs.Sets.{mask_of}
 use Rattle.masks.proofs.Truth.{and_left}
-use Rattle.refusals.specs.declared.Refusal.{Refusal}
-use Rattle.refusals.specs.Number.{verdict_number}
-use Rattle.refusals.specs.Due.{AsNumbers, as_numbers}
 use Rattle.refusals.proofs.Numbers.{due_accepted}
 use Rattle.plans.specs.Entries.{max_processors}
 use Rattle.masks.specs.Tabulation.{tabulate}
@@ -23,13 +19,6 @@ use Rattle.rules.specs.Calls.{facts_of, phases_of}
 use Rattle.waits.specs.Waits.{waits_in, waits_of}
 use Rattle.queries.specs.Queries.{waits_for}
 use Rattle.queries.specs.inner.Rows.{direct_rows}
-
--- ---- an answer says what its check found
-
-pub accepted_says : (verdict : Result Unit Refusal) (fault v x : ℕ) → verdict_number verdict ≡ fault → verdict ≡ Ok tt → v
-    ≡ x
-    → ◌≡◌ {A = AsNumbers} (record { number = 0; value = v }) (as_numbers fault x)
-accepted_says verdict fault v x checked accepted e = rw (← checked, accepted, e) refl
 
 -- ---- an accepted query
 

@@ -42,6 +42,7 @@ pub fn list_board_in_place(
 }
 
 // The same by value.
+#[tactic(auto, unfolding(crate::specs::Queries::state_number, crate::specs::Queries::waits_for, crate::specs::WholeBoard::board_part))]
 pub fn list_board(board: Board, state: State, buffer: &mut [u8]) -> Result<usize, Refusal>
     ensures outcome { outcome_as_numbers result ≡ board_query board buffer.old }
     ensures bytes { buffer.new ≡ board_buffer board state buffer.old }

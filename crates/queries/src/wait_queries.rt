@@ -14,6 +14,7 @@ use settling::clean;
 use waits::{waits_of, waits_of_all};
 
 // The direct waits of every processor.
+#[tactic(auto, using(crate::proofs::Answers::rows_counted))]
 pub fn direct_rows(facts: LentFacts<'_>, phases: Phases) -> [u32; MAX_PROCESSORS]
     ensures { result ≡ direct_rows (board_from facts.entry) (state_from facts.entry phases) }
 {
@@ -22,6 +23,7 @@ pub fn direct_rows(facts: LentFacts<'_>, phases: Phases) -> [u32; MAX_PROCESSORS
 }
 
 // The direct waits of a processor, as a mask, with the parts of a board and a state lent. Refused with 11.
+#[tactic(auto, using(crate::proofs::Answers::waits_counted, crate::proofs::Answers::processor_below))]
 pub fn direct_waits_in_place(
     facts: LentFacts<'_>,
     phases: Phases,
@@ -36,6 +38,7 @@ pub fn direct_waits_in_place(
 }
 
 // The same by value.
+#[tactic(auto, unfolding(crate::specs::Queries::waits_for))]
 pub fn direct_waits(board: Board, state: State, processor: u8) -> Result<u32, Refusal>
     ensures { outcome_as_numbers result ≡ waits_query board state processor }
 {

@@ -15,6 +15,7 @@ use refusals::Refusal;
 use rules::{Board, LentFacts, Phases, State};
 
 // Writes the rows of all processors into the scratch, as words, and returns the row of one processor.
+#[tactic(auto, using(crate::proofs::reach_queries::AllReached::rows_reached, crate::proofs::reach_queries::AllReached::row_asked, crate::proofs::reach_queries::AllReached::words_stored))]
 fn write_reach(facts: LentFacts<'_>, phases: Phases, processor: u8, scratch: &mut [u8]) -> u32
     requires { (processor < max_processors) × (scratch_size facts.terms.processors ≤ length scratch.old) }
     ensures mask { result

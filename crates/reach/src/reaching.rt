@@ -23,6 +23,7 @@ fn join_through(rows: &mut [u32; MAX_PROCESSORS], k: usize)
 // Clause 7.3: computes all that each processor reaches from the direct waits of all, on a board with this many
 // processors. There is one pass for each processor that a chain may lead through. Before pass k, the rows already
 // contain the chains through the processors below k.
+#[tactic(auto, unfolding(crate::specs::Rows::rows_through))]
 pub fn reach_rows(processors: u8, direct: [u32; MAX_PROCESSORS]) -> [u32; MAX_PROCESSORS]
     ensures { result ≡ rows_through (listed_of processors) direct }
 {

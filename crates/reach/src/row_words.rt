@@ -27,6 +27,7 @@ pub fn room_of(processors: u8) -> usize
 
 // Stores the rows from the start of the scratch, in words of `size` bytes, one for each processor that has a bit in a
 // word.
+#[tactic(auto, using(crate::proofs::Words::word_stored), unfolding(encoding::specs::InTurn::in_turn, queries::specs::Words::words_of))]
 fn store_rows(size: usize, rows: [u32; MAX_PROCESSORS], scratch: &mut [u8])
     requires { (size ≤ 4) × (words_size size ≤ length scratch.old) }
     ensures { scratch.new ≡ sets scratch.old 0 (words_of size (word_count size) (λ p. get_or rows p 0)) }
@@ -39,6 +40,7 @@ fn store_rows(size: usize, rows: [u32; MAX_PROCESSORS], scratch: &mut [u8])
 
 // Clause 7.4: writes the rows into the scratch, a word for each, low byte first. The bytes after them stay. Refuses
 // with 16 a scratch that is too short, and then writes nothing.
+#[tactic(auto, using(crate::proofs::Words::length_words, encoding::proofs::Stores::sets_overwritten))]
 pub fn write_rows(
     processors: u8,
     rows: [u32; MAX_PROCESSORS],
