@@ -3,11 +3,13 @@
 // requests and answer queries use it.
 #![tactic(auto)]
 
+mod each_place;
 mod mask;
 mod masks32;
 mod masks64;
 mod tabulation;
 
+pub use each_place::EachPlace;
 pub use mask::Mask;
 pub use masks32::{join_if, remove32, without32};
 pub use masks64::{below64, meet64};

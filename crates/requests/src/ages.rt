@@ -8,7 +8,7 @@ ghost use Rattle.masks.specs.Tabulation.{tabulate};
 ghost use Rattle.rules.specs.Acts.{put_last};
 
 use crate::stores::store;
-use masks::remove32;
+use masks::{EachPlace, remove32};
 use plans::MAX_PROCESSORS;
 use rules::Phases;
 use settling::ALL;
@@ -47,9 +47,7 @@ pub fn stamp(since: &mut [u64; MAX_PROCESSORS], among: u32, tick: u64)
     ensures { since.new
         ≡ tabulate max_processors (λ p. cond (bit among p) tick (get_or since.old p 0)) }
 {
-    let mut left = among;
-    while left != 0 {
-        since[u32::trailing_zeros(left) as usize] = tick;
-        left = left & (left - 1);
+    for p in EachPlace(among) {
+        since[p as usize] = tick;
     }
 }

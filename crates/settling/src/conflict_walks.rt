@@ -9,7 +9,7 @@ ghost use Rattle.rules.specs.InPlace.{facts_lent};
 ghost use Rattle.rules.specs.inner.Moves.{Known, unopposed_in, first_in_line};
 
 use crate::picking::those;
-use masks::{Mask, meet64};
+use masks::{EachPlace, Mask, meet64};
 use plans::MAX_PROCESSORS;
 use rules::LentFacts;
 
@@ -57,10 +57,8 @@ fn entries_of(requested: &[u8; MAX_PROCESSORS], among: u32) -> u64
         ≡ some max_processors (λ q. bit among q && bit row (get_or requested.now q 0)) }
 {
     let mut set: u64 = 0;
-    let mut left = among;
-    while left != 0 {
-        set = set | (1 << requested[u32::trailing_zeros(left) as usize]);
-        left = left & (left - 1);
+    for p in EachPlace(among) {
+        set = set | (1 << requested[p as usize]);
     }
     set
 }
@@ -70,12 +68,10 @@ fn in_row(row: u64, requested: &[u8; MAX_PROCESSORS], among: u32) -> bool
     requires { Known requested.now among }
     ensures { result ≡ some max_processors (λ q. bit among q && bit row (get_or requested.now q 0)) }
 {
-    let mut left = among;
-    while left != 0 {
-        if has_entry(requested, row, u32::trailing_zeros(left)) {
+    for p in EachPlace(among) {
+        if has_entry(requested, row, p) {
             return true;
         }
-        left = left & (left - 1);
     }
     false
 }
