@@ -6,6 +6,7 @@ use refusals::Refusal;
 use rules::Call;
 
 // Clause 9.3: the call of a verb. Refuses with 9.
+// Kept: four fields and no `TryFrom`, since a record's bytes have a definition of their own that the promise cites.
 pub fn call_by(verb: u8, processor: u8, entry: u8, tick: u64) -> Result<Call, Refusal>
     ensures { record_as_numbers result
         ≡ recorded (record { verb = verb; processor = processor; entry = entry; tick = tick }) }

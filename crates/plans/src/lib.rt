@@ -33,6 +33,7 @@ pub const MAX_ENTRY_BYTES: usize = ENTRY_BYTES;
 pub const MAX_PLAN_BYTES: usize = PLAN_COUNTS_BYTES + MAX_ENTRY_BYTES * MAX_ENTRIES;
 
 // What a request asks for: kind 0 reads and kind 1 writes, bit r of the set names resource r, length is in ticks.
+// Kept: the kind is a byte, since any plan value can be made, and one of another kind is refused with 6 (clause 2.10).
 #[derive(Clone, Copy)]
 pub struct Entry {
     pub kind: u8,
@@ -41,6 +42,7 @@ pub struct Entry {
 }
 
 // Entries from the count on are ignored.
+// Kept: an array with a count beside it, since there is no heap and any plan value can be made (clause 2.10).
 #[derive(Clone, Copy)]
 pub struct Plan {
     pub processors: u8,

@@ -13,6 +13,7 @@ pub enum Call {
 }
 
 // An accepted call's masks and late mark. Bit p of a mask is processor p.
+// Kept: the mark is a byte, 0 or 1, as listings and registers show it; both promise their answer for any byte.
 #[derive(Clone, Copy)]
 pub struct Done {
     pub granted: u32,
