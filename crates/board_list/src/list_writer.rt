@@ -46,6 +46,7 @@ fn store_part_of(columns: Columns<'_>, size: usize, i: usize, buffer: &mut [u8],
 }
 
 // Stores the parts of the first count processors, from byte 1.
+#[tactic(auto, using(crate::proofs::Stores::part_turn, crate::proofs::Parts::length_part), unfolding(encoding::specs::InTurn::in_turn, crate::specs::Listing::part_in))]
 fn store_parts(columns: Columns<'_>, size: usize, count: usize, buffer: &mut [u8])
     requires { (size ≤ 4) × (count ≤ max_processors) × (list_size size count ≤ length buffer.old) }
     ensures { buffer.new ≡ sets buffer.old 1 (in_turn count (part_shown size columns.entry)) }
@@ -57,6 +58,7 @@ fn store_parts(columns: Columns<'_>, size: usize, count: usize, buffer: &mut [u8
 
 // Writes the list from the start of the buffer and returns how many bytes it took. The bytes after it stay. Refuses
 // with 16 if the buffer is too short, and then writes nothing.
+#[tactic(auto, using(crate::proofs::Stores::list_stores, crate::proofs::Parts::length_part, refusals::proofs::Numbers::number_not_zero), unfolding(crate::specs::Listing::part_in, crate::specs::Listing::list_fault, crate::specs::Listing::list_buffer))]
 pub fn write(processors: u8, columns: Columns<'_>, buffer: &mut [u8]) -> Result<usize, Refusal>
     ensures outcome { outcome_as_numbers result ≡ as_numbers
         (list_fault (mask_size_for processors) (listed_of processors) buffer.old)
