@@ -46,6 +46,7 @@ fn widen_all(plan: Plan) -> [u64; MAX_ENTRIES]
 }
 
 // The set with the place added, if the test holds.
+// Kept: not one with the like of it in `settling`, which adds to sets of processors and asks for a place in them.
 fn add_if(set: u64, place: usize, test: bool) -> u64
     requires { place < max_entries }
     ensures { result ≡ cond test (added set place) set }
