@@ -2,8 +2,6 @@
 // Specification, clause 7.2.
 #![tactic(auto)]
 
-mod waits_of_each;
-mod waits_of_one;
+mod direct_waits;
 
-pub use waits_of_each::waits_of_all;
-pub use waits_of_one::waits_of;
+pub use direct_waits::{waits_of, waits_of_all};

@@ -5,8 +5,8 @@ use lib.ListN.{get_or}
 use Rattle.masks.specs.Sets.{bit}
 use Rattle.masks.proofs.Masks.{mask_agree}
 use Rattle.plans.specs.Entries.{max_processors}
-use Rattle.waits.proofs.waits_of_one.Cases.{bit_active}
-use Rattle.waits.proofs.waits_of_one.writers_of.Goals as goal
+use Rattle.waits.proofs.direct_waits.Cases.{bit_active}
+use Rattle.waits.proofs.direct_waits.writers_of.Goals as goal
 
 pub returns : goal.returns
 returns c =

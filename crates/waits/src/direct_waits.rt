@@ -1,22 +1,20 @@
 // The processors that a request waits for directly, using masks of processors and the parts of a board and a state. An
 // entry past the rows conflicts with none. Specification, clause 7.2.
-ghost use Rattle.std.specs.Prelude.{◌≡◌, ◌<◌, get_or};
+ghost use Rattle.std.specs.Prelude.{◌≡◌};
 ghost use Rattle.masks.specs.Sets.{mask_of};
+ghost use Rattle.masks.specs.Tabulation.{tabulate};
 ghost use Rattle.plans.specs.Entries.{max_processors};
 ghost use Rattle.rules.specs.InPlace.{facts_lent};
 ghost use Rattle.waits.specs.Waits.{waits_in, waits_of};
 ghost use Rattle.waits.specs.inner.Writers.{writers_in};
 
 use masks::{Mask, join_if, row_at};
-use plans::{MAX_ENTRIES, MAX_PROCESSORS};
+use plans::MAX_PROCESSORS;
 use rules::{LentFacts, Phases};
 use settling::those_in;
 
-// The places of a mask of processors.
-const PLACES: u32 = MAX_PROCESSORS as u32;
-
 // The active processors whose requests are writes.
-pub fn writers_of(facts: LentFacts<'_>, phases: Phases) -> u32
+fn writers_of(facts: LentFacts<'_>, phases: Phases) -> u32
     ensures { result ≡ writers_in (facts_lent facts.entry) phases }
 {
     those_in(
@@ -26,40 +24,43 @@ pub fn writers_of(facts: LentFacts<'_>, phases: Phases) -> u32
     )
 }
 
-// The entries that an entry conflicts with.
-pub fn row_of(rows: &[u64; MAX_ENTRIES], entry: u8) -> u64
-    ensures { result ≡ get_or rows.now entry 0 }
-{
-    row_at(rows, entry as u32)
-}
-
 // The direct waits of processor p, given the writers: those that it waits for in each of the four cases, if their
-// requests conflict with its own.
-fn waits_from(facts: LentFacts<'_>, phases: Phases, writers: u32, p: u32) -> u32
-    requires { (p < max_processors) × (writers ≡ writers_in (facts_lent facts) phases) }
-    ensures { result ≡ mask_of max_processors (waits_in (facts_lent facts.entry) phases p) }
+// requests conflict with its own. A number past the last processor waits for nobody.
+fn waits_from(facts: LentFacts<'_>, phases: Phases, writers: u32, p: usize) -> u32
+    ensures { writers ≡ writers_in (facts_lent facts.entry) phases
+        → result ≡ waits_of (facts_lent facts.entry) phases p }
 {
-    let waiting = phases.waiting.has(p);
-    let entitled = phases.entitled.has(p);
-    let write = writers.has(p);
+    if p >= MAX_PROCESSORS {
+        return 0;
+    }
+    let waiting = phases.waiting.has(p as u32);
+    let entitled = phases.entitled.has(p as u32);
+    let write = writers.has(p as u32);
     let read = !write;
     let first = join_if(0, phases.holding & writers, entitled & read);
     let second = join_if(first, phases.entitled & writers, waiting & read);
     let third = join_if(second, phases.holding & !writers, entitled & write);
-    let others = join_if(third, facts.earlier[p as usize] & writers, waiting & write);
+    let others = join_if(third, facts.earlier[p] & writers, waiting & write);
+    let rows = facts.rows;
     those_in(
         facts.requested,
-        row_of(facts.rows, facts.requested[p as usize]),
+        row_at(rows, facts.requested[p] as u32),
         others,
     )
 }
 
-// The direct waits of processor p, as a mask. A number past the last processor waits for nobody.
+// The direct waits of processor p, as a mask.
 pub fn waits_of(facts: LentFacts<'_>, phases: Phases, p: u32) -> u32
     ensures { result ≡ waits_of (facts_lent facts.entry) phases p }
 {
-    if p >= PLACES {
-        return 0;
-    }
-    waits_from(facts, phases, writers_of(facts, phases), p)
+    waits_from(facts, phases, writers_of(facts, phases), p as usize)
+}
+
+// The direct waits of every processor. The writers are computed once for all of them.
+pub fn waits_of_all(facts: LentFacts<'_>, phases: Phases) -> [u32; MAX_PROCESSORS]
+    ensures { result
+        ≡ tabulate max_processors (λ p. mask_of max_processors (waits_in (facts_lent facts.entry) phases p)) }
+{
+    let writers = writers_of(facts, phases);
+    std::array::from_fn(|p| waits_from(facts, phases, writers, p))
 }
