@@ -25,12 +25,16 @@ fn writers_of(facts: LentFacts<'_>, phases: Phases) -> u32
 }
 
 // The direct waits of processor p, given the writers: those that it waits for in each of the four cases, if their
-// requests conflict with its own. A number past the last processor waits for nobody.
+// requests conflict with its own. A processor whose request neither waits nor is entitled waits for nobody, nor does a
+// number past the last processor.
 fn waits_from(facts: LentFacts<'_>, phases: Phases, writers: u32, p: usize) -> u32
     ensures { writers ≡ writers_in (facts_lent facts.entry) phases
         → result ≡ waits_of (facts_lent facts.entry) phases p }
 {
     if p >= MAX_PROCESSORS {
+        return 0;
+    }
+    if !(phases.waiting | phases.entitled).has(p as u32) {
         return 0;
     }
     let waiting = phases.waiting.has(p as u32);

@@ -1,12 +1,12 @@
 -- The masks that the code joins, with the row of conflicts, are the direct waits. Assumes nothing.
 use Prim.Native.Nat.{ℕ, ◌^◌, ◌<◌}
-use mathlib.Core.Path.{◌≡◌, ap, ap₂, ◌∙◌}
-use mathlib.Core.Bool.{Bool, true, false, cond, not, ◌&&◌, ◌||◌, and-true, and-false, or_assoc}
+use mathlib.Core.Path.{◌≡◌, refl, sym, ap, ap₂, ◌∙◌}
+use mathlib.Core.Bool.{Bool, true, false, cond, not, ◌&&◌, ◌||◌, and-true, and-false, or_assoc, true≢false}
 use lib.Bits.{bit_and, bit_or}
 use lib.ListN.{get_or}
 use Rattle.masks.specs.Sets.{bit, without, mask_of}
 use Rattle.masks.proofs.Places.{bit_zero, bit_and_law, bit_or_law, bit_or_if, bit_without}
-use Rattle.masks.proofs.Masks.{bit_mask_at, mask_agree}
+use Rattle.masks.proofs.Masks.{bit_mask_at, mask_agree, mask_none}
 use Rattle.plans.specs.Entries.{max_processors}
 use Rattle.rules.specs.declared.states.Phases.{Phases}
 use Rattle.rules.specs.Requests.{Facts, active, is_earlier, is_writer, entry_of, conflicts}
@@ -50,6 +50,19 @@ active_sides ep wp ap eq hq aq Wp Wq before k e w f h =
       within_not hq aq Wq h,
       within_and eq aq Wq f,
     )
+
+-- A processor whose request neither waits nor is entitled waits for nobody.
+neither_phase : (a b : Bool) → (a || b) ≡ false → (a ≡ false) × (b ≡ false)
+neither_phase false b e = (refl, e)
+neither_phase true b e = absurd (true≢false e)
+
+pub waits_for_none : (f : Facts) (ph : Phases) (p : ℕ) → bit (bit_or ph.waiting ph.entitled) p ≡ false
+    → 0 ≡ mask_of max_processors (waits_in f ph p)
+unfolding waits_in
+waits_for_none f ph p e =
+    let none = neither_phase (bit ph.waiting p) (bit ph.entitled p) (sym (bit_or_law ph.waiting ph.entitled p) ∙ e) in
+    sym (mask_none max_processors)
+    ∙ mask_agree max_processors (λ q. false) (waits_in f ph p) (λ q l. rw (none.0, none.1) refl)
 
 -- The places of the mask of writers.
 pub is_writer_law : (f : Facts) (ph : Phases) (writers : ℕ) → writers ≡ writers_in f ph → (k : ℕ) → k < max_processors
