@@ -1,6 +1,6 @@
 // The processors that a request waits for directly, using masks of processors and the parts of a board and a state. An
 // entry past the rows conflicts with none. Specification, clause 7.2.
-ghost use Rattle.std.specs.Prelude.{◌≡◌};
+ghost use Rattle.std.specs.Prelude.{◌≡◌, ◌<◌};
 ghost use Rattle.masks.specs.Sets.{mask_of};
 ghost use Rattle.masks.specs.Tabulation.{tabulate};
 ghost use Rattle.plans.specs.Entries.{max_processors};
@@ -25,46 +25,49 @@ fn writers_of(facts: LentFacts<'_>, phases: Phases) -> u32
 }
 
 // The direct waits of processor p, given the writers: those that it waits for in each of the four cases, if their
-// requests conflict with its own. A processor whose request neither waits nor is entitled waits for nobody, nor does a
-// number past the last processor.
-fn waits_from(facts: LentFacts<'_>, phases: Phases, writers: u32, p: usize) -> u32
+// requests conflict with its own.
+#[inline(always)]
+fn waits_from(facts: LentFacts<'_>, phases: Phases, writers: u32, p: u32) -> u32
+    requires { p < max_processors }
     ensures { writers ≡ writers_in (facts_lent facts.entry) phases
-        → result ≡ waits_of (facts_lent facts.entry) phases p }
+        → result ≡ mask_of max_processors (waits_in (facts_lent facts.entry) phases p) }
 {
-    if p >= MAX_PROCESSORS {
-        return 0;
-    }
-    if !(phases.waiting | phases.entitled).has(p as u32) {
-        return 0;
-    }
-    let waiting = phases.waiting.has(p as u32);
-    let entitled = phases.entitled.has(p as u32);
-    let write = writers.has(p as u32);
+    let waiting = phases.waiting.has(p);
+    let entitled = phases.entitled.has(p);
+    let write = writers.has(p);
     let read = !write;
     let first = join_if(0, phases.holding & writers, entitled & read);
     let second = join_if(first, phases.entitled & writers, waiting & read);
     let third = join_if(second, phases.holding & !writers, entitled & write);
-    let others = join_if(third, facts.earlier[p] & writers, waiting & write);
+    let others = join_if(third, facts.earlier[p as usize] & writers, waiting & write);
     let rows = facts.rows;
-    those_in(
-        facts.requested,
-        row_at(rows, facts.requested[p] as u32),
-        others,
-    )
+    let row = row_at(rows, facts.requested[p as usize] as u32);
+    those_in(facts.requested, row, others)
 }
 
-// The direct waits of processor p, as a mask.
+// The direct waits of processor p, as a mask. A number past the last processor waits for nobody.
 pub fn waits_of(facts: LentFacts<'_>, phases: Phases, p: u32) -> u32
     ensures { result ≡ waits_of (facts_lent facts.entry) phases p }
 {
-    waits_from(facts, phases, writers_of(facts, phases), p as usize)
+    if p >= MAX_PROCESSORS as u32 {
+        return 0;
+    }
+    waits_from(facts, phases, writers_of(facts, phases), p)
 }
 
-// The direct waits of every processor. The writers are computed once for all of them.
+// The direct waits of every processor. The writers are computed once for all of them. A processor whose request neither
+// waits nor is entitled waits for nobody, so the walk goes over the others alone.
 pub fn waits_of_all(facts: LentFacts<'_>, phases: Phases) -> [u32; MAX_PROCESSORS]
     ensures { result
         ≡ tabulate max_processors (λ p. mask_of max_processors (waits_in (facts_lent facts.entry) phases p)) }
 {
     let writers = writers_of(facts, phases);
-    std::array::from_fn(|p| waits_from(facts, phases, writers, p))
+    let mut out = [0; MAX_PROCESSORS];
+    let mut left = phases.waiting | phases.entitled;
+    while left != 0 {
+        let p = u32::trailing_zeros(left);
+        out[p as usize] = waits_from(facts, phases, writers, p);
+        left = left & (left - 1);
+    }
+    out
 }

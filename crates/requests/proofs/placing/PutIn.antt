@@ -1,14 +1,14 @@
 -- A request enters or leaves, in masks. Assumes nothing.
 use mathlib.Core.Path.{◌≡◌, refl, sym, ap, subst, ◌∙◌}
 use mathlib.Core.Bool.{Bool, true, false, cond, ◌&&◌, ◌||◌, or-false}
-use Prim.Native.Nat.{ℕ, ◌-◌, ◌^◌, ◌<◌}
+use Prim.Native.Nat.{ℕ, ◌^◌, ◌<◌}
 use native.Mathlib.Omega.{arith}
 use lib.Bits.{bit_and, bit_or}
 use lib.Dec.{eqb, ltb}
 use lib.ListN.{get_or}
 use borrow.Author.Tests.{ne_eqb, ltb-true, ltb-false}
 use Rattle.masks.specs.Sets.{bit, added, mask_of}
-use Rattle.masks.proofs.Tests.{Mask, bit_is, agree_is, same_is, own_is, cut_is, none_is, one_is, any_and, or_is, in_is}
+use Rattle.masks.proofs.Tests.{Mask, agree_is, same_is, own_is, none_is, one_is, any_and, or_is, in_is}
 use Rattle.masks.proofs.Tests.{neither}
 use Rattle.masks.proofs.Walks.{bit_none}
 use Rattle.plans.specs.Entries.{max_processors}

@@ -1,30 +1,46 @@
--- `waits_of_all` meets its contract: the closure gives the direct waits of each processor. Assumes nothing.
-use mathlib.Core.Path.{◌≡◌, sym, ap, ap₂, ◌∙◌}
-use mathlib.Core.Bool.{cond}
+use mathlib.Core.Path.{◌≡◌, refl, ◌∙◌}
+use mathlib.Core.Bool.{Bool, true, false, cond}
+use Prim.Native.Nat.{ℕ, ◌^◌, ◌<◌}
+use native.Mathlib.Omega.{arith}
+use lib.Bits.{bit_or}
+use lib.ListN.{get_or, replicate, length-replicate, get_or-replicate}
 use borrow.Author.Rules.{rules}
-use borrow.Author.Tests.{lt-ltb}
-use Rattle.masks.specs.Sets.{mask_of}
-use Rattle.masks.proofs.Made.{made_whole}
-use Rattle.masks.proofs.Tabulate.{tabulate_agree}
+use Rattle.masks.specs.Sets.{bit, mask_of}
+use Rattle.masks.proofs.Places.{or_below}
+use Rattle.masks.proofs.Walks.{lowest_place}
 use Rattle.plans.specs.Entries.{max_processors}
 use Rattle.rules.specs.declared.states.Phases.{Phases}
 use Rattle.rules.specs.Requests.{Facts}
-use Rattle.rules.specs.InPlace.{facts_lent}
-use Rattle.waits.specs.Waits.{waits_in, waits_of}
-use Rattle.waits.specs.inner.Writers.{writers_in}
+use Rattle.waits.specs.Waits.{waits_in}
+use Rattle.waits.proofs.direct_waits.Cases.{waits_for_none}
+use Rattle.waits.proofs.direct_waits.Filled.{Filled, filled_more, filled_last}
 use Rattle.waits.proofs.direct_waits.waits_of_all.Goals as goal
 
+filled_first : (f : Facts) (ph : Phases) → ph.waiting < 2 ^ max_processors → ph.entitled < 2 ^ max_processors
+    → Filled max_processors 32 (λ p. mask_of max_processors (waits_in f ph p)) (bit_or ph.waiting ph.entitled)
+    (replicate max_processors 0)
+filled_first f ph hw he =
+    record {
+      walk = record { fit = omega arith; rest = or_below max_processors ph.waiting ph.entitled hw he };
+      full = length-replicate {A = ℕ} max_processors 0;
+      places = λ k l. at k l (bit (bit_or ph.waiting ph.entitled) k) refl;
+    }
+  where
+    at : (k : ℕ) → k < max_processors → (t : Bool) → bit (bit_or ph.waiting ph.entitled) k ≡ t
+        → cond t (mask_of max_processors (waits_in f ph k)) (get_or (replicate max_processors 0) k 0)
+        ≡ mask_of max_processors (waits_in f ph k)
+    at k l true e = refl
+    at k l false e = get_or-replicate max_processors k 0 0 l ∙ waits_for_none f ph k e
+
+pub loop-left-init : goal.loop-left-init
+loop-left-init c = filled_first _ c.args.phases (search rules) (search rules)
+
+pub waits_from-requires : goal.waits_from-requires
+waits_from-requires c = lowest_place c.loop-left.invariant.walk (omega arith)
+
+pub loop-left-preserved : goal.loop-left-preserved
+loop-left-preserved c =
+    filled_more _ (omega arith) c.loop-left.invariant (c.waits_from.ensures c.writers_of-writers.ensures)
+
 pub returns : goal.returns
-returns c =
-    let f = facts_lent c.args.facts in
-    let ph = c.args.phases in
-    made_whole _ (λ p. (facts_lent p.0.now ≡ f) × (p.1.now ≡ ph) × (p.2.now ≡ writers_in f ph)) (λ k. waits_of f ph k)
-    (λ p q i y kept called.
-    let given : p.2.now ≡ writers_in (facts_lent p.0.now) p.1.now =
-    kept.2 ∙ ap₂ (λ (f : Facts) (ph : Phases). writers_in f ph) (sym kept.0) (sym kept.1) in
-    let gives : y ≡ waits_of (facts_lent p.0.now) p.1.now i = search (rules, called, given) in
-    let same : q ≡ p = search (rules, called) in
-    (gives ∙ ap₂ (λ (f : Facts) (ph : Phases). waits_of f ph i) kept.0 kept.1, rw same kept))
-    _ _ max_processors (search rules) c.from_fn.ensures.items
-    ∙ tabulate_agree max_processors _ _
-    (λ k l. ap (λ t. cond t (mask_of max_processors (waits_in f ph k)) 0) (lt-ltb k max_processors l))
+returns c = filled_last c.loop-left-test.false c.loop-left.invariant
