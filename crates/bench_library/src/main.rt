@@ -17,6 +17,7 @@ const BUSY: u64 = 16;
 const TURNS: u64 = 5000000;
 
 // Argument i as a number of at most nine digits, or `other` if there is none.
+// Kept: no `parse`, so that the program does what it did on every input: each byte counts as some digit.
 fn number_of(rt: &HostRuntime, i: usize, other: u64) -> u64
     requires { other < 1000000000 }
     ensures { result < 1000000000 }
