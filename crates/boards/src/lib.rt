@@ -46,6 +46,7 @@ fn writes_of(plan: Plan) -> u64
 }
 
 // The length of entry i, or 0 past the count.
+// Kept: not one with the names of an entry in `conflicts`, which are of another type and another field.
 fn counted_length(entry: Entry, i: usize, count: u8) -> u16
     ensures { result ≡ cond (ltb i count) entry.length 0 }
 {

@@ -78,6 +78,7 @@ fn all_rows(plan: Plan, widened: [u64; MAX_ENTRIES]) -> [u64; MAX_ENTRIES]
 }
 
 // The names of entry i, or none past the count.
+// Kept: with `get(i).map_or(..)` in the closure of `names_of`, the proof stopped at the value that the closure returns.
 fn counted_names(entry: Entry, i: usize, count: u8) -> u64
     ensures { result ≡ cond (ltb i count) entry.set 0 }
 {
