@@ -7,6 +7,7 @@ ghost use Rattle.c_boards.specs.Answers.{c_answer_as_numbers};
 use refusals::Refusal;
 
 // An answer in numbers: the number of the refusal, 0 if there is none, and a value, which is 0 with a refusal.
+// Kept: the refusal's number beside the value, as the C interface has it.
 #[repr(C)]
 #[derive(Clone, Copy)]
 pub struct CAnswer {

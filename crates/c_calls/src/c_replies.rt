@@ -10,6 +10,7 @@ use rules::{Changed, Reply};
 
 // A reply in numbers: the number of the refusal, 0 if the call is accepted; the granted and the entitled mask; late.
 // With a refusal the other three are 0.
+// Kept: the refusal's number beside the values, as the C interface has it.
 #[repr(C)]
 #[derive(Clone, Copy)]
 pub struct CReply {

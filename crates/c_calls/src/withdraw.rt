@@ -33,6 +33,7 @@ pub fn bittmelon_withdraw_parts(
         (state_by (moment_by last.old phases.old)
         requested.now since.old earlier.now) processor tick }
 {
+    // Kept: the arrays one by one, since C lends only `since` for writing.
     let board = LentBoard {
         terms: terms_of(processors, entries, writes),
         rows,

@@ -1,6 +1,7 @@
 // For C and Rust: a fresh arbiter, made from the bytes of a plan and stored in memory that the caller owns; and the
 // version of the archive. `c_fresh_c` exports these functions, and include/bittmelon.h declares them. Specification,
 // sections 4 and 11.
+// Kept: the parts one by one, as they are the parameters of the C interface.
 #![tactic(auto)]
 
 mod fresh_reads;

@@ -13,6 +13,7 @@ use refusals::Refusal;
 
 // The number of the refusal, 0 if there is none; 1 for a conflict, with the lowest shared resource and how many are
 // shared.
+// Kept: the refusal's number beside the values, as the C interface has it.
 #[repr(C)]
 #[derive(Clone, Copy)]
 pub struct CConflict {

@@ -1,6 +1,7 @@
 // For C and Rust: the queries on memory that the caller owns. Its parts are lent as pointers, and only a lent scratch
 // or buffer is changed. `c_queries_c` exports these functions, and include/bittmelon.h declares them. Specification,
 // sections 7 and 11.
+// Kept: the parts one by one, as each function is an exported name with the parameters of the C interface.
 #![tactic(auto)]
 
 mod c_contention;

@@ -12,6 +12,7 @@ use rules::{Board, Phases, State, Terms};
 use settling::clean;
 
 // The state of a processor, with the parts of a board and a state lent, as in a call in place. Refused with 11.
+// Kept: no `LentFacts`, since the C interface lends no rows and no earlier requests to this query.
 #[tactic(auto, unfolding(crate::specs::Queries::state_number))]
 pub fn phase_in_place(
     terms: Terms,
