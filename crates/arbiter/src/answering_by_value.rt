@@ -49,10 +49,9 @@ pub fn answer_on(board: LentBoard<'_>, state: State, call: Call) -> Answered
 pub fn answer(board: Board, state: State, call: Call) -> Answered
     ensures { answer_of result ≡ answered board state call }
 {
-    let rows = board.rows;
     let lent = LentBoard {
         terms: board.terms,
-        rows: &rows,
+        rows: &board.rows,
         lengths: &board.lengths,
     };
     answer_on(lent, state, call)

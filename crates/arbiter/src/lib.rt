@@ -18,10 +18,7 @@ use settling::clean;
 pub fn phases_of(board: Board, state: State) -> Phases
     ensures { result ≡ phases_of board state }
 {
-    let terms = board.terms;
-    let requested = state.requested;
-    let given = state.phases;
-    clean(terms, requested, given)
+    clean(board.terms, state.requested, state.phases)
 }
 
 // The processor issues a request for an entry at a tick. Refused with 10, 11, 12 or 13, checked in this order.

@@ -13,6 +13,7 @@ use rules::{Changed, LentBoard, LentFacts, Moment};
 use settling::clean;
 
 // The processor completes its request at a tick. Refused with 10, 11, 14 or 15, checked in this order.
+// Kept: the two arrays that it only reads are lent for reading alone, as the C interface lends them.
 pub fn complete_in_place(
     board: LentBoard<'_>,
     moment: Moment,
@@ -27,8 +28,7 @@ pub fn complete_in_place(
         (state_by moment requested.now since.old earlier.now) processor tick }
 {
     let terms = board.terms;
-    let given = moment.phases;
-    let before = clean(terms, *requested, given);
+    let before = clean(terms, *requested, moment.phases);
     if let Err(refusal) = check_complete(terms, moment.last, before, processor, tick) {
         return refused(refusal, moment);
     }
@@ -36,10 +36,10 @@ pub fn complete_in_place(
     let length = length_at(lengths, requested[processor as usize]);
     let late = late_mark(length, since[processor as usize], tick);
     let facts = LentFacts {
-        terms: terms,
+        terms,
         rows: board.rows,
-        requested: requested,
-        earlier: earlier,
+        requested,
+        earlier,
     };
     accepted(leave(facts, since, before, processor, tick, late), tick)
 }

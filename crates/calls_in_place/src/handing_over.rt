@@ -26,8 +26,7 @@ pub fn handover_in_place(
         ≡ handed_over (board_lent board.entry) (state_lent moment arrays.old) processor entry tick }
 {
     let terms = board.terms;
-    let given = moment.phases;
-    let before = clean(terms, *arrays.requested, given);
+    let before = clean(terms, *arrays.requested, moment.phases);
     if let Err(refusal) = check_handover(terms, moment.last, before, processor, entry, tick) {
         return refused(refusal, moment);
     }
@@ -35,7 +34,7 @@ pub fn handover_in_place(
     let length = length_at(lengths, arrays.requested[processor as usize]);
     let late = late_mark(length, arrays.since[processor as usize], tick);
     let facts = LentFacts {
-        terms: terms,
+        terms,
         rows: board.rows,
         requested: arrays.requested,
         earlier: arrays.earlier,

@@ -25,8 +25,7 @@ pub fn issue_in_place(
         ≡ issued (board_lent board.entry) (state_lent moment arrays.old) processor entry tick }
 {
     let terms = board.terms;
-    let given = moment.phases;
-    let before = clean(terms, *arrays.requested, given);
+    let before = clean(terms, *arrays.requested, moment.phases);
     if let Err(refusal) = check_issue(terms, moment.last, before, processor, entry, tick) {
         return refused(refusal, moment);
     }

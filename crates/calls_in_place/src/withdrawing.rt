@@ -14,6 +14,7 @@ use settling::clean;
 
 // The processor leaves the queue at a tick; its request must not hold. Refused with 10, 11, 14 or 17, checked in this
 // order.
+// Kept: the two arrays that it only reads are lent for reading alone, as the C interface lends them.
 pub fn withdraw_in_place(
     board: LentBoard<'_>,
     moment: Moment,
@@ -28,16 +29,15 @@ pub fn withdraw_in_place(
         (state_by moment requested.now since.old earlier.now) processor tick }
 {
     let terms = board.terms;
-    let given = moment.phases;
-    let before = clean(terms, *requested, given);
+    let before = clean(terms, *requested, moment.phases);
     if let Err(refusal) = check_withdraw(terms, moment.last, before, processor, tick) {
         return refused(refusal, moment);
     }
     let facts = LentFacts {
-        terms: terms,
+        terms,
         rows: board.rows,
-        requested: requested,
-        earlier: earlier,
+        requested,
+        earlier,
     };
     accepted(leave(facts, since, before, processor, tick, 0), tick)
 }

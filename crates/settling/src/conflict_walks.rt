@@ -41,7 +41,8 @@ pub fn those_in(requested: &[u8; MAX_PROCESSORS], set: u64, among: u32) -> u32
     those(among, |p| set.has(requested[p as usize] as u32))
 }
 
-// The same for known processors, whose entries need no test of their own.
+// The same for known processors.
+// Kept: a function beside `those_in`, as each settling walks the active processors, and here no entry is tested.
 pub fn known_among(requested: &[u8; MAX_PROCESSORS], set: u64, among: u32) -> u32
     requires { Known requested.now among }
     ensures those { result ≡ mask_of max_processors (λ p. bit among p && bit set (get_or requested.now p 0)) }

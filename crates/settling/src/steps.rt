@@ -61,6 +61,6 @@ pub fn settle(facts: LentFacts<'_>, phases: Phases) -> Phases
     Phases {
         waiting: waiting & !behind,
         entitled: entitled | behind,
-        holding: holding,
+        holding,
     }
 }
