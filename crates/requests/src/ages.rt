@@ -25,7 +25,7 @@ fn keep_each(sets: &mut [u32; MAX_PROCESSORS], keep: u32)
     ensures { sets.new ≡ tabulate max_processors (λ q. bit_and (get_or sets.old q 0) keep) }
 {
     for set in sets {
-        *set = *set & keep;
+        *set &= keep;
     }
 }
 

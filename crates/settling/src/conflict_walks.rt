@@ -59,7 +59,7 @@ fn entries_of(requested: &[u8; MAX_PROCESSORS], among: u32) -> u64
 {
     let mut set: u64 = 0;
     for p in EachPlace(among) {
-        set = set | (1 << requested[p as usize]);
+        set |= 1 << requested[p as usize];
     }
     set
 }

@@ -42,19 +42,19 @@ pub fn settle(facts: LentFacts<'_>, phases: Phases) -> Phases
     let ahead = unopposed(facts, waiting & r, entitled & w);
     let free = unopposed(facts, (entitled & r) | ahead, holding & w);
     let reads = ((waiting | entitled) & !known) | free;
-    waiting = waiting & !reads;
-    entitled = entitled & !reads;
-    holding = holding | reads;
+    waiting &= !reads;
+    entitled &= !reads;
+    holding |= reads;
     // Step 2 (5.4): waiting writes that conflict with no holding write, entitled read or earlier unsatisfied write.
     let clear = unopposed(facts, waiting & w, (holding & w) | (entitled & r));
     let next = first_in_queue(facts, clear, (waiting | entitled) & w);
-    waiting = waiting & !next;
-    entitled = entitled | next;
+    waiting &= !next;
+    entitled |= next;
     // Step 3 (5.5): entitled writes that conflict with no holding read.
     let granted = unopposed(facts, entitled & w, holding & r);
-    waiting = waiting & !granted;
-    entitled = entitled & !granted;
-    holding = holding | granted;
+    waiting &= !granted;
+    entitled &= !granted;
+    holding |= granted;
     // Step 4 (5.6): waiting reads that conflict with a holding write and with no entitled write.
     let clear = unopposed(facts, waiting & r, holding & w);
     let behind = unopposed(facts, waiting & r & !clear, entitled & w);

@@ -65,9 +65,9 @@ pub fn waits_of_all(facts: LentFacts<'_>, phases: Phases) -> [u32; MAX_PROCESSOR
     let mut out = [0; MAX_PROCESSORS];
     let mut left = phases.waiting | phases.entitled;
     while left != 0 {
-        let p = u32::trailing_zeros(left);
+        let p = left.trailing_zeros();
         out[p as usize] = waits_from(facts, phases, writers, p);
-        left = left & (left - 1);
+        left &= left - 1;
     }
     out
 }
