@@ -8,7 +8,7 @@ ghost use Rattle.rules.specs.InPlace.{facts_lent};
 ghost use Rattle.waits.specs.Waits.{waits_in, waits_of};
 ghost use Rattle.waits.specs.inner.Writers.{writers_in};
 
-use masks::{Mask, join_if, row_at};
+use masks::{EachPlace, Mask, join_if, row_at};
 use plans::MAX_PROCESSORS;
 use rules::{LentFacts, Phases};
 use settling::those_in;
@@ -63,11 +63,8 @@ pub fn waits_of_all(facts: LentFacts<'_>, phases: Phases) -> [u32; MAX_PROCESSOR
 {
     let writers = writers_of(facts, phases);
     let mut out = [0; MAX_PROCESSORS];
-    let mut left = phases.waiting | phases.entitled;
-    while left != 0 {
-        let p = left.trailing_zeros();
+    for p in EachPlace(phases.waiting | phases.entitled) {
         out[p as usize] = waits_from(facts, phases, writers, p);
-        left &= left - 1;
     }
     out
 }

@@ -32,15 +32,24 @@ filled_first f ph hw he =
     at k l true e = refl
     at k l false e = get_or-replicate max_processors k 0 0 l ∙ waits_for_none f ph k e
 
-pub loop-left-init : goal.loop-left-init
-loop-left-init c = filled_first _ c.args.phases (search rules) (search rules)
+pub loop-p-init : goal.loop-p-init
+loop-p-init c =
+    rw c.into_iter-p-iterator.ensures.into_iter_gives
+    (tt, tt, filled_first _ c.args.phases (search rules) (search rules))
 
 pub waits_from-requires : goal.waits_from-requires
-waits_from-requires c = lowest_place c.loop-left.invariant.walk (omega arith)
+waits_from-requires c =
+    let step = c.in-Some.ensures.steps in
+    rw step.1 (lowest_place c.loop-p.invariant.2.walk step.0)
 
-pub loop-left-preserved : goal.loop-left-preserved
-loop-left-preserved c =
-    filled_more _ (omega arith) c.loop-left.invariant (c.waits_from.ensures c.writers_of-writers.ensures)
+pub loop-p-preserved : goal.loop-p-preserved
+loop-p-preserved c =
+    let step = c.in-Some.ensures.steps in
+    rw (step.2, step.1) (
+      tt,
+      tt,
+      filled_more _ step.0 c.loop-p.invariant.2 (rw step.1 at (c.waits_from.ensures c.writers_of-writers.ensures)),
+    )
 
 pub returns : goal.returns
-returns c = filled_last c.loop-left-test.false c.loop-left.invariant
+returns c = filled_last c.in-None.ensures.steps c.loop-p.invariant.2

@@ -6,9 +6,8 @@ use Rattle.waits.specs.Waits.{waits_in}
 use Rattle.waits.proofs.direct_waits.Filled.{Filled}
 use Rattle.waits.proofs.direct_waits.waits_of_all.Given as goal
 
-abbrev pub invariant-loop-left : goal.invariant-loop-left
-invariant-loop-left l =
-    Filled max_processors 32 (λ p. mask_of max_processors (waits_in (facts_lent l.facts) l.phases p)) l.left l.out
-
-abbrev pub decreases-loop-left : goal.decreases-loop-left
-decreases-loop-left l = l.left
+abbrev pub invariant-loop-p : goal.invariant-loop-p
+invariant-loop-p l =
+    (goal.iterator-loop-p).can_next l.p-iterator × (goal.iterator-loop-p).is_finite l.p-iterator
+    × Filled max_processors 32 (λ p. mask_of max_processors (waits_in (facts_lent l.fn.facts) l.fn.phases p))
+    l.p-iterator.0 l.out
