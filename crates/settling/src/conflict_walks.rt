@@ -9,7 +9,7 @@ ghost use Rattle.rules.specs.InPlace.{facts_lent};
 ghost use Rattle.rules.specs.inner.Moves.{Known, unopposed_in, first_in_line};
 
 use crate::picking::those;
-use masks::{Mask, meet64};
+use masks::{EachPlace, Mask, meet64};
 use plans::MAX_PROCESSORS;
 use rules::LentFacts;
 
@@ -52,29 +52,27 @@ pub fn known_among(requested: &[u8; MAX_PROCESSORS], set: u64, among: u32) -> u3
 }
 
 // The set of their entries. A row meets it if the row contains one of them.
-// Kept: no `EachPlace`, here and in the next walk: with it a call with 16 busy processors took 6 per cent more.
 fn entries_of(requested: &[u8; MAX_PROCESSORS], among: u32) -> u64
     requires { Known requested.now among }
     ensures { (row : ℕ) → meets row result
         ≡ some max_processors (λ q. bit among q && bit row (get_or requested.now q 0)) }
 {
     let mut set: u64 = 0;
-    let mut left = among;
-    while left != 0 {
-        set |= 1 << requested[u32::trailing_zeros(left) as usize];
-        left &= left - 1;
+    for p in EachPlace(among) {
+        set |= 1 << requested[p as usize];
     }
     set
 }
 
 // Whether the row contains the entry of one of them. It stops at the first.
+// Kept: no `EachPlace`, in this walk alone: with it a call with 16 busy processors took 6 per cent more.
 fn in_row(row: u64, requested: &[u8; MAX_PROCESSORS], among: u32) -> bool
     requires { Known requested.now among }
     ensures { result ≡ some max_processors (λ q. bit among q && bit row (get_or requested.now q 0)) }
 {
     let mut left = among;
     while left != 0 {
-        if has_entry(requested, row, u32::trailing_zeros(left)) {
+        if has_entry(requested, row, left.trailing_zeros()) {
             return true;
         }
         left &= left - 1;

@@ -1,6 +1,5 @@
 use mathlib.Core.Path.{sym, ap, ◌∙◌}
 use mathlib.Core.Bool.{cond, not}
-use native.Mathlib.Omega.{arith}
 use lib.Count.{count_trailing_zeros}
 use lib.Dec.{eqb}
 use Rattle.masks.specs.Sets.{bit, added}
@@ -9,30 +8,35 @@ use Rattle.masks.proofs.Walks.{kept_first, kept_more, kept_last, left_more, bit_
 use Rattle.settling.proofs.Processors.{walk_of}
 use Rattle.settling.proofs.picking.those.Goals as goal
 
-pub loop-left-init : goal.loop-left-init
-loop-left-init g c =
+pub loop-p-init : goal.loop-p-init
+loop-p-init g c =
     let walk = walk_of c.ranges.among.fits in
-    record { walk = walk; within = λ p h. h; kept = λ P says. kept_first P walk }
+    rw c.into_iter-p-iterator.ensures.into_iter_gives
+    (record { next = tt; ends = tt; walk = walk; within = λ p h. h; kept = λ P says. kept_first P walk })
 
 pub passes-requires : goal.passes-requires
 passes-requires g c =
-    let inv = c.loop-left.invariant in
-    c.requires _ (lowest_place inv.walk (omega arith)) (inv.within _ (lowest_bit inv.walk (omega arith)))
+    let step = c.in-Some.ensures.steps in
+    let inv = c.loop-p.invariant in
+    rw step.1 (c.requires _ (lowest_place inv.walk step.0) (inv.within _ (lowest_bit inv.walk step.0)))
 
-pub loop-left-preserved : goal.loop-left-preserved
-loop-left-preserved g c =
-    let inv = c.loop-left.invariant in
-    record {
+pub loop-p-preserved : goal.loop-p-preserved
+loop-p-preserved g c =
+    let step = c.in-Some.ensures.steps in
+    let inv = c.loop-p.invariant in
+    let left = c.loop-p.p-iterator.0 in
+    rw step.2
+    (record {
+      next = tt;
+      ends = tt;
       walk = left_more inv.walk;
-      within = λ p h. inv.within p (and_left (bit c.loop-left.left p)
-          (not (eqb p (count_trailing_zeros 32 c.loop-left.left)))
-          (sym (bit_left inv.walk (omega arith) p) ∙ h));
-      kept = λ P says. kept_more _ (omega arith) (inv.kept P says)
-          (c.add_if-out.ensures ∙ ap (λ t. cond t (added c.loop-left.out (count_trailing_zeros 32 c.loop-left.left))
-          c.loop-left.out)
-          (says _ _ (lowest_place inv.walk (omega arith)) (inv.within _ (lowest_bit inv.walk (omega arith)))
-          c.passes.ensures));
-    }
+      within = λ p h. inv.within p (and_left (bit left p) (not (eqb p (count_trailing_zeros 32 left)))
+          (sym (bit_left inv.walk step.0 p) ∙ h));
+      kept = λ P says. kept_more _ step.0 (inv.kept P says)
+          (rw (← step.1) (c.add_if-out.ensures ∙ ap (λ t. cond t (added c.loop-p.out c.in-Some.p) c.loop-p.out)
+          (says c.in-Some.p _ (rw step.1 (lowest_place inv.walk step.0))
+          (rw step.1 (inv.within _ (lowest_bit inv.walk step.0))) c.passes.ensures)));
+    })
 
 pub returns : goal.returns
-returns g c P says = kept_last c.loop-left-test.false (c.loop-left.invariant.kept P says)
+returns g c P says = kept_last c.in-None.ensures.steps (c.loop-p.invariant.kept P says)

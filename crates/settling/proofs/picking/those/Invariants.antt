@@ -8,14 +8,13 @@ use Rattle.masks.proofs.Walks.{Left, Kept}
 use Rattle.plans.specs.Entries.{max_processors}
 use Rattle.settling.proofs.picking.those.Given as goal
 
-abbrev pub invariant-loop-left : goal.invariant-loop-left
-invariant-loop-left g l = record {
-  walk : Left max_processors 32 l.left;
-  within : (p : ℕ) → bit l.left p ≡ true → bit l.among p ≡ true;
+abbrev pub invariant-loop-p : goal.invariant-loop-p
+invariant-loop-p g l = record {
+  next : (goal.iterator-loop-p g).can_next l.p-iterator;
+  ends : (goal.iterator-loop-p g).is_finite l.p-iterator;
+  walk : Left max_processors 32 l.p-iterator.0;
+  within : (p : ℕ) → bit l.p-iterator.0 p ≡ true → bit l.fn.among p ≡ true;
   kept : (P : ℕ → Bool)
-      → ((p : ℕ) (r : Bool) → p < max_processors → bit l.among p ≡ true → goal.F-post g l.passes p r → r ≡ P p)
-      → Kept max_processors 32 P l.among l.left l.out;
+      → ((p : ℕ) (r : Bool) → p < max_processors → bit l.fn.among p ≡ true → goal.F-post g l.passes p r → r ≡ P p)
+      → Kept max_processors 32 P l.fn.among l.p-iterator.0 l.out;
 }
-
-abbrev pub decreases-loop-left : goal.decreases-loop-left
-decreases-loop-left g l = l.left
