@@ -17,7 +17,7 @@ use rules::{Phases, Terms};
 const LAST_TICK: u64 = 1099511627775;
 
 // Clause 4.5: if this is false, the call is refused with 10.
-pub fn is_in_time(last: u64, tick: u64) -> bool
+fn is_in_time(last: u64, tick: u64) -> bool
     ensures { result ≡ (leb last tick && leb tick 1099511627775) }
 {
     (last <= tick) & (tick <= LAST_TICK)
@@ -25,7 +25,7 @@ pub fn is_in_time(last: u64, tick: u64) -> bool
 
 // Clause 4.5: if this is false, the call is refused with 11. A board that was not made from a plan can have more
 // processors than a state has places for.
-pub fn is_counted(terms: Terms, processor: u8) -> bool
+fn is_counted(terms: Terms, processor: u8) -> bool
     ensures { result ≡ has_processor terms processor }
 {
     ((processor as usize) < MAX_PROCESSORS) & (processor < terms.processors)
