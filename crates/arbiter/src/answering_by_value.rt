@@ -6,7 +6,7 @@ ghost use Rattle.rules.specs.InPlace.{board_lent};
 ghost use Rattle.arbiter.specs.Answers.{answer_of};
 
 use calls_in_place::answer_in_place;
-use rules::{Board, Call, Changed, LentArrays, LentBoard, Moment, Reply, State};
+use rules::{Board, Call, Changed, LentArrays, LentBoard, Reply, State};
 
 // After a refusal, `state` is the state that was given.
 #[derive(Clone, Copy)]
@@ -20,10 +20,7 @@ pub struct Answered {
 pub fn answer_on(board: LentBoard<'_>, state: State, call: Call) -> Answered
     ensures { answer_of result ≡ answered (board_lent board.entry) state call }
 {
-    let given = Moment {
-        last: state.last,
-        phases: state.phases,
-    };
+    let given = state.moment();
     let mut requested = state.requested;
     let mut since = state.since;
     let mut earlier = state.earlier;
@@ -49,10 +46,6 @@ pub fn answer_on(board: LentBoard<'_>, state: State, call: Call) -> Answered
 pub fn answer(board: Board, state: State, call: Call) -> Answered
     ensures { answer_of result ≡ answered board state call }
 {
-    let lent = LentBoard {
-        terms: board.terms,
-        rows: &board.rows,
-        lengths: &board.lengths,
-    };
+    let lent = board.lend();
     answer_on(lent, state, call)
 }

@@ -70,11 +70,7 @@ fn filled(board: Board, fresh: State, busy: u8) -> State
 fn sum_from(board: &Board, full: State, processors: u8, turns: u64) -> u64
     requires { (processors ≤ 32) × (turns < 1000000000) }
 {
-    let lent = LentBoard {
-        terms: board.terms,
-        rows: &board.rows,
-        lengths: &board.lengths,
-    };
+    let lent = board.lend();
     let mut requested = full.requested;
     let mut since = full.since;
     let mut earlier = full.earlier;

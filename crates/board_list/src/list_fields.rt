@@ -6,7 +6,7 @@ ghost use Rattle.rules.specs.Requests.{unsatisfied, active};
 use masks::Mask;
 use rules::Phases;
 
-// The entry that is shown for an idle processor.
+// The entry that is shown for an idle processor. Clause 7.8 gives the number.
 const NO_ENTRY: u8 = 255;
 
 // Clause 7.8: the entry that is shown for processor p, whose request asks for this one.

@@ -20,6 +20,7 @@ pub struct Part {
 }
 
 // Stores the low size bytes of a number from position at.
+// Kept: a mask's size of at most 4 in the clauses. A type for it would be made from `mask_size` and taken apart at once.
 #[tactic(auto, using(crate::proofs::list_parts::Stores::low_stored))]
 fn store_low(size: usize, number: u32, buffer: &mut [u8], at: usize)
     requires { (size ≤ 4) × (at + size ≤ length buffer.old) }

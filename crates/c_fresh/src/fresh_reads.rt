@@ -16,6 +16,7 @@ pub struct Opened {
     pub bytes: usize,
 }
 
+// Kept: not one with the opening of a log in `replay`, which also speaks of the blank board of a refused plan.
 // Reads the plan and makes its fresh arbiter. Refused with 1 or 3 to 8. A plan that was read is never refused.
 #[tactic(auto, using(refusals::proofs::Numbers::number_not_zero, refusals::proofs::Numbers::refused_not_zero, plans::proofs::RoundTrip::read_is_accepted), unfolding(crate::specs::Fresh::board_after, crate::specs::Fresh::state_after_plan))]
 pub fn read_fresh(plan: &[u8]) -> Result<Opened, Refusal>

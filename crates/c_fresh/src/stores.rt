@@ -5,7 +5,7 @@ ghost use Rattle.c_boards.specs.Parts.{terms_by, moment_by, board_in};
 
 use c_boards::store_moment;
 use plans::{MAX_ENTRIES, MAX_PROCESSORS};
-use rules::{Board, Moment, State};
+use rules::{Board, State};
 
 pub fn store_board(
     board: &Board,
@@ -39,11 +39,7 @@ pub fn store_state(
 )
     ensures { state_by (moment_by last.new phases.new) requested.new since.new earlier.new ≡ state.now }
 {
-    let moment = Moment {
-        last: state.last,
-        phases: state.phases,
-    };
-    store_moment(moment, last, phases);
+    store_moment(state.moment(), last, phases);
     requested.copy_from_slice(&state.requested);
     since.copy_from_slice(&state.since);
     earlier.copy_from_slice(&state.earlier);

@@ -18,6 +18,7 @@ pub use sharing::{Conflict, conflict_by};
 use std::array;
 use widening::widened_set;
 
+// Kept: three arrays by value, a named form, and a board has them in the layout of C.
 // The names of each entry; the widened set of each write, and the names of each read; and the rows: bit j of row i is
 // set if entries i and j conflict.
 #[derive(Clone, Copy)]

@@ -28,6 +28,7 @@ pub fn conflict_over(set: u64) -> Option<Conflict>
     })
 }
 
+// Kept: two tests and not the kinds of the entries, since a board keeps only which entries are writes.
 // Clause 3.2: the conflict of two entries, given whether both are writes, whether both are reads, the names that they
 // share, and what their widened sets share.
 pub fn conflict_by(writes: bool, reads: bool, names: u64, widened: u64) -> Option<Conflict>

@@ -1,5 +1,5 @@
 -- Fields stored one after the other, if there is room for them. Assumes nothing.
-use Prim.Native.Nat.{ℕ, suc, ◌+◌, ◌≤◌}
+use Prim.Native.Nat.{ℕ, ◌+◌, ◌≤◌}
 use native.Mathlib.Omega.{arith}
 use mathlib.Core.Path.{◌≡◌, refl, sym, ◌∙◌}
 use mathlib.Core.Bool.{Bool, true, false}
@@ -16,9 +16,6 @@ use Rattle.digits.specs.inner.Stored.{Stored}
 
 pub one_stored : (l : List ℕ) (at x : ℕ) → Stored (x ∷ []) l at (at + 1) (set l at x)
 one_stored l at x = record { place = refl; stores = refl }
-
-pub two_stored : (l : List ℕ) (at x y : ℕ) → set (set l at x) (at + 1) y ≡ sets l at (x ∷ y ∷ [])
-two_stored l at x y = let next : at + 1 ≡ suc at = omega arith in rw next refl
 
 module _ {a b l m k : List ℕ} {at next end : ℕ} where
   -- One run of stores after another.

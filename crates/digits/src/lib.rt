@@ -1,5 +1,7 @@
 // Numbers as ASCII digits: decimal numbers stored in a lent buffer, the table of the hexadecimal digits of every byte,
 // and how many digits a number has. `line_fields`, `listings` and `replay` use it to write listing lines.
+// Kept: no `write!`, since its contract gives no bytes at a place of a lent buffer, and the table of 256 pairs is a named
+// form. 0 says that nothing was stored, as the definition `placed_size` has it.
 #![tactic(auto)]
 
 mod decimals;

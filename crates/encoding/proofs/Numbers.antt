@@ -1,10 +1,9 @@
 -- Writing a number as bytes, low byte first, and reading it are inverse to each other. Assumes nothing.
-use Prim.Native.Nat.{ℕ, zero, suc, ◌+◌, ◌*◌, ◌/◌, ◌%◌, ◌^◌, ◌≤◌, ◌<◌, min}
-use native.Mathlib.Nat.{pow-succ', pow-le-pow_right, lt_of_lt_of_le}
+use Prim.Native.Nat.{ℕ, zero, suc, ◌+◌, ◌*◌, ◌/◌, ◌%◌, ◌^◌, ◌≤◌, ◌<◌}
+use native.Mathlib.Nat.{pow-succ'}
 use native.Mathlib.Omega.{arith}
 use mathlib.Core.Path.{◌≡◌, refl, ap}
 use mathlib.Core.List.{List, [], ◌∷◌}
-use lib.Dec.{lit<}
 use lib.ListN.{length, take, drop, length-take}
 use lib.Seq.{slice, take_all}
 use Rattle.encoding.specs.Numbers.{number, bytes_of}
@@ -59,6 +58,3 @@ number_below_at n s h e = rw (← e) (number_below s h)
 pub part_number : (a n : ℕ) (s : List ℕ) → n ≤ 8 → number (take 8 (take n (drop a s))) ≡ number (slice a (a + n) s)
 part_number a n s few =
     rw (take_all 8 (take n (drop a s)) (omega (arith, length-take n (drop a s))), take_drop_slice a n s)
-
-pub part_below : (n : ℕ) (s : List ℕ) (x : ℕ) → x < 256 ^ min 8 (length (take n s)) → x < 256 ^ n
-part_below n s x h = lt_of_lt_of_le h (pow-le-pow_right (lit< tt) (omega (arith, length-take n s)))

@@ -4,6 +4,7 @@ ghost use Rattle.encoding.specs.Numbers.{number};
 
 // Clause 2.1: the number in the first eight bytes, or in all bytes if there are fewer. It is read from the high byte
 // down.
+// Kept: no `from_le_bytes`, which takes eight bytes and no fewer.
 pub fn read_number(bytes: &[u8]) -> u64
     ensures value { result ≡ number (take 8 bytes.now) }
     ensures bound { result < 256 ^ min 8 (length bytes.now) }

@@ -1,5 +1,5 @@
-// Writes a number into a lent buffer, low byte first. Plans, lists of a board, the scratch of reach and registers are
-// written with it. Specification, clauses 2.1, 2.12 and 8.1.
+// Writes a number into a lent buffer, low byte first. Plans, the scratch of reach and registers are written with
+// it. Specification, clauses 2.1, 2.12 and 8.1.
 ghost use Rattle.std.specs.Prelude.{◌≡◌, length};
 ghost use Rattle.refusals.specs.Due.{as_numbers};
 ghost use Rattle.encoding.specs.Numbers.{bytes_of};
@@ -9,6 +9,7 @@ use crate::rooms::check_room;
 use refusals::Refusal;
 
 // Stores a number as the bytes of the slice, as many as it has.
+// Kept: no `to_le_bytes`, since `write_number` promises its bytes for every size, also above eight.
 fn store_number(value: u64, part: &mut [u8])
     ensures { part.new ≡ bytes_of (length part.old) value }
 {

@@ -9,6 +9,7 @@ ghost use Rattle.line_fields.specs.Leads.{lead_field};
 use digits::{byte_digits, put_decimal};
 
 // What a call's line begins with: the call's letter, its processor and its tick.
+// Kept: the letter is a byte, the one that stands in the line.
 #[derive(Clone, Copy)]
 pub struct Lead {
     pub letter: u8,

@@ -1,7 +1,7 @@
 // The fields of a listing line, stored in a lent buffer if they fit: a word and a number; the tick, letter and
 // processor of a call; masks. `listings` makes its lines of them. Specification, section 9.
 // Kept: a buffer and a place stay two parameters, since the place moves on from field to field and the buffer does not.
-// Kept: a size of 0 says that nothing was stored, since a caller that has made sure of the room adds sizes up as they are.
+// Kept: a size of 0 says that nothing was stored, as `placed_size` and `field_size` define it, and sizes add up as they are.
 #![tactic(auto)]
 
 mod call_leads;

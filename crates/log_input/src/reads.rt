@@ -1,4 +1,5 @@
 // Reads into a lent buffer, after the bytes that it already contains.
+// Kept: what is at hand is a number beside the buffer, since each read lends the rest of the same buffer.
 ghost use Rattle.std.specs.Prelude.{◌≡◌, ◌+◌, ◌≤◌, ◌<◌, Bool, true, false, length, take, IfOk, OnSome};
 ghost use Rattle.std.specs.Fn.{FnReturnsAt};
 ghost use Rattle.log_input.specs.Reads.{at_hand, EnoughIsLeft, FailsShort, FailsUndecided};

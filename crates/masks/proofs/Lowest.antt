@@ -4,7 +4,7 @@ use mathlib.Core.Bool.{true, false, not, ◌&&◌, and_self, and-true}
 use Prim.Native.Nat.{ℕ, zero, suc, ◌-◌, ◌/◌, ◌%◌, ◌^◌, ◌<◌, suc-le-suc}
 use native.Mathlib.Nat.{zero-lt-suc, not-suc-le-zero, le_of_suc-le-suc}
 use native.Mathlib.Omega.{arith}
-use lib.Bits.{bit_and, and_le_r}
+use lib.Bits.{bit_and}
 use lib.Count.{count_trailing_zeros, under}
 use lib.Dec.{eqb, eqb-suc-zero, eqb-suc-suc}
 use Rattle.masks.specs.Sets.{bit}
@@ -65,6 +65,3 @@ one_less (suc w) n (suc k) p h =
 
 pub bit_rest : (w n k : ℕ) → 0 < n → n < 2 ^ w → bit (bit_and n (n - 1)) k ≡ (bit n k && not (eqb k (count_trailing_zeros w n)))
 bit_rest w n k p h = bit_and_law n (n - 1) k ∙ one_less w n k p h
-
-pub rest_less : (n : ℕ) → 0 < n → bit_and n (n - 1) < n
-rest_less n p = omega (arith, and_le_r n (n - 1))

@@ -1,11 +1,11 @@
 -- An array that the library makes from a closure, as `tabulate` makes a list from a function. Assumes nothing.
 use Prim.Native.Nat.{ℕ, zero, suc, ◌+◌, ◌<◌}
 use native.Mathlib.Omega.{arith}
-use mathlib.Core.Path.{◌≡◌, sym, ap, ◌∙◌}
+use mathlib.Core.Path.{◌≡◌, sym, ◌∙◌}
 use mathlib.Core.List.{List}
-use lib.ListN.{length, get_or}
+use lib.ListN.{get_or}
 use denote.Param.Members.{Mut, Called}
-use Rattle.std.specs.Array.{IsElementAt, IsFromFnResultFrom, IsFromFnResult}
+use Rattle.std.specs.Array.{IsFromFnResultFrom, IsFromFnResult}
 use Rattle.std.proofs.lemmas.List.{ext_get_or}
 use Rattle.masks.specs.Tabulation.{tabulate}
 use Rattle.masks.proofs.Tabulate.{length_tabulate, get_d_tabulate}

@@ -1,7 +1,7 @@
 -- Laws of `mask_of`: the set of the numbers below n that pass a test, place by place. Assumes nothing.
 use mathlib.Core.Path.{◌≡◌, refl, sym, ap, ap₂, ◌∙◌}
 use mathlib.Core.Bool.{Bool, true, false, cond, not, ◌&&◌, ◌||◌, or-false}
-use Prim.Native.Nat.{ℕ, zero, suc, ◌+◌, ◌*◌, ◌%◌, ◌^◌, ◌<◌, ◌≤◌}
+use Prim.Native.Nat.{ℕ, zero, suc, ◌+◌, ◌*◌, ◌^◌, ◌<◌, ◌≤◌}
 use native.Mathlib.Nat.{one-mul}
 use native.Mathlib.Numerals.{add-one}
 use native.Mathlib.Omega.{arith}
@@ -13,7 +13,6 @@ use Rattle.masks.specs.Sets.{bit, added, without, mask_of}
 use Rattle.masks.proofs.Digits.{ltb_none}
 use Rattle.masks.proofs.Places.{bit_zero, bit_and_law, bit_or_law, bit_without, bit_added_if, and_below, or_below, wider}
 use Rattle.masks.proofs.Equal.{same_places}
-use Rattle.masks.proofs.Shifts.{one_shifted}
 
 -- ---- the width
 
@@ -50,13 +49,6 @@ pub mask_next : (n : ℕ) (p : ℕ → Bool) (m r : ℕ) (t : Bool) → r ≡ co
     → r ≡ mask_of (n + 1) p
 mask_next n p m r t next made e =
     next ∙ ap₂ (λ t (m : ℕ). cond t (added m n) m) e made ∙ sym (mask_more_added n p)
-
--- The same if the code shifts the place, in a word of w bits.
-pub mask_shifted : (w n : ℕ) (p : ℕ → Bool) (m r : ℕ) → n < w → m ≡ mask_of n p → r
-    ≡ cond (p n) (bit_or m (1 * 2 ^ n % 2 ^ w)) m
-    → r ≡ mask_of (n + 1) p
-mask_shifted w n p m r l made e =
-    mask_next n p m r (p n) (e ∙ ap (λ (x : ℕ). cond (p n) (bit_or m x) m) (one_shifted w n l)) made refl
 
 -- ---- the places
 

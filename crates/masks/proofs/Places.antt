@@ -6,7 +6,7 @@ use native.Mathlib.Nat.{div-eq_of_lt, zero-div, lt_of_lt_of_le, lt_of_le_of_lt}
 use native.Mathlib.Omega.{arith}
 use lib.Bits.{bit_and, bit_or, and_step, or_step, and_le_l, and_le_r, or_lt}
 use lib.Dec.{eqb, ltb, eqb-zero-suc, eqb-suc-zero, eqb-suc-suc}
-use lib.Pow.{pow_pos, pow_mono, pow-lt, ones_sub-lt}
+use lib.Pow.{pow_pos, pow_mono, pow-lt}
 use borrow.Author.Tests.{eqb-true, ltb-true, ltb-false, lt-ltb, le-ltb}
 use Rattle.masks.specs.Sets.{bit, complement, without, added, removed}
 use Rattle.masks.proofs.Digits.{bit_lowest, bit_suc, by_digit, by_digits, digit_lt, half_lt, ltb_none, ltb_first}
@@ -154,9 +154,6 @@ and_below w a b h = lt_of_le_of_lt (and_le_l a b) h
 pub or_below : (w a b : ℕ) → a < 2 ^ w → b < 2 ^ w → bit_or a b < 2 ^ w
 or_below w a b ha hb = or_lt w a b ha hb
 
-pub complement_below : (w n : ℕ) → complement w n < 2 ^ w
-complement_below w n = ones_sub-lt w n
-
 pub without_below : (w a b : ℕ) → a < 2 ^ w → without w a b < 2 ^ w
 without_below w a b h = and_below w a (complement w b) h
 
@@ -165,10 +162,6 @@ added_below w n p h l = or_lt w n (2 ^ p) h (pow-lt l)
 
 pub removed_below : (w n p : ℕ) → n < 2 ^ w → removed w n p < 2 ^ w
 removed_below w n p h = without_below w n (2 ^ p) h
-
-pub removed_if_below : (w n p : ℕ) (t : Bool) → n < 2 ^ w → cond t (removed w n p) n < 2 ^ w
-removed_if_below w n p true h = removed_below w n p h
-removed_if_below w n p false h = h
 
 -- ---- the first w places: 2 ^ w - 1
 

@@ -1,28 +1,17 @@
 -- The results of the code's shifts, at any width: one place as a set, and the test that no place is at or above a
 -- count. Assumes nothing.
 use mathlib.Core.Path.{◌≡◌, refl, sym, ap, ◌∙◌}
-use mathlib.Core.Bool.{Bool, true, false, cond}
+use mathlib.Core.Bool.{Bool, true, false}
 use Prim.Native.Nat.{ℕ, ◌*◌, ◌/◌, ◌%◌, ◌^◌, ◌<◌, ◌≤◌}
-use native.Mathlib.Nat.{zero-mul, one-mul, mod-eq_of_lt, div-eq_of_lt, div-lt_iff_lt-mul, lt_of_lt_of_le}
+use native.Mathlib.Nat.{one-mul, mod-eq_of_lt, div-eq_of_lt, div-lt_iff_lt-mul, lt_of_lt_of_le}
 use native.Mathlib.Omega.{arith}
-use lib.Bits.{bit_or, or_zero_r}
 use lib.Dec.{eqb, ltb, leb}
 use lib.Pow.{pow_pos, pow-lt, pow_mono}
 use borrow.Author.Tests.{ltb-true, ltb-false, lt-ltb, le-leb, eq-eqb, ne_eqb}
-use Rattle.masks.specs.Sets.{added}
-use Rattle.masks.proofs.Digits.{by_digit}
 
 -- A place below the width is not shifted out.
 pub one_shifted : (w k : ℕ) → k < w → 1 * 2 ^ k % 2 ^ w ≡ 2 ^ k
 one_shifted w k l = ap (λ (x : ℕ). x % 2 ^ w) (one-mul (2 ^ k)) ∙ mod-eq_of_lt (pow-lt l)
-
--- Adding a digit, 0 or 1, that is shifted to the place.
-pub adds_digit : (w n k d : ℕ) → k < w → d < 2 → bit_or n (d * 2 ^ k % 2 ^ w) ≡ cond (eqb d 1) (added n k) n
-adds_digit w n k d l h =
-    by_digit (λ (x : ℕ). bit_or n (x * 2 ^ k % 2 ^ w) ≡ cond (eqb x 1) (added n k) n)
-    (ap (λ (x : ℕ). bit_or n x) (ap (λ (x : ℕ). x % 2 ^ w) (zero-mul (2 ^ k)) ∙ mod-eq_of_lt (pow_pos w)) ∙ or_zero_r n)
-    (ap (λ (x : ℕ). bit_or n x) (one_shifted w k l))
-    d h
 
 -- No place is at or above the count exactly if nothing is left once the set is shifted down by it.
 pub none_past : (n c : ℕ) → eqb (n / 2 ^ c) 0 ≡ ltb n (2 ^ c)

@@ -2,9 +2,8 @@
 use mathlib.Core.Path.{◌≡◌, refl, sym, ap, ap₂, ◌∙◌}
 use mathlib.Core.Bool.{Bool, true, false, ◌||◌, false≢true, or-true}
 use mathlib.Core.Logic.{⊎_elim}
-use Prim.Native.Nat.{ℕ, zero, suc, ◌+◌, ◌<◌}
+use Prim.Native.Nat.{ℕ, zero, suc, ◌<◌}
 use native.Mathlib.Nat.{le_refl, le_step, le_of_suc-le-suc, not-suc-le-zero, eq-or-lt_of_le}
-use native.Mathlib.Numerals.{add-one}
 use Rattle.masks.specs.Sets.{some}
 use Rattle.masks.proofs.Truth.{or_cases}
 
@@ -13,11 +12,6 @@ or_middle true b c d = refl
 or_middle false true true d = refl
 or_middle false true false d = refl
 or_middle false false c d = refl
-
--- One more number, with n + 1 as in the code.
-pub some_more : (n : ℕ) (p : ℕ → Bool) → some (n + 1) p ≡ (some n p || p n)
-unfolding some
-some_more n p = ap (λ (m : ℕ). some m p) (add-one n)
 
 pub some_found : (n : ℕ) (p : ℕ → Bool) → some n p ≡ true → (k : ℕ) × (k < n) × (p k ≡ true)
 unfolding some

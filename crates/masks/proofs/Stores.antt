@@ -3,7 +3,7 @@
 use mathlib.Core.Path.{◌≡◌, refl, sym, ap, ap₂, ◌∙◌}
 use mathlib.Core.Bool.{Bool, true, false, cond, not, ◌&&◌, and-true}
 use mathlib.Core.List.{List}
-use Prim.Native.Nat.{ℕ, ◌+◌, ◌-◌, ◌^◌, ◌<◌, ◌≤◌}
+use Prim.Native.Nat.{ℕ, ◌-◌, ◌^◌, ◌<◌, ◌≤◌}
 use native.Mathlib.Omega.{arith}
 use lib.Bits.{bit_and}
 use lib.Count.{count_trailing_zeros}
@@ -11,7 +11,6 @@ use lib.Dec.{eqb}
 use lib.ListN.{length, get_or, set, length-set}
 use lib.Seq.{get_or-set_same, get_or-set_other}
 use borrow.Author.Tests.{eqb-true, eqb-false}
-use borrow.Author.Rules.{read_above}
 use Rattle.masks.specs.Sets.{bit}
 use Rattle.masks.proofs.Places.{bit_first}
 use Rattle.masks.proofs.Walks.{Left, left_first, left_more, lowest_place, bit_left, at_lowest, bit_none}
@@ -77,32 +76,6 @@ pub record Each (w : ℕ) (f : ℕ → ℕ) (first : List ℕ) (q : ℕ) (out : 
   pub full : length out ≡ w
   pub changed : (k : ℕ) → k < q → get_or out k 0 ≡ f (get_or first k 0)
   pub rest : (k : ℕ) → q ≤ k → get_or out k 0 ≡ get_or first k 0
-
-pub each_first : (w : ℕ) (f : ℕ → ℕ) (first : List ℕ) → length first ≡ w → Each w f first 0 first
-each_first w f first full = record {
-  within = omega arith;
-  full = full;
-  changed = λ k l. absurd
-      (omega arith);
-  rest = λ k l. refl;
-}
-
-pub each_more : {w : ℕ} {f : ℕ → ℕ} {first : List ℕ} {q : ℕ} {out : List ℕ} → q < w → Each w f first q out
-    → Each w f first (q + 1) (set out q (f (get_or out q 0)))
-each_more {w} {f} {first} {q} {out} l h =
-    record {
-      within = omega arith;
-      full = length-set out q (f (get_or out q 0)) ∙ h.full;
-      changed = λ k m. stored k ∙ at k m (eqb k q) refl;
-      rest = λ k m. read_above ℕ out q k (f (get_or out q 0)) 0 _ (omega arith) (h.rest k (omega arith));
-    }
-  where
-    stored : (k : ℕ) → get_or (set out q (f (get_or out q 0))) k 0 ≡ cond (eqb k q) (f (get_or out q 0)) (get_or out k 0)
-    stored k = stored_at out q (f (get_or out q 0)) k (omega (arith, h.full))
-
-    at : (k : ℕ) → k < q + 1 → (t : Bool) → eqb k q ≡ t → cond t (f (get_or out q 0)) (get_or out k 0) ≡ f (get_or first k 0)
-    at k m true e = ap f (h.rest q (omega arith) ∙ ap (λ (x : ℕ). get_or first x 0) (sym (eqb-true k q e)))
-    at k m false e = h.changed k (omega (arith, eqb-false k q e))
 
 pub each_last : {w : ℕ} {f : ℕ → ℕ} {first : List ℕ} {q : ℕ} {out : List ℕ} → w ≤ q → Each w f first q out
     → (k : ℕ) → k < w → get_or out k 0 ≡ f (get_or first k 0)

@@ -4,6 +4,7 @@ ghost use Rattle.std.specs.Prelude.{◌≡◌, ℕ, cond, ltb};
 ghost use Rattle.masks.specs.Sets.{bit, added};
 
 // A set of small numbers as the bits of an integer.
+// Kept: an impl for each width, alike but for 32 and 64. A generic body would need a bound for each operator.
 pub trait Mask: Copy {
     // The set as a number, and how many places it has.
     ghost number: { Self → ℕ };

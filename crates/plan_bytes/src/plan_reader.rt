@@ -19,6 +19,7 @@ const BLANK: Entry = Entry {
 };
 
 // Clause 2.9: reads the entries after accepted counts. The first fault ends the reading.
+// Kept: the loop with its checks inside, each of which leaves it by `break` with the refusal: a named form of this place.
 fn read_entries(bytes: &[u8]) -> Result<Read, Refusal>
     requires { CountsThere bytes.now }
     ensures outcome { taken_as_numbers result

@@ -1,5 +1,5 @@
-// Which plan values are accepted, and which number the others are refused with. `boards`, `figures` and `plan_bytes`
-// use it. Specification, section 2 and clause 8.1.
+// Which plan values are accepted, and which number the others are refused with. `boards` and `plan_bytes` use it.
+// Specification, section 2 and clause 8.1.
 #![tactic(auto)]
 
 mod acceptance;

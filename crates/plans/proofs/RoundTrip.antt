@@ -1,10 +1,10 @@
 -- Clause 2.13: a plan that is written and then read is the same plan, and an accepted plan that is written back gives
 -- the same bytes. Clause 2.10: the writer refuses with the reader's number. Assumes nothing.
-use Prim.Native.Nat.{ℕ, ◌+◌, ◌*◌, ◌≤◌, ◌<◌}
+use Prim.Native.Nat.{ℕ, ◌+◌, ◌≤◌, ◌<◌}
 use mathlib.Core.Path.{◌≡◌, sym, ap, ◌∙◌}
 use mathlib.Core.List.{List, [], ◌++◌, append-nil}
 use native.Mathlib.Omega.{arith}
-use lib.ListN.{length, take, drop, get_or, length-append}
+use lib.ListN.{length, take, drop, length-append}
 use Rattle.refusals.specs.Due.{as_numbers}
 use Rattle.refusals.proofs.Numbers.{first_same, first_refuses, said_refusal}
 use Rattle.encoding.specs.Buffers.{overwritten}

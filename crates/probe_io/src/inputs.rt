@@ -12,6 +12,7 @@ use std::io::Read;
 const ROOM: usize = 4096;
 
 // The bytes that were read and not yet used come first in the buffer.
+// Kept: a buffer and how much of it is filled, since there is no heap.
 #[derive(Drop)]
 pub struct Input<R> {
     source: R,

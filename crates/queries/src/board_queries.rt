@@ -47,9 +47,5 @@ pub fn list_board(board: Board, state: State, buffer: &mut [u8]) -> Result<usize
     ensures outcome { outcome_as_numbers result ≡ board_query board buffer.old }
     ensures bytes { buffer.new ≡ board_buffer board state buffer.old }
 {
-    let moment = Moment {
-        last: state.last,
-        phases: state.phases,
-    };
-    list_board_in_place(lent(&board, &state), &state.since, moment, buffer)
+    list_board_in_place(lent(&board, &state), &state.since, state.moment(), buffer)
 }

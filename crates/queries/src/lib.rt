@@ -1,6 +1,6 @@
 // The queries on a board and a state (specification, section 7): the state of a processor, its direct waits, the list
 // of the whole board, and what two entries conflict over. specs/ also defines reach, which the crate `reach` computes.
-// `c_boards`, `c_queries`, `reach` and the test programs `query_listing` and `conflict_listing` use it.
+// `c_queries`, `reach` and the test programs `query_listing` and `conflict_listing` use it.
 #![tactic(auto)]
 
 mod board_queries;

@@ -38,12 +38,12 @@ struct ProcessorLine<'a> {
 
 // A mask in two digits for each of its bytes, or the refusal.
 #[derive(Clone, Copy)]
-struct MaskAnswer {
+struct MaskShown {
     answer: Result<u32, Refusal>,
     digits: usize,
 }
 
-impl fmt::Display for MaskAnswer {
+impl fmt::Display for MaskShown {
     fn fmt<W: fmt::Write>(&self, f: &mut fmt::Formatter<W>) -> fmt::Result {
         let digits = self.digits;
         match self.answer {
@@ -60,11 +60,11 @@ impl fmt::Display for ProcessorLine<'_> {
         let state = *self.answers.state;
         let mut scratch = [0; MAX_SCRATCH_BYTES]; // enough, so that no reach is refused for its room
         let digits = 2 * mask_size(board.terms.processors);
-        let direct = MaskAnswer {
+        let direct = MaskShown {
             answer: direct_waits(board, state, processor),
             digits,
         };
-        let reached = MaskAnswer {
+        let reached = MaskShown {
             answer: reach(board, state, processor, &mut scratch),
             digits,
         };

@@ -6,6 +6,7 @@ use registers::{BLOCK, tick_in};
 use rules::Call;
 
 // Clause 10.7: the call that a command makes from the registers.
+// Kept: the command is the byte that a driver writes, and `command` refuses every other than 1 to 4.
 #[tactic(auto, using(std::proofs::lemmas::Bool::Decides::nat_tests), unfolding(crate::specs::Calls::command_call))]
 pub fn call_of(bytes: [u8; BLOCK], command: u8) -> Call
     ensures { result ≡ command_call bytes command }

@@ -1,10 +1,12 @@
 // What the reply to a command leaves in the registers of a block. Specification, clauses 10.8 and 10.9. `command_calls`
 // reads what a command takes from them.
 ghost use Rattle.std.specs.Prelude.{◌≡◌, ◌+◌, ◌≤◌, Ok, set};
+ghost use Rattle.refusals.specs.Number.{number_of};
 ghost use Rattle.rules.specs.Replies.{reply_as_numbers};
 ghost use Rattle.register_block.specs.Registers.{with_mask, accepted_block, replied_block};
 
 use encoding::write_number;
+use refusals::Refusal;
 use registers::{BLOCK, Block, pending_in, with_line};
 use rules::{Done, Reply};
 
@@ -32,10 +34,10 @@ fn accept(mut bytes: [u8; BLOCK], done: Done) -> Block
 }
 
 // Clause 10.9: stores the number of a command's refusal in its register.
-fn refuse(mut bytes: [u8; BLOCK], number: u8) -> Block
-    ensures { result ≡ record { bytes = set bytes 3 number } }
+fn refuse(mut bytes: [u8; BLOCK], refusal: Refusal) -> Block
+    ensures { result ≡ record { bytes = set bytes 3 (number_of refusal) } }
 {
-    bytes[3] = number;
+    bytes[3] = u8::from(refusal);
     Block { bytes }
 }
 
@@ -45,6 +47,6 @@ pub fn show(bytes: [u8; BLOCK], reply: Reply) -> Block
 {
     match reply {
         Ok(done) => accept(bytes, done),
-        Err(refusal) => refuse(bytes, u8::from(refusal)),
+        Err(refusal) => refuse(bytes, refusal),
     }
 }

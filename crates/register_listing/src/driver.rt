@@ -11,7 +11,7 @@ use boards::Fresh;
 use refusals::Refusal;
 use register_block::{read_register, write_register};
 use registers::{BLOCK, Block};
-use rules::{Board, LentBoard, State};
+use rules::{Board, State};
 
 #[derive(Clone, Copy)]
 pub struct Driver {
@@ -44,11 +44,7 @@ impl Driver {
             ≡ register_write (board_by self.old.board.terms self.old.board.rows self.old.board.lengths)
             self.old.state self.old.block offset value }
     {
-        let lent = LentBoard {
-            terms: self.board.terms,
-            rows: &self.board.rows,
-            lengths: &self.board.lengths,
-        };
+        let lent = self.board.lend();
         self.state = write_register(&mut self.block, lent, self.state, offset, value)?;
         Ok(())
     }

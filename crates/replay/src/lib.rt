@@ -101,16 +101,8 @@ pub fn run(board: Board, state: State, left: u16, bytes: &[u8], out: &mut [u8]) 
         ≡ overwritten out.old 0
         (ran board state (budget left bytes.now (length out.old)) bytes.now).lines }
 {
-    let rows = board.rows;
-    let lent = LentBoard {
-        terms: board.terms,
-        rows: &rows,
-        lengths: &board.lengths,
-    };
-    let first = Moment {
-        last: state.last,
-        phases: state.phases,
-    };
+    let lent = board.lend();
+    let first = state.moment();
     let mut requested = state.requested;
     let mut since = state.since;
     let mut earlier = state.earlier;

@@ -4,7 +4,7 @@ use mathlib.Core.Bool.{Bool, true, false, not, ◌&&◌, ◌||◌, and-true, and
 use Prim.Native.Nat.{ℕ, ◌<◌}
 use lib.Dec.{eqb}
 use borrow.Author.Tests.{eqb-true, not-true}
-use Rattle.masks.specs.Sets.{bit, mask_of}
+use Rattle.masks.specs.Sets.{bit}
 use Rattle.masks.proofs.Truth.{and_left, and_right}
 use Rattle.masks.proofs.Some.{some_agree}
 use Rattle.masks.proofs.Masks.{mask_agree, bit_mask_at}

@@ -1,12 +1,11 @@
 -- If a handover is not refused, neither of its halves is refused, on any state value. So 13 is never due for its issue.
 -- Assumes nothing.
 use mathlib.Core.Path.{◌≡◌, refl, sym, ap, ap₂, ◌∙◌}
-use mathlib.Core.Bool.{Bool, true, false, cond, not, ◌&&◌, ◌||◌, false≢true, and-false}
+use mathlib.Core.Bool.{Bool, true, false, not, ◌&&◌, ◌||◌, false≢true, and-false}
 use mathlib.Core.List.{List}
 use Prim.Native.Nat.{ℕ, ◌<◌}
 use native.Mathlib.Omega.{arith}
 use lib.Dec.{eqb, leb, ltb, lit<}
-use lib.ListN.{get_or}
 use borrow.Author.Tests.{ltb-true, le-leb, eq-eqb}
 use Rattle.refusals.specs.Due.{due, first_of}
 use Rattle.refusals.proofs.Numbers.{first_accepted, first_passes, due_accepted, due_passed}
@@ -24,7 +23,7 @@ use Rattle.rules.specs.declared.states.State.{State}
 use Rattle.rules.specs.CountedRequests.{has_processor, in_plan, is_waiting, is_entitled, is_holding, cleaned}
 use Rattle.rules.specs.Faults.{tick_fault, processor_fault, issue_fault, complete_fault, handover_fault}
 use Rattle.rules.specs.Acts.{taken_out}
-use Rattle.rules.specs.Calls.{Answer, phases_of, facts_of, taken_state, done, ruled, settled_done, late_mark, left}
+use Rattle.rules.specs.Calls.{phases_of, facts_of, taken_state, done, ruled, settled_done, late_mark, left}
 use Rattle.rules.specs.Calls.{completed}
 
 -- ---- settling leaves every active request active

@@ -1,8 +1,8 @@
 -- A request that enters while no other is active holds, read or write. Assumes nothing.
 use mathlib.Core.Path.{◌≡◌, refl, sym, ap, ap₂, ◌∙◌}
-use mathlib.Core.Bool.{Bool, true, false, cond, not, ◌&&◌, ◌||◌, and-true, and-false}
+use mathlib.Core.Bool.{Bool, true, false, not, ◌&&◌, and-true}
 use Prim.Native.Nat.{ℕ, ◌^◌, ◌<◌}
-use lib.Bits.{bit_and, and_self, or_zero_l, or_zero_r}
+use lib.Bits.{and_self, or_zero_l, or_zero_r}
 use lib.Dec.{eqb}
 use lib.ListN.{get_or}
 use lib.Pow.{pow_pos, pow-lt}
@@ -10,7 +10,7 @@ use borrow.Author.Tests.{eqb-true}
 use Rattle.masks.specs.Sets.{bit, without, mask_of}
 use Rattle.masks.proofs.Places.{bit_zero, bit_single}
 use Rattle.masks.proofs.Some.{some_none}
-use Rattle.masks.proofs.Tests.{Mask, agree_is, same_is, own_is, places_is, none_is, one_is, without_is}
+use Rattle.masks.proofs.Tests.{agree_is, same_is, own_is, none_is, one_is, without_is}
 use Rattle.plans.specs.Entries.{max_processors}
 use Rattle.rules.specs.Requests.{Facts, is_writer, is_earlier, conflicts, against}
 use Rattle.rules.specs.Settling.{settled}

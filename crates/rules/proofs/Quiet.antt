@@ -1,10 +1,10 @@
 -- Mask places past the last processor are ignored, and if no request is waiting or entitled there is nothing to settle.
 -- Assumes nothing.
-use mathlib.Core.Path.{◌≡◌, refl, sym, ◌∙◌}
+use mathlib.Core.Path.{◌≡◌, refl}
 use Prim.Native.Nat.{ℕ, ◌-◌, ◌^◌}
-use lib.Bits.{bit_and, bit_or, or_zero_r}
+use lib.Bits.{bit_and, or_zero_r}
 use Rattle.masks.proofs.Walks.{none_kept}
-use Rattle.masks.proofs.Tests.{cut_is, neither}
+use Rattle.masks.proofs.Tests.{cut_is}
 use Rattle.plans.specs.Entries.{max_processors}
 use Rattle.rules.specs.Requests.{Facts}
 use Rattle.rules.specs.Settling.{settled}
@@ -43,13 +43,3 @@ at_quiet {f} at =
 pub quiet : (f : Facts) (ph : Phases) (h : ℕ) → Follows ph 0 0 h
     → ◌≡◌ {A = Phases} (record { waiting = 0; entitled = 0; holding = h }) (settled f ph)
 quiet f ph h given = at_last ph (record { waiting = 0; entitled = 0; holding = h }) (at_quiet (at_first given refl))
-
-pub quiet_cut : (f : Facts) (ph : Phases)
-    → bit_or (bit_and ph.waiting (2 ^ max_processors - 1)) (bit_and ph.entitled (2 ^ max_processors - 1)) ≡ 0
-    → ◌≡◌ {A = Phases} (record { waiting = 0; entitled = 0; holding = bit_and ph.holding (2 ^ max_processors - 1) })
-    (settled f ph)
-quiet_cut f ph e =
-    let none = neither (cut_is max_processors ph.waiting) (cut_is max_processors ph.entitled) e in
-    let cut = cut_follows ph in
-    quiet f ph (bit_and ph.holding (2 ^ max_processors - 1))
-    (record { waits = sym none.0 ∙ cut.waits; entitles = sym none.1 ∙ cut.entitles; holds = cut.holds })

@@ -1,4 +1,6 @@
 // The board that calls read and the state that they change.
+ghost use Rattle.std.specs.Prelude.{◌≡◌};
+
 use plans::{MAX_ENTRIES, MAX_PROCESSORS};
 
 // The counts of a plan, and which of its entries are writes. A call reads these from a board, and also the conflict
@@ -10,6 +12,7 @@ pub struct Terms {
     pub writes: u64,
 }
 
+// Kept: an array for each field, here and in a state, as the C interface lays them out and calls lend them one by one.
 // What the calls and queries read. A board is made from a plan: its terms, the lengths, names and widened sets of its
 // entries, and which entries conflict.
 #[derive(Clone, Copy)]
@@ -67,9 +70,37 @@ pub struct LentFacts<'a> {
 }
 
 // The three arrays of a state, which a call changes in place.
+// Kept: each function that is lent them says that the same arrays stay in it, since nothing else tells its caller.
 #[derive(Drop)]
 pub struct LentArrays<'a> {
     pub requested: &'a mut [u8; MAX_PROCESSORS],
     pub since: &'a mut [u64; MAX_PROCESSORS],
     pub earlier: &'a mut [u32; MAX_PROCESSORS],
+}
+
+impl Board {
+    // The board, lent to a call.
+    pub fn lend(&self) -> LentBoard<'_>
+        ensures terms { result.terms ≡ self.now.terms }
+        ensures rows { result.rows.now ≡ self.now.rows }
+        ensures lengths { result.lengths.now ≡ self.now.lengths }
+    {
+        LentBoard {
+            terms: self.terms,
+            rows: &self.rows,
+            lengths: &self.lengths,
+        }
+    }
+}
+
+impl State {
+    // The last accepted tick and the phases.
+    pub fn moment(&self) -> Moment
+        ensures { result ≡ record { last = self.now.last; phases = self.now.phases } }
+    {
+        Moment {
+            last: self.last,
+            phases: self.phases,
+        }
+    }
 }

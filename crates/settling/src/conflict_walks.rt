@@ -1,6 +1,7 @@
 // Whose requests conflict, using masks of processors and 64-bit sets of entries. A row contains the entries that an
 // entry conflicts with (specification, clause 5.7). Every walk goes through the processors of a mask one by one. Except
 // in `those_in`, the masks contain known processors: there is a row, and a place in a set, for the entry of each.
+// Kept: `p < max_processors` and `Known` in the clauses. They are facts of a walk's place and mask, which it takes apart.
 ghost use Rattle.std.specs.Prelude.{◌≡◌, ◌&&◌, ℕ, ◌<◌, get_or};
 ghost use Rattle.masks.specs.Sets.{bit, some, meets, mask_of};
 ghost use Rattle.plans.specs.Entries.{max_processors, max_entries};
@@ -42,7 +43,7 @@ pub fn those_in(requested: &[u8; MAX_PROCESSORS], set: u64, among: u32) -> u32
 }
 
 // The same for known processors.
-// Kept: a function beside `those_in`, as each settling walks the active processors, and here no entry is tested.
+// Kept: a function beside `those_in`, which tests each entry; settling walks known ones alone and pays for no test.
 pub fn known_among(requested: &[u8; MAX_PROCESSORS], set: u64, among: u32) -> u32
     requires { Known requested.now among }
     ensures those { result ≡ mask_of max_processors (λ p. bit among p && bit set (get_or requested.now p 0)) }

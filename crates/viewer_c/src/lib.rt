@@ -1,5 +1,6 @@
 // Exported to C and Rust: the functions of `viewer`, under the same names and with the same clauses.
 // include/bittmelon.h declares what is exported.
+// Kept: functions that only pass on, as the C interface exports them from a crate of its own.
 #![tactic(auto)]
 
 ghost use Rattle.std.specs.Prelude.{◌≡◌};

@@ -36,12 +36,6 @@ all_known requested count k rows e =
     e ∙ of_all (λ p. ltb (get_or requested p 0) count)
     ∙ ap (λ (n : ℕ). mask_of max_processors (λ p. ltb (get_or requested p 0) n)) rows
 
--- The writes among the known processors of a mask.
-pub known_writes : (f : Facts) {k w : ℕ} (a : ℕ) → k ≡ known_in f.requested → w
-    ≡ mask_of max_processors (λ p. bit (bit_and a k) p && is_writer f p)
-    → Known f.requested w
-known_writes f a all are = known_kept _ (and_known a (known_all all)) are
-
 module _ (f : Facts) (small : f.writes < 2 ^ max_entries) (table : Table f.rows) {k : ℕ}
     (all : k ≡ known_in f.requested) where
   pub at_known : {ph : Phases} {w x e h : ℕ} → Follows ph x e h
