@@ -6,4 +6,5 @@ use Rattle.arbiter.proofs.answering_by_value.answer.Goals as goal
 pub returns : goal.returns
 returns c =
     let a = c.args in
-    c.answer_on.ensures ∙ call_reads a.board a.state a.call
+    let lent = c.lend-lent.ensures in
+    c.answer_on.ensures ∙ rw (lent.terms, lent.rows, lent.lengths) (call_reads a.board a.state a.call)
