@@ -8,6 +8,7 @@ fn mixed(sum: u64, taken: usize, entry: Entry) -> u64 {
     (sum % 4294967296 * 31 + taken as u64 % 65536 * 65536 + u64::from(entry.length)) % 4294967296
 }
 
+// Kept: the bound on the turns in the clauses. A type for it would only move the bound to the argument's test.
 // The turns over the bytes of a plan, and the checksum of what was read.
 fn sum_over(bytes: &mut [u8; MAX_PLAN_BYTES], turns: u64) -> u64
     requires { turns < 1000000000 }

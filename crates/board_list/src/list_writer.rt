@@ -18,6 +18,7 @@ use plans::{MAX_PROCESSORS, mask_size};
 use refusals::Refusal;
 use rules::Moment;
 
+// Kept: an array for each column, as a state has them.
 // What the list shows of all processors: the phases are those of the requests that count, `waits` has the direct waits
 // of each.
 #[derive(Clone, Copy)]

@@ -24,6 +24,7 @@ pub struct Fresh {
 }
 
 // The place of entry i in the set of writes, or a place past all others if the entry is not a write or is not counted.
+// Kept: a place past all others for an entry that is no write: `with` adds no such place.
 fn write_place(entry: Entry, i: u8, count: u8) -> u32
     ensures { result ≡ cond (ltb i count && is_write entry) i max_entries }
 {

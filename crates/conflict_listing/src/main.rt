@@ -35,6 +35,7 @@ fn print_pairs(rt: &HostRuntime, board: &Board) {
 }
 
 // The board of the plan at the start of the bytes.
+// Kept: two lines, as wherever a plan is read and its arbiter made; what is made of both differs.
 fn board_of(bytes: &[u8]) -> Result<Board, Refusal> {
     let read = plan_bytes::read(bytes)?;
     let fresh = boards::fresh_of(read.plan)?;

@@ -8,6 +8,7 @@ ghost use Rattle.plans.specs.Writing.{entry_bytes};
 use encoding::{has_room, write_number};
 use plans::{Entry, entry_size};
 
+// Kept: a section and a place in it are two parameters, here and in `encoding`, since the place moves on.
 // Stores an entry's bytes from position `at`: kind, set, length. Other bytes stay. Without room it stores nothing.
 pub fn write_entry(entry: Entry, section: &mut [u8], at: usize)
     ensures { section.new

@@ -10,6 +10,7 @@ use plans::MAX_ENTRIES;
 use refusals::{Refusal, refuse_unless};
 use rules::{Board, Terms};
 
+// Kept: the names and the widened sets one by one, as the C interface lends them.
 // The conflict of two entries, given which entries are writes and the names and widened sets of all entries.
 fn conflict_in(
     writes: u64,

@@ -8,6 +8,7 @@ use refusals::{Refusal, refuse_unless};
 use rules::Terms;
 
 // Clause 7.5: refuses with 11 a processor that is not the plan's.
+// Kept: the comparison that `call_checks` makes too. It is one line in each, and what they refuse differs.
 pub fn check_processor(terms: Terms, processor: u8) -> Result<(), Refusal>
     ensures { verdict_number result ≡ processor_fault terms processor }
 {

@@ -13,6 +13,7 @@ use rules::{Board, LentFacts, Phases, State};
 use settling::clean;
 use waits::{waits_of, waits_of_all};
 
+// Kept: facts and phases are two parameters, since the phases of the requests that count take the place of those given.
 // The direct waits of every processor.
 #[tactic(auto, using(crate::proofs::Answers::rows_counted))]
 pub fn direct_rows(facts: LentFacts<'_>, phases: Phases) -> [u32; MAX_PROCESSORS]

@@ -25,6 +25,7 @@ pub fn room_of(processors: u8) -> usize
     size * (BITS * size)
 }
 
+// Kept: a word's size of at most 4 in the clause, as for a mask in `board_list`.
 // Stores the rows from the start of the scratch, in words of `size` bytes, one for each processor that has a bit in a
 // word.
 #[tactic(auto, using(crate::proofs::Words::word_stored), unfolding(encoding::specs::InTurn::in_turn, queries::specs::Words::words_of))]

@@ -19,6 +19,7 @@ pub struct Replayed {
     pub ended: bool,
 }
 
+// Kept: board, digits, moment, arrays and lines are five parameters, since each of them changes at its own pace.
 // Carries out a call and writes its line; the replay goes on. The table with the digits of every byte is lent.
 #[tactic(auto, unfolding(crate::specs::Steps::call_step, crate::specs::Steps::stands))]
 pub fn carry_out(
