@@ -1,6 +1,6 @@
 // A driver: it keeps a board, a state and a register block, and lends them to the functions that read and write the
 // block.
-ghost use Rattle.std.specs.Prelude.{◌≡◌, OnErr};
+ghost use Rattle.std.specs.Prelude.{◌≡◌, OnErr, replicate};
 ghost use Rattle.rules.specs.InPlace.{board_by};
 ghost use Rattle.encoding.specs.Buffers.{outcome_as_numbers};
 ghost use Rattle.registers.specs.Registers.{register_read};
@@ -22,7 +22,11 @@ pub struct Driver {
 
 impl Driver {
     // A fresh board, and a block of zeros.
-    pub fn new(fresh: Fresh) -> Driver {
+    pub fn new(fresh: Fresh) -> Driver
+        ensures board { result.board ≡ fresh.board }
+        ensures state { result.state ≡ fresh.state }
+        ensures block { result.block.bytes ≡ replicate 32 0 }
+    {
         Driver {
             board: fresh.board,
             state: fresh.state,
