@@ -9,6 +9,7 @@ ghost use Rattle.board_list.specs.Parts.{part_bytes};
 
 use crate::list_sizes::PART_FIXED_BYTES;
 use crate::phases::Phase;
+use encoding::write_number;
 
 // What the list shows of a processor.
 #[derive(Clone, Copy)]
@@ -29,6 +30,19 @@ fn store_low(size: usize, number: u32, buffer: &mut [u8], at: usize)
     buffer[at..at + size].copy_from_slice(&number.to_le_bytes()[..size]);
 }
 
+// Stores a mask as size bytes from position at. Two bytes, the size for up to 16 processors, are stored without a loop.
+// For `store_low` of a size that is no constant the compiled code would call memcpy, which the archive for C does without.
+fn store_mask(size: usize, mask: u32, buffer: &mut [u8], at: usize)
+    requires { at + size ≤ length buffer.old }
+    ensures { buffer.new ≡ sets buffer.old at (bytes_of size mask) }
+{
+    if size == 2 {
+        store_low(2, mask, buffer, at);
+    } else {
+        let _ = write_number(u64::from(mask), size, buffer, at);
+    }
+}
+
 // Stores a processor's part from position at, with its direct waits as size bytes.
 #[tactic(auto, using(crate::proofs::list_parts::Stores::part_stores))]
 pub fn store_part(size: usize, part: Part, buffer: &mut [u8], at: usize)
@@ -39,5 +53,5 @@ pub fn store_part(size: usize, part: Part, buffer: &mut [u8], at: usize)
     buffer[at] = u8::from(part.phase);
     buffer[at + 1] = part.entry;
     store_low(4, part.waited, buffer, at + 2);
-    store_low(size, part.waits, buffer, at + PART_FIXED_BYTES);
+    store_mask(size, part.waits, buffer, at + PART_FIXED_BYTES);
 }

@@ -10,8 +10,8 @@ ghost use Rattle.rules.specs.InPlace.{facts_lent};
 ghost use Rattle.rules.specs.inner.Moves.{Known, unopposed_in, first_in_line};
 
 use crate::picking::those;
-use masks::{EachPlace, Mask, meet64};
-use plans::MAX_PROCESSORS;
+use masks::{EachPlace, meet64};
+use plans::{MAX_ENTRIES, MAX_PROCESSORS};
 use rules::LentFacts;
 
 // ---- one processor
@@ -23,6 +23,14 @@ fn has_entry(requested: &[u8; MAX_PROCESSORS], set: u64, p: u32) -> bool
     ensures { result ≡ bit set (get_or requested.now p 0) }
 {
     (set >> requested[p as usize]) % 2 == 1
+}
+
+// Whether the set contains the entry, which may lie past its places. With `&` in place of `&&` the compiled code branches
+// on neither test: which entries a row contains is hard to predict.
+fn is_in(set: u64, entry: u8) -> bool
+    ensures { result ≡ bit set entry }
+{
+    (entry < MAX_ENTRIES as u8) & ((set >> (entry % MAX_ENTRIES as u8)) % 2 == 1)
 }
 
 // The entries that a processor's request conflicts with.
@@ -39,7 +47,7 @@ fn row_at(facts: LentFacts<'_>, p: u32) -> u64
 pub fn those_in(requested: &[u8; MAX_PROCESSORS], set: u64, among: u32) -> u32
     ensures { result ≡ mask_of max_processors (λ p. bit among p && bit set (get_or requested.now p 0)) }
 {
-    those(among, |p| set.has(requested[p as usize] as u32))
+    those(among, |p| is_in(set, requested[p as usize]))
 }
 
 // The same for known processors.

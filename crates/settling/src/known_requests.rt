@@ -8,8 +8,8 @@ ghost use Rattle.plans.specs.Entries.{max_processors};
 use crate::picking::those;
 use plans::MAX_PROCESSORS;
 
-// A mask of all processors: a u32 has a place for each, and for nothing else.
-pub const ALL: u32 = u32::MAX;
+// A mask of all processors.
+pub const ALL: u32 = ((1u64 << MAX_PROCESSORS as u64) - 1) as u32;
 
 // The largest entry of a request. The loop does nothing else, so that the compiled code compares 16 entries at once.
 #[inline(always)]

@@ -5,7 +5,8 @@ ghost use Rattle.plans.specs.Entries.{max_processors};
 
 use masks::EachPlace;
 
-// Adds the place to the set if the test holds. The compiled code does not branch on it.
+// Adds the place to the set if the test holds. The compiled code does not branch on a test that is itself without
+// branches.
 fn add_if(set: u32, place: u32, test: bool) -> u32
     requires { place < 32 }
     ensures { result ≡ cond test (added set place) set }

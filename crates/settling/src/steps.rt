@@ -26,9 +26,9 @@ fn known_in(rows: &[u64], requested: &[u8; MAX_PROCESSORS]) -> u32
 pub fn settle(facts: LentFacts<'_>, phases: Phases) -> Phases
     ensures { result ≡ settled (facts_lent facts.entry) phases }
 {
-    let mut waiting = phases.waiting;
-    let mut entitled = phases.entitled;
-    let mut holding = phases.holding;
+    let mut waiting = phases.waiting & ALL;
+    let mut entitled = phases.entitled & ALL;
+    let mut holding = phases.holding & ALL;
     let rows = facts.rows;
     let known = known_in(rows, facts.requested);
     let w = known_among(

@@ -7,26 +7,15 @@ use lib.Bits.{bit_and, bit_or}
 use lib.Dec.{ltb}
 use lib.ListN.{get_or}
 use Rattle.masks.specs.Sets.{bit, without, mask_of}
-use Rattle.masks.proofs.Tests.{own_is, and_is}
+use Rattle.masks.proofs.Tests.{and_is}
 use Rattle.settling.proofs.known_requests.Below.{of_all}
 use Rattle.plans.specs.Entries.{max_processors, max_entries}
 use Rattle.rules.specs.Requests.{Facts, entry_of, is_writer, active}
 use Rattle.rules.specs.Settling.{step1, step2, step3, step4}
-use Rattle.rules.specs.inner.Moves.{Table, Known, known_in, unopposed_in, first_in_line, Follows}
+use Rattle.rules.specs.inner.Moves.{Table, known_in, unopposed_in, first_in_line, Follows}
 use Rattle.rules.specs.declared.states.Phases.{Phases}
 use Rattle.rules.proofs.FourSteps.{active_write, At, at_first, after1, after2, after3, after4}
-use Rattle.rules.proofs.Known.{unknown_read, known_writers, known1, known2, known3, known4, known_all, known_kept}
-use Rattle.rules.proofs.Known.{and_known}
-
--- The phases as they are given: a word has a place for each processor, and no more.
-pub own_follows : (ph : Phases) → ph.waiting < 2 ^ max_processors → ph.entitled < 2 ^ max_processors
-    → ph.holding < 2 ^ max_processors → Follows ph ph.waiting ph.entitled ph.holding
-own_follows ph w e h =
-    record {
-      waits = (own_is max_processors ph.waiting w).is;
-      entitles = (own_is max_processors ph.entitled e).is;
-      holds = (own_is max_processors ph.holding h).is;
-    }
+use Rattle.rules.proofs.Known.{unknown_read, known_writers, known1, known2, known3, known4}
 
 -- The known processors, as the code finds them among all.
 pub all_known : (requested : List ℕ) (count k : ℕ) → count ≡ max_entries

@@ -5,8 +5,9 @@ use Rattle.plans.specs.Entries.{max_entries}
 use Rattle.rules.specs.InPlace.{facts_lent}
 use Rattle.rules.specs.Settling.{settled}
 use Rattle.rules.proofs.FourSteps.{at_last}
+use Rattle.rules.proofs.Quiet.{cut_follows}
 use Rattle.rules.proofs.Known.{and_known, known_and, known_or}
-use Rattle.settling.proofs.steps.KnownSteps.{own_follows, at_known, known_after1, known_after2}
+use Rattle.settling.proofs.steps.KnownSteps.{at_known, known_after1, known_after2}
 use Rattle.settling.proofs.steps.KnownSteps.{known_after3, known_after4}
 use Rattle.settling.proofs.steps.settle.Goals as goal
 
@@ -42,8 +43,7 @@ returns c =
     let small : a.facts.terms.writes < 2 ^ max_entries = search rules in
     let table = c.known_in-known.ensures.table in
     let all = c.known_in-known.ensures.those in
-    let given = own_follows a.phases (search rules) (search rules) (search rules) in
-    let zero = at_known f small table all given c.known_among-w.ensures.those in
+    let zero = at_known f small table all (cut_follows a.phases) c.known_among-w.ensures.those in
     let one = known_after1 f small table all zero c.unopposed-ahead.ensures.those c.unopposed-free.ensures.those in
     let two = known_after2 f small table all one c.unopposed-clear.ensures.those c.first_in_queue-next.ensures in
     let three = known_after3 f small table all two c.unopposed-granted.ensures.those in

@@ -10,8 +10,8 @@ returns c are =
     let a = c.args in
     let holding-fits : a.phases.holding < 2 ^ 32 = search rules in
     waits_mask (facts_lent a.facts) a.phases a.writers a.p are
-    c.requires holding-fits
+    c.requires.0 holding-fits
     c.ranges.writers.fits _ _ _ _ _ _ _
-    c.has-waiting.ensures c.has-entitled.ensures c.has-write.ensures
+    c.has-waiting.ensures c.has-entitled.ensures c.requires.1
     c.join_if-first.ensures c.join_if-second.ensures c.join_if-third.ensures c.join_if-others.ensures _ _
     c.row_at-row.ensures c.those_in.ensures
