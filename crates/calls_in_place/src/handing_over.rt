@@ -43,6 +43,15 @@ pub fn handover_in_place(
     let left = first.phases;
     let ready = clean(terms, *arrays.requested, left);
     put_last(arrays.earlier, ready, processor);
-    let second = enter(board, arrays, ready, processor, entry, tick);
+    let second = enter(
+        board,
+        arrays.requested,
+        arrays.since,
+        arrays.earlier,
+        ready,
+        processor,
+        entry,
+        tick,
+    );
     accepted(merge(first, second), tick)
 }

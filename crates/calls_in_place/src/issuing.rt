@@ -30,5 +30,15 @@ pub fn issue_in_place(
         return refused(refusal, moment);
     }
     put_last(arrays.earlier, before, processor);
-    accepted(enter(board, arrays, before, processor, entry, tick), tick)
+    let carried = enter(
+        board,
+        arrays.requested,
+        arrays.since,
+        arrays.earlier,
+        before,
+        processor,
+        entry,
+        tick,
+    );
+    accepted(carried, tick)
 }

@@ -5,7 +5,7 @@ ghost use Rattle.rules.specs.Requests.{facts_by};
 ghost use Rattle.rules.specs.Settling.{settled};
 ghost use Rattle.rules.specs.Acts.{put_in, taken_out};
 ghost use Rattle.rules.specs.Calls.{done};
-ghost use Rattle.rules.specs.InPlace.{state_by, facts_lent, SameArrays};
+ghost use Rattle.rules.specs.InPlace.{state_by, facts_lent};
 ghost use Rattle.requests.specs.Effect.{effect_as_numbers};
 
 use crate::effects::Effect;
@@ -13,39 +13,38 @@ use crate::grants::accept;
 use crate::placing::{settle_left, settle_new, take_out};
 use crate::stores::store;
 use plans::MAX_PROCESSORS;
-use rules::{LentArrays, LentBoard, LentFacts, Phases};
+use rules::{LentBoard, LentFacts, Phases};
 
-// The processor's request for the entry enters, in addition to the requests of these phases. The arrays already say who
-// is earlier. The effect is never late.
+// The processor's request for the entry enters, in addition to the requests of these phases. The caller gives who is
+// earlier. The effect is never late.
 #[inline]
 pub fn enter(
     board: LentBoard<'_>,
-    arrays: &mut LentArrays<'_>,
+    requested: &mut [u8; MAX_PROCESSORS],
+    since: &mut [u64; MAX_PROCESSORS],
+    earlier: &[u32; MAX_PROCESSORS],
     phases: Phases,
     processor: u8,
     entry: u8,
     tick: u64,
 ) -> Effect
-    ensures same { SameArrays arrays.old arrays.new }
-    ensures effect { effect_as_numbers result tick arrays.new.requested.now arrays.new.since.now arrays.new.earlier.now
+    ensures { effect_as_numbers result tick requested.new since.new earlier.now
         ≡ done (state_by (record { last = tick; phases = put_in phases processor })
-        (set arrays.old.requested.now processor entry) (set arrays.old.since.now processor tick)
-        arrays.old.earlier.now)
+        (set requested.old processor entry) (set since.old processor tick) earlier.now)
         (settled
-        (facts_by board.entry.rows.now board.entry.terms.writes (set arrays.old.requested.now processor entry)
-        arrays.old.earlier.now)
+        (facts_by board.entry.rows.now board.entry.terms.writes (set requested.old processor entry) earlier.now)
         (put_in phases processor)) 0 }
 {
-    store(arrays.requested, processor, entry);
-    store(arrays.since, processor, tick);
+    store(requested, processor, entry);
+    store(since, processor, tick);
     let facts = LentFacts {
         terms: board.terms,
         rows: board.rows,
-        requested: arrays.requested,
-        earlier: arrays.earlier,
+        requested,
+        earlier,
     };
     let after = settle_new(facts, phases, processor);
-    accept(tick, phases, after, arrays.since, 0)
+    accept(tick, phases, after, since, 0)
 }
 
 // The processor's request leaves the requests of these phases, and the others are settled. Of the arrays it changes

@@ -23,4 +23,4 @@ returns-clause-answer c =
     c.in_default.is _ _
     c.length_at-length.ensures c.late_mark-late.ensures _ c.leave-first.ensures _
     c.clean-ready.ensures _
-    c.put_last.ensures _ c.enter-second.ensures.effect _ (c.merge.ensures _ _ _ _ _ _ _)
+    c.put_last.ensures _ c.enter-second.ensures _ (c.merge.ensures _ _ _ _ _ _ _)

@@ -13,4 +13,4 @@ returns-clause-answer c =
     c.accepted.ensures _ _ _
     ∙ issue_done _ _ _ c.clean-before.ensures _ _ _ _ c.check_issue.ensures
     c.in_default.is _ _
-    c.put_last.ensures c.enter.ensures.effect
+    c.put_last.ensures c.enter-carried.ensures
