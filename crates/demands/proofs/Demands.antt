@@ -77,8 +77,8 @@ use Rattle.logs.specs.Records.{fields_in, record_fault, read_record}
 --                             (register_block::read_register: the same, for the block that it is lent)
 --   register_block::write     `change_as_numbers` r block state ≡ register_write board state block offset value,
 --                             in which a refused command changes offset 3 alone
---                             (register_block::write_register: `written_as_numbers` r, the state and the block after
---                             it ≡ register_write ..)
+--                             (register_block::write_register: `written_as_numbers` r and the block after it
+--                             ≡ register_write ..)
 --   logs::read_count          `count_as_numbers` r ≡ read_count bytes
 --   logs::read_record         `record_as_numbers` r ≡ read_record bytes
 --   logs::check_tail          verdict_number r ≡ tail_fault bytes

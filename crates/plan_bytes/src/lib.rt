@@ -9,5 +9,5 @@ mod plan_reader;
 mod plan_room;
 mod plan_writer;
 
-pub use plan_reader::read;
+pub use plan_reader::{plan_of, read};
 pub use plan_writer::write;

@@ -11,7 +11,7 @@ use plan_checks::{check_kind, check_length, check_set};
 use plans::{ENTRY_BYTES, Entry, MAX_ENTRIES, PLAN_COUNTS_BYTES, Plan, Read, entry_size};
 use refusals::Refusal;
 
-// Fills the places past the count.
+// Fills the places past the count, and the plan that goes with a refusal.
 const BLANK: Entry = Entry {
     kind: 0,
     set: 0,
@@ -73,4 +73,19 @@ pub fn read(bytes: &[u8]) -> Result<Read, Refusal>
 {
     check_head(bytes)?;
     read_entries(bytes)
+}
+
+// Clause 2.9: the plan of a reading. With a refusal it is the blank plan.
+pub fn plan_of(read: Result<Read, Refusal>) -> Plan
+    ensures { result ≡ plan_taken read }
+{
+    match read {
+        Ok(read) => read.plan,
+        Err(_) => Plan {
+            processors: 0,
+            resources: 0,
+            count: 0,
+            entries: [BLANK; MAX_ENTRIES],
+        },
+    }
 }

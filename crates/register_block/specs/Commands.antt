@@ -1,7 +1,7 @@
 -- Commands, and a write to any offset of a block, on a board and a state. Specification, section 10.
 use Rattle.std.specs.Prelude.{ℕ, Result, Ok, Err, cond, eqb, ltb}
 use Rattle.refusals.specs.declared.Refusal.{Refusal}
-use Rattle.refusals.specs.Number.{number_of}
+use Rattle.refusals.specs.Number.{number_of, verdict_number}
 use Rattle.rules.specs.declared.states.Board.{Board}
 use Rattle.rules.specs.declared.states.State.{State}
 use Rattle.rules.specs.Calls.{Answer, answered}
@@ -12,6 +12,7 @@ use Rattle.registers.specs.Stores.{stored}
 use Rattle.register_block.specs.Calls.{command_call}
 use Rattle.register_block.specs.Registers.{replied_block}
 use Rattle.register_block.specs.declared.commands.Change.{Change}
+use Rattle.register_block.specs.declared.commands.Written.{Written}
 
 -- What a write returns, 0 or 18, and the block and the state after it.
 pub record WriteAnswer : Type 0 where
@@ -48,13 +49,12 @@ written_to Register.Unlisted board state block offset value = unmoved 18 block s
 unfoldable pub register_write : Board → State → Block → ℕ → ℕ → WriteAnswer
 register_write board state block offset value = written_to (register_at offset) board state block offset value
 
--- Clause 10.10: what a write returns, with the block as it leaves it, in numbers. A refused write returns no state: the
--- caller still has the given one.
-abbrev pub written_as_numbers : Result State Refusal → State → Block → WriteAnswer
-written_as_numbers (Ok after) given block = record { number = 0; block = block; state = after }
-written_as_numbers (Err r) given block = record { number = number_of r; block = block; state = given }
+-- Clause 10.10: what a write returns, with the block as it leaves it, in numbers.
+abbrev pub written_as_numbers : Written → Block → WriteAnswer
+written_as_numbers written block =
+    record { number = verdict_number written.verdict; block = block; state = written.state }
 
--- The same for a write with the block by value, which a refusal does not return either.
+-- The same for a write with the block by value: a refusal leaves the block and the state that it was given.
 abbrev pub change_as_numbers : Result Change Refusal → Block → State → WriteAnswer
 change_as_numbers (Ok change) block state = record { number = 0; block = change.block; state = change.state }
 change_as_numbers (Err r) block state = record { number = number_of r; block = block; state = state }

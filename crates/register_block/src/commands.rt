@@ -17,6 +17,13 @@ pub struct Change {
     pub state: State,
 }
 
+// Clause 10.10: what a write to a lent block returns: the answer, which is 0 or 18, and the state after it.
+#[derive(Clone, Copy)]
+pub struct Written {
+    pub verdict: Result<(), Refusal>,
+    pub state: State,
+}
+
 // Clause 10.7: carries out a command. Refused with 18.
 #[tactic(auto, using(std::proofs::lemmas::Bool::Decides::nat_tests), unfolding(crate::specs::Commands::commanded))]
 pub fn command(

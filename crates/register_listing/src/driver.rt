@@ -5,7 +5,6 @@ ghost use Rattle.rules.specs.InPlace.{board_by};
 ghost use Rattle.encoding.specs.Buffers.{outcome_as_numbers};
 ghost use Rattle.registers.specs.Registers.{register_read};
 ghost use Rattle.register_block.specs.Commands.{register_write, written_as_numbers};
-ghost use Rattle.register_listing.specs.Driving.{state_or_refusal};
 
 use boards::Fresh;
 use refusals::Refusal;
@@ -44,12 +43,13 @@ impl Driver {
     pub fn write(&mut self, offset: u8, value: u8) -> Result<(), Refusal>
         ensures board { self.new.board ≡ self.old.board }
         ensures state { OnErr result (self.new.state ≡ self.old.state) }
-        ensures change { written_as_numbers (state_or_refusal result self.new.state) self.old.state self.new.block
+        ensures change { written_as_numbers (record { verdict = result; state = self.new.state }) self.new.block
             ≡ register_write (board_by self.old.board.terms self.old.board.rows self.old.board.lengths)
             self.old.state self.old.block offset value }
     {
         let lent = self.board.lend();
-        self.state = write_register(&mut self.block, lent, self.state, offset, value)?;
-        Ok(())
+        let written = write_register(&mut self.block, lent, self.state, offset, value);
+        self.state = written.state;
+        written.verdict
     }
 }
