@@ -4,7 +4,6 @@
 // Kept: the parts one by one, as they are the parameters of the C interface.
 #![tactic(auto)]
 
-mod fresh_reads;
 mod stores;
 
 ghost use Rattle.std.specs.Prelude.{◌≡◌};
@@ -14,8 +13,8 @@ ghost use Rattle.c_boards.specs.Parts.{terms_by, moment_by, board_in};
 ghost use Rattle.c_boards.specs.Answers.{c_answer_as_numbers};
 ghost use Rattle.c_fresh.specs.Fresh.{version_number, board_after, state_after_plan};
 
+use boards::fresh_of;
 use c_boards::CAnswer;
-use fresh_reads::{Opened, read_fresh};
 use plans::{MAX_ENTRIES, MAX_PROCESSORS};
 use stores::{store_board, store_state};
 
@@ -27,7 +26,10 @@ pub fn bittmelon_version_number() -> u32
 }
 
 // Stores the fresh arbiter of the plan in the bytes; bytes after the plan are ignored. Returns how many bytes the plan
-// took, or its refusal, 1 or 3 to 8, and then writes nothing.
+// took, or its refusal, 1 or 3 to 8, and then writes nothing. A plan that was read is never refused.
+// Kept: a match for each refusal, here, and no function with `?` that returns the arbiter: each result that is passed on
+// is one more copy of the plan or of the board on the stack, and a program in C may run on a small one.
+#[tactic(auto, using(refusals::proofs::Numbers::number_not_zero, refusals::proofs::Numbers::refused_not_zero, plans::proofs::RoundTrip::read_is_accepted), unfolding(crate::specs::Fresh::board_after, crate::specs::Fresh::state_after_plan))]
 pub fn bittmelon_fresh_parts(
     plan: &[u8],
     processors: &mut u8,
@@ -54,8 +56,12 @@ pub fn bittmelon_fresh_parts(
         ≡ state_after_plan plan.now (state_by (moment_by last.old phases.old)
         requested.old since.old earlier.old) }
 {
-    match read_fresh(plan) {
-        Ok(Opened { fresh, bytes }) => {
+    let read = match plan_bytes::read(plan) {
+        Ok(read) => read,
+        Err(refusal) => return CAnswer::from(Err(refusal)),
+    };
+    match fresh_of(read.plan) {
+        Ok(fresh) => {
             store_board(
                 &fresh.board,
                 processors,
@@ -67,7 +73,7 @@ pub fn bittmelon_fresh_parts(
                 rows,
             );
             store_state(&fresh.state, last, phases, requested, since, earlier);
-            CAnswer::from(Ok(bytes as u64))
+            CAnswer::from(Ok(read.bytes as u64))
         }
         Err(refusal) => CAnswer::from(Err(refusal)),
     }

@@ -32,7 +32,7 @@ pub struct Begun {
 }
 
 // The fresh arbiter of a plan that was read. A plan that was read is accepted.
-// Kept: not one with `c_fresh::read_fresh`, since a log's opening also speaks of the blank board of a refused plan.
+// Kept: not one with `bittmelon_fresh_parts`, since a log's opening also speaks of the blank board of a refused plan.
 #[tactic(auto, using(crate::proofs::Openings::blank_refused))]
 fn open(read: Result<Read, Refusal>) -> Result<Opened, Refusal>
     requires { (taken_as_numbers read).number ≡ 0 → plan_fault (plan_taken read) ≡ 0 }
