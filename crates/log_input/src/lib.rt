@@ -1,6 +1,6 @@
 // A log as it arrives: each read takes the bytes that are there, and waits for no more than are needed to go on. No
 // contract can say what a read returns, so these functions promise what every choice of a read has in common
-// (`specs/Reads.antt`). `lockreplay` and `probe_io` use it, and `query_listing`.
+// (`specs/Reads.antt`). `lockreplay`, `probe_io`, `conflict_listing`, `query_listing` and `register_listing` use it.
 #![tactic(auto)]
 
 mod failures;

@@ -13,28 +13,34 @@ use probe_io::Input;
 use replay::{Opened, RanBlock};
 use rules::{Board, State};
 use std::io;
-use std::io::Stdin;
+use std::io::{Stdin, Write};
 
 // More than the longest line of a listing.
 const LINE_ROOM: usize = 256;
 
-// Writes the line at the start of `out`, which takes so many bytes.
-fn print_line(rt: &HostRuntime, out: &[u8; LINE_ROOM], size: usize) {
-    let _ = rt.write_all(&out[..size.min(LINE_ROOM)]);
+// More than a call's line and the answers after it.
+const PAGE_ROOM: usize = 2048;
+
+// Writes the first bytes of `out`, so many.
+fn print_front(rt: &HostRuntime, out: &[u8], size: usize) {
+    let _ = rt.write_all(&out[..size.min(out.len())]);
 }
 
-// One call: its line, and the answers after it unless its refusal ends the replay.
+// One call: its line, and the answers after it unless its refusal ends the replay. Both are written at once, so that a
+// reader who leaves or is slow never gets a call without its answers.
 fn print_call(rt: &HostRuntime, board: &Board, state: State, bytes: &[u8]) -> RanBlock {
-    let mut out = [0; LINE_ROOM];
-    let ran = replay::run(*board, state, 1, bytes, &mut out);
-    print_line(rt, &out, ran.written);
+    let mut page = [0; PAGE_ROOM];
+    let ran = replay::run(*board, state, 1, bytes, &mut page);
+    let mut rest = &mut page[ran.written.min(PAGE_ROOM)..];
     if !ran.ended {
         let answers = Answers {
             board,
             state: &ran.state,
         };
-        let _ = print!(rt; "{answers}");
+        let _ = write!(rest, "{answers}");
     }
+    let size = PAGE_ROOM.saturating_sub(rest.len());
+    print_front(rt, &page, size);
     ran
 }
 
@@ -42,7 +48,7 @@ fn print_call(rt: &HostRuntime, board: &Board, state: State, bytes: &[u8]) -> Ra
 fn print_end(rt: &HostRuntime, left: u16, bytes: &[u8]) {
     let mut out = [0; LINE_ROOM];
     let line = replay::finish(left, bytes, &mut out);
-    print_line(rt, &out, line_size(line));
+    print_front(rt, &out, line_size(line));
 }
 
 // The calls, one by one as they arrive, up to the first that is refused or is not whole.
@@ -76,13 +82,13 @@ fn list(rt: &HostRuntime, input: &mut Input<Stdin>) -> io::Result<()> {
     let mut out = [0; LINE_ROOM];
     input.read_plan()?;
     let begun = replay::begin(input.unread(), &mut out);
-    print_line(rt, &out, line_size(begun.line));
+    print_front(rt, &out, line_size(begun.line));
     let Ok(opened) = begun.plan else {
         return Ok(());
     };
     input.advance(opened.bytes, CALL_COUNT_BYTES)?;
     let counted = replay::count(input.unread(), &mut out);
-    print_line(rt, &out, line_size(counted.line));
+    print_front(rt, &out, line_size(counted.line));
     let Ok(calls) = counted.calls else {
         return Ok(());
     };
